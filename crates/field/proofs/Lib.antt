@@ -1,0 +1,5 @@
+pub mod Answers
+pub mod Table
+pub mod Means
+pub mod Exact
+pub mod Reading

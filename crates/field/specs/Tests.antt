@@ -1,0 +1,118 @@
+-- The table's tests 1 to 6 and 8 (document 01, "Answers, tested in this order"), and the groups that calls share. Assumes nothing.
+use Prim.Native.Nat.{ℕ, _+_, _*_, _-_, _<_, _≤_}
+use mathlib.Core.Path.{_≡_}
+use mathlib.Core.Bool.{Bool, true, not, _&&_, _||_}
+use mathlib.Core.List.{List, [], _∷_, _++_}
+use lib.Dec.{T, leb, ltb, eqb}
+use lib.ListN.{length, getD}
+use lib.Ieee.{Float, nan}
+use lib.Ieee.Scale.{finite}
+use Rattle.scratch.specs.All.{allBelow}
+use Rattle.field.specs.declared.Refusal.the-variants.{Variables, Lists, Order, Diagonal, Weights, Start, Scratch}
+use Rattle.field.specs.Field.{Field, variables, entries, linearOf, quadOf, Shaped, Standard, StartFor}
+use Rattle.field.specs.Table.{Test, test}
+
+-- ---- tests at every position
+
+unfoldable pub endsBelow : ℕ → List ℕ → Bool
+endsBelow n ends = allBelow (λ k. ltb (getD ends k 0) n) (length ends)
+
+abbrev pub isBefore : ℕ → ℕ → ℕ → ℕ → Bool
+isBefore r c r₂ c₂ = ltb c c₂ || (eqb c c₂ && ltb r r₂)
+
+abbrev pub risesAt : List ℕ → List ℕ → ℕ → Bool
+risesAt rows cols k = isBefore (getD rows k 0) (getD cols k 0) (getD rows (k + 1) 0) (getD cols (k + 1) 0)
+
+unfoldable pub allRise : List ℕ → List ℕ → Bool
+allRise rows cols = allBelow (risesAt rows cols) (length rows - 1)
+
+unfoldable pub allFinite : List Float → Bool
+allFinite w = allBelow (λ k. finite (getD w k nan)) (length w)
+
+unfoldable pub bytesSmall : List ℕ → Bool
+bytesSmall s = allBelow (λ i. leb (getD s i 0) 2) (length s)
+
+-- ---- the table's tests
+
+-- 1: n above 4,096
+unfoldable pub fewVariables : ℕ → Bool
+fewVariables n = leb n 4096
+
+-- 2: entry lists of unequal length, or m above 32,768
+unfoldable pub listsMatch : List ℕ → List ℕ → List Float → Bool
+listsMatch rows cols q = eqb (length rows) (length q) && (eqb (length cols) (length q) && leb (length q) 32768)
+
+-- 3: a row or column not below n, or order broken
+unfoldable pub inOrder : ℕ → List ℕ → List ℕ → Bool
+inOrder n rows cols = endsBelow n rows && (endsBelow n cols && allRise rows cols)
+
+-- 4: diagonal entry where standard form is needed
+unfoldable pub offDiagonal : List ℕ → List ℕ → Bool
+offDiagonal rows cols = allBelow (λ k. not (eqb (getD rows k 0) (getD cols k 0))) (length rows)
+
+-- 5: a weight not finite
+unfoldable pub weightsFinite : List Float → List Float → Bool
+weightsFinite c q = allFinite c && allFinite q
+
+-- 6: start values not n long, or a byte above 2
+unfoldable pub startFits : ℕ → List ℕ → Bool
+startFits n s = eqb (length s) n && bytesSmall s
+
+-- 8: f64 scratch shorter than 8n+4m+16, or u32 scratch shorter than 16n+8m+16
+unfoldable pub floatsFit : ℕ → ℕ → ℕ → Bool
+floatsFit n m floats = leb (8 * n + 4 * m + 16) floats
+
+unfoldable pub wordsFit : ℕ → ℕ → ℕ → Bool
+wordsFit n m words = leb (16 * n + 8 * m + 16) words
+
+-- ---- groups, in the table's order
+
+-- 1, 2 and 3
+unfoldable pub shapeTests : Field → List Test
+shapeTests F =
+    test Variables (fewVariables (variables F))
+    ∷ test Lists (listsMatch (F .rows) (F .cols) (F .quad))
+    ∷ test Order (inOrder (variables F) (F .rows) (F .cols))
+    ∷ []
+
+-- 1, 2, 3 and 5: for the calls that allow a diagonal
+unfoldable pub looseTests : Field → List Test
+looseTests F = shapeTests F ++ test Weights (weightsFinite (F .linear) (F .quad)) ∷ []
+
+-- 1 to 6
+unfoldable pub standardTests : Field → List ℕ → List Test
+standardTests F s =
+    shapeTests F
+    ++ test Diagonal (offDiagonal (F .rows) (F .cols))
+    ∷ test Weights (weightsFinite (F .linear) (F .quad))
+    ∷ test Start (startFits (variables F) s)
+    ∷ []
+
+-- 1 to 6, and 8
+unfoldable pub readyTests : Field → List ℕ → ℕ → ℕ → List Test
+readyTests F s floats words =
+    standardTests F s
+    ++ test Scratch (floatsFit (variables F) (entries F) floats)
+    ∷ test Scratch (wordsFit (variables F) (entries F) words)
+    ∷ []
+
+-- ---- what passing leaves
+
+pub record Finite (F : Field) : Type 0 where
+  pub linear : (i : ℕ) → i < variables F → T (finite (linearOf F i))
+  pub quad : (k : ℕ) → k < entries F → T (finite (quadOf F k))
+
+pub record Loose (F : Field) : Type 0 where
+  pub shaped : Shaped F
+  pub finite-weights : Finite F
+
+pub record Sound (F : Field) (s : List ℕ) : Type 0 where
+  pub shaped : Shaped F
+  pub standard : Standard F
+  pub finite-weights : Finite F
+  pub start : StartFor (variables F) s
+
+pub record Ready (F : Field) (s : List ℕ) (floats words : ℕ) : Type 0 where
+  pub sound : Sound F s
+  pub floats-room : 8 * variables F + 4 * entries F + 16 ≤ floats
+  pub words-room : 16 * variables F + 8 * entries F + 16 ≤ words

@@ -1,0 +1,70 @@
+// A field's tests, grade and answers: what every call on a field asks first, and how it says what it found.
+mod entries;
+pub mod grading;
+pub mod tests;
+mod weighs;
+
+ghost use mathlib.Core.Path.{_≡_};
+ghost use Rattle.field.specs.Answers.{numberOf, answerNumber};
+
+// Whether all sums of a field's weights are exact in f64 when counted in halves.
+pub enum Grade {
+    Exact,
+    Inexact,
+}
+
+// The table's refusals, 1 to 10.
+pub enum Refusal {
+    Variables,
+    Lists,
+    Order,
+    Diagonal,
+    Weights,
+    Start,
+    Argument,
+    Scratch,
+    Room,
+    Clash,
+}
+
+impl Refusal {
+    pub fn number(self) -> u32
+        ensures { λ r. ⌜ r ≡ numberOf self ⌝ }
+    {
+        match self {
+            Refusal::Variables => 1,
+            Refusal::Lists => 2,
+            Refusal::Order => 3,
+            Refusal::Diagonal => 4,
+            Refusal::Weights => 5,
+            Refusal::Start => 6,
+            Refusal::Argument => 7,
+            Refusal::Scratch => 8,
+            Refusal::Room => 9,
+            Refusal::Clash => 10,
+        }
+    }
+}
+
+// What a call's tests find: all passed, or the first that failed.
+pub enum Checked {
+    Passed,
+    Failed(Refusal),
+}
+
+// What a call on a field answers: done, with the field's grade, or a refusal.
+pub enum Answer {
+    Done(Grade),
+    Refused(Refusal),
+}
+
+impl Answer {
+    pub fn number(self) -> u32
+        ensures { λ r. ⌜ r ≡ answerNumber self ⌝ }
+    {
+        match self {
+            Answer::Done(_) => 0,
+            Answer::Refused(refusal) => refusal.number(),
+        }
+    }
+}

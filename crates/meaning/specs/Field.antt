@@ -1,0 +1,45 @@
+-- A field in whole numbers, its objective, and the completions of a list of start values.
+-- All is counted in halves: `linear` is 2c, and `twice-f` is 2f. Assumes nothing.
+use mathlib.Core.Logic.{_≢_}
+use mathlib.Core.List.{List}
+use Prim.Native.Nat.{ℕ, _<_}
+use lib.ListN.{getD}
+use Rattle.whole.specs.Whole.{Whole, _⊕_, _⊙_, _⊑_, sum}
+use Rattle.meaning.specs.Steps.{Extends}
+
+-- "A field is n linear weights c and m entries (row, column, q)"
+pub record Field : Type 0 where
+  pub n : ℕ
+  pub m : ℕ
+  pub linear : ℕ → Whole
+  pub row : ℕ → ℕ
+  pub column : ℕ → ℕ
+  pub weight : ℕ → Whole
+
+-- "Standard form: no entry with row = column"
+abbrev pub Standard : Field → Type 0
+Standard F = (k : ℕ) → k < F .m → F .row k ≢ F .column k
+
+-- each row and column is below n
+abbrev pub Within : Field → Type 0
+Within F = (k : ℕ) → k < F .m → (F .row k < F .n) × (F .column k < F .n)
+
+-- "f(x) = sum of c_i x_i + half the sum of q_ij x_i x_j": in halves 2c x of a variable, and q x x of an entry
+abbrev pub variable-term : Field → List ℕ → ℕ → Whole
+variable-term F x i = F .linear i ⊙ getD x i 0
+
+abbrev pub entry-term : Field → List ℕ → ℕ → Whole
+entry-term F x k = F .weight k ⊙ getD x (F .row k) 0 ⊙ getD x (F .column k) 0
+
+abbrev pub twice-f : Field → List ℕ → Whole
+twice-f F x = sum (F .n) (variable-term F x) ⊕ sum (F .m) (entry-term F x)
+
+-- "A completion fills each free place with 0 or 1"
+pub record Completion (s x : List ℕ) : Type 0 where
+  pub extends : Extends s x
+  pub full : (i : ℕ) → getD x i 0 < 2
+
+-- "a best one has the least f"
+pub record Best (F : Field) (s x : List ℕ) : Type 0 where
+  pub completion : Completion s x
+  pub least : (y : List ℕ) → Completion s y → twice-f F x ⊑ twice-f F y

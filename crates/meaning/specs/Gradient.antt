@@ -1,0 +1,80 @@
+-- The gradient's bounds in halves, and what they force, at the values or at what each entry sees of them.
+-- The gradient closure of s is the t with `Closure (Forces F) s t`. Assumes nothing.
+use mathlib.Core.Path.{_≡_}
+use mathlib.Core.Logic.{_⊎_}
+use mathlib.Core.Bool.{Bool, true, false, cond, _&&_}
+use mathlib.Core.List.{List}
+use Prim.Native.Nat.{ℕ, zero, suc}
+use lib.ListN.{getD}
+use lib.Dec.{eqb, ltb}
+use Rattle.whole.specs.Whole.{Whole, nothing, _⊕_, only, sum, min0, max0, Above0, Below0}
+use Rattle.meaning.specs.Steps.{Rule}
+use Rattle.meaning.specs.Field.{Field}
+
+-- ---- what an entry sees
+
+-- w k j is the value that entry k sees at variable j
+abbrev pub View : Type 0
+View = ℕ → ℕ → ℕ
+
+-- every entry sees the values s
+abbrev pub view : List ℕ → View
+view s k j = getD s j 0
+
+-- every sight of w is free, or as in v
+abbrev pub Behind : View → View → Type 0
+Behind w v = (k j : ℕ) → (w k j ≡ 2) ⊎ (w k j ≡ v k j)
+
+-- each entry sees a variable as free, or as it is in s
+abbrev pub Lags : View → List ℕ → Type 0
+Lags w s = Behind w (view s)
+
+-- entry k sees v at variable i from now on
+unfoldable pub see : View → ℕ → ℕ → ℕ → View
+see w k i v k′ j = cond (eqb k′ k && eqb j i) v (w k′ j)
+
+-- ---- the bounds
+
+-- "q if its other end is 1, nothing if 0", and `free` if free
+unfoldable pub share : Whole → Whole → ℕ → Whole
+share free q zero = nothing
+share free q (suc zero) = q
+share free q (suc (suc v)) = free
+
+-- what entry k counts at variable i, where `free` says what a free end counts
+abbrev pub part : (Whole → Whole) → Field → View → ℕ → ℕ → Whole
+part free F w i k =
+    only (eqb (F .row k) i) (share (free (F .weight k)) (F .weight k) (w k (F .column k)))
+    ⊕ only (eqb (F .column k) i) (share (free (F .weight k)) (F .weight k) (w k (F .row k)))
+
+-- "2 c_i plus, for each entry at i", its part
+abbrev pub gradient : (Whole → Whole) → Field → View → ℕ → Whole
+gradient free F w i = F .linear i ⊕ sum (F .m) (part free F w i)
+
+-- "min(q,0) if free, be low; high uses max"
+abbrev pub low : Field → List ℕ → ℕ → Whole
+low F s i = gradient min0 F (view s) i
+
+abbrev pub high : Field → List ℕ → ℕ → Whole
+high F s i = gradient max0 F (view s) i
+
+-- ---- what they force
+
+-- "0 if low > 0, 1 if high < 0", at a view
+pub data Forced (F : Field) (w : View) (i : ℕ) : ℕ → Type 0 where
+  zero-by : Above0 (gradient min0 F w i) → Forced F w i 0
+  one-by : Below0 (gradient max0 F w i) → Forced F w i 1
+
+-- the rule of the gradient closure: what is forced at the values
+abbrev pub Forces : Field → Rule
+Forces F s i v = Forced F (view s) i v
+
+abbrev pub judge : Bool → Bool → ℕ
+judge true b = 0
+judge false true = 1
+judge false false = 2
+
+-- the value forced on i, or 2
+unfoldable pub verdict : Field → List ℕ → ℕ → ℕ
+unfolding share sum
+verdict F s i = judge (ltb (low F s i .less) (low F s i .plus)) (ltb (high F s i .plus) (high F s i .less))

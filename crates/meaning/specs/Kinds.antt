@@ -1,0 +1,45 @@
+-- The six kinds of constraint, and the pairs of values that each forbids. Assumes nothing.
+use mathlib.Core.List.{List, [], _∷_, List·Memᴰ}
+use Prim.Native.Nat.{ℕ, _<_}
+use lib.ListN.{getD}
+
+pub data Kind : Type 0 where
+  at-least-one : Kind
+  exactly-one : Kind
+  no-more-than-one : Kind
+  greater-than : Kind
+  less-than : Kind
+  equal : Kind
+
+pub record Pair : Type 0 where
+  pub first : ℕ
+  pub second : ℕ
+
+abbrev pub pair : ℕ → ℕ → Pair
+pair a b = record { first = a; second = b }
+
+-- "forbidden (first, second) are 0: 00; 1: 00, 11; 2: 11; 3: 01; 4: 10; 5: 01, 10"
+abbrev pub forbidden : Kind → List Pair
+forbidden at-least-one = pair 0 0 ∷ []
+forbidden exactly-one = pair 0 0 ∷ pair 1 1 ∷ []
+forbidden no-more-than-one = pair 1 1 ∷ []
+forbidden greater-than = pair 0 1 ∷ []
+forbidden less-than = pair 1 0 ∷ []
+forbidden equal = pair 0 1 ∷ pair 1 0 ∷ []
+
+abbrev pub Forbids : Kind → ℕ → ℕ → Type 0
+Forbids k a b = List·Memᴰ (pair a b) (forbidden k)
+
+-- "A constraint is three u16: first, second, kind"
+pub record Constraint : Type 0 where
+  pub first : ℕ
+  pub second : ℕ
+  pub kind : Kind
+
+-- x has no pair of values that c forbids
+abbrev pub Meets : List ℕ → Constraint → Type 0
+Meets x c = Forbids (c .kind) (getD x (c .first) 0) (getD x (c .second) 0) → ⊥
+
+-- the ends of each constraint are variables
+abbrev pub Ends : ℕ → List Constraint → Type 0
+Ends n cs = (c : Constraint) → List·Memᴰ c cs → (c .first < n) × (c .second < n)

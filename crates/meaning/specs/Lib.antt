@@ -1,0 +1,10 @@
+pub mod Steps
+pub mod Passes
+pub mod Field
+pub mod Gradient
+pub mod Kinds
+pub mod Probe
+pub mod Literal
+pub mod Part
+pub mod Symmetry
+pub mod Pair

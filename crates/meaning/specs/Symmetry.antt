@@ -1,0 +1,27 @@
+-- A part K of the free variables on which the objective is the same for opposite values. Assumes nothing.
+use mathlib.Core.Path.{_≡_}
+use mathlib.Core.Logic.{_⊎_}
+use mathlib.Core.Bool.{Bool, true}
+use mathlib.Core.List.{List, map}
+use Prim.Native.Nat.{ℕ, _-_, _<_}
+use lib.ListN.{getD}
+use lib.Dec.{eqb}
+use Rattle.whole.specs.Whole.{Whole, _⊕_, only, sum, Zero}
+use Rattle.meaning.specs.Field.{Field}
+
+-- "4c, then q of each entry in order (2q on the diagonal)"
+abbrev pub at-ends : Field → ℕ → ℕ → Whole
+at-ends F i k = only (eqb (F .row k) i) (F .weight k) ⊕ only (eqb (F .column k) i) (F .weight k)
+
+abbrev pub balance : Field → ℕ → Whole
+balance F i = F .linear i ⊕ F .linear i ⊕ sum (F .m) (at-ends F i)
+
+-- each value the other way
+abbrev pub opposite : List ℕ → List ℕ
+opposite = map (λ x. 1 - x)
+
+-- "Entries with q = 0 join nothing here"
+pub record Symmetric (F : Field) (s : List ℕ) (K : ℕ → Bool) : Type 0 where
+  pub free : (i : ℕ) → K i ≡ true → getD s i 0 ≡ 2
+  pub inward : (k : ℕ) → k < F .m → (K (F .row k) ≡ K (F .column k)) ⊎ Zero (F .weight k)
+  pub balanced : (i : ℕ) → K i ≡ true → Zero (balance F i)

@@ -1,0 +1,4 @@
+pub mod All
+pub mod Cleared
+pub mod Means
+pub mod Region

@@ -1,0 +1,1 @@
+// Whole numbers as ledgers: definitions and laws alone, and no code.
