@@ -1,5 +1,6 @@
 pub mod Values
 pub mod Order
+pub mod Free
 pub mod Passes
 pub mod Only
 pub mod Gradient

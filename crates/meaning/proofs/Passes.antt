@@ -12,53 +12,13 @@ use borrow.Author.Tests.{eqb-true, eqb-false}
 use Rattle.meaning.specs.Steps.{Rule, Steps, stop, step, Closed, Closure, Lawful}
 use Rattle.meaning.specs.Passes.{Decides, visit, pass, passes, closure}
 use Rattle.meaning.proofs.Values.{inside, below-or-at}
+use Rattle.meaning.specs.Free.{frees}
 use Rattle.meaning.proofs.Order.{steps-extend}
-
--- ---- how many places are free
-
-is-free : ℕ → ℕ
-is-free zero = 0
-is-free (suc zero) = 0
-is-free (suc (suc zero)) = 1
-is-free (suc (suc (suc v))) = 0
-
-frees : List ℕ → ℕ
-frees [] = 0
-frees (v ∷ s) = is-free v + frees s
-
-is-free-le : (v : ℕ) → is-free v ≤ 1
-unfolding is-free
-is-free-le zero = omega arith
-is-free-le (suc zero) = omega arith
-is-free-le (suc (suc zero)) = omega arith
-is-free-le (suc (suc (suc v))) = omega arith
-
-frees-le : (s : List ℕ) → frees s ≤ length s
-unfolding frees
-frees-le [] = omega arith
-frees-le (v ∷ s) = omega (arith, is-free-le v, frees-le s)
-
-is-free-small : (v : ℕ) → v < 2 → is-free v ≡ 0
-unfolding is-free
-is-free-small zero h = refl
-is-free-small (suc zero) h = refl
-is-free-small (suc (suc v)) h = omega arith
-
-frees-set : (s : List ℕ) (i v : ℕ) → getD s i 0 ≡ 2 → v < 2 → frees s ≡ frees (set s i v) + 1
-unfolding frees is-free
-frees-set [] i v h small = omega arith
-frees-set (x ∷ s) zero v h small = rw h (omega (arith, is-free-small v small))
-frees-set (x ∷ s) (suc i) v h small = omega (arith, frees-set s i v h small)
-
-no-frees : (s : List ℕ) → frees s ≡ 0 → (i : ℕ) → getD s i 0 ≢ 2
-unfolding frees is-free
-no-frees [] h i e = omega arith
-no-frees (x ∷ s) h zero e = let k : is-free x + frees s ≡ 0 = h in omega (arith, rw e at k)
-no-frees (x ∷ s) h (suc i) e = no-frees s (omega (arith, is-free-le x)) i e
+use Rattle.meaning.proofs.Free.{frees-le, frees-set, no-frees}
 
 -- ---- steps
 
-steps-join : {R : Rule} {s t u : List ℕ} → Steps R s t → Steps R t u → Steps R s u
+pub steps-join : {R : Rule} {s t u : List ℕ} → Steps R s t → Steps R t u → Steps R s u
 steps-join stop q = q
 steps-join (step i v free f r) q = step i v free f (steps-join r q)
 

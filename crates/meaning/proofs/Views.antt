@@ -78,7 +78,7 @@ min0-under l q h = omega arith
 pub max0-under : (l : ℕ) (q : Whole) → Under l q → Under l (max0 q)
 max0-under l q h = omega arith
 
-share-under : (l : ℕ) (f q : Whole) (v : ℕ) → Under l f → Under l q → Under l (share f q v)
+pub share-under : (l : ℕ) (f q : Whole) (v : ℕ) → Under l f → Under l q → Under l (share f q v)
 unfolding share
 share-under l f q zero h k = omega arith
 share-under l f q (suc zero) h k = k

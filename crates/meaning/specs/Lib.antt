@@ -1,4 +1,5 @@
 pub mod Steps
+pub mod Free
 pub mod Passes
 pub mod Field
 pub mod Gradient

@@ -1,0 +1,11 @@
+pub mod Slices
+pub mod Ends
+pub mod Places
+pub mod Starts
+pub mod Shape
+pub mod Counted
+pub mod Summed
+pub mod Filled
+pub mod Building
+pub mod Walk
+pub mod Unique

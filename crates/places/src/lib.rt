@@ -1,0 +1,32 @@
+// For each variable the positions of its entries, rising: flat lists with offsets in lent u32 scratch, made by a counting sort.
+mod counting;
+mod placing;
+
+ghost use mathlib.Core.Path.{_≡_};
+ghost use Prim.Native.Nat.{_+_, _*_, _<_, _≤_};
+ghost use lib.ListN.{length};
+ghost use Rattle.scratch.specs.Lent.{before, after};
+ghost use Rattle.places.specs.Places.{EndsBelow, Built, otherEnd};
+
+// Makes the offsets and the flat lists at the front of u; past the last place u is unchanged.
+pub fn build(u: &mut [u32], rows: &[u16], cols: &[u16], n: usize)
+    requires { ⌜ EndsBelow n (now rows) (now cols) ⌝ }
+    requires { ⌜ n + 1 + 2 * length (now rows) ≤ length (now u) ⌝ }
+    ensures { λ _. ⌜ Built n (before rows) (before cols) (before u) (after u) ⌝ }
+{
+    scratch::clear_words(&mut u[..n]);
+    counting::count(u, rows, cols, n);
+    counting::sums(u, n);
+    placing::place(u, rows, cols, n);
+}
+
+// The end of entry k that is not i.
+pub fn other_end(rows: &[u16], cols: &[u16], i: usize, k: usize) -> usize
+    requires { ⌜ k < length (now rows) ⌝ }
+    requires { ⌜ k < length (now cols) ⌝ }
+    ensures { λ r. ⌜ r ≡ otherEnd (before rows) (before cols) i k ⌝ }
+{
+    let r = scratch::wide_short(rows[k]);
+    let c = scratch::wide_short(cols[k]);
+    if r == i { c } else { r }
+}

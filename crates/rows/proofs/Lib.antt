@@ -1,0 +1,5 @@
+pub mod Upto
+pub mod Stored
+pub mod Pass
+pub mod Terms
+pub mod Counted

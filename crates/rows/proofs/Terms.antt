@@ -1,0 +1,105 @@
+-- What each operation on a row does to the two whole numbers that it is worth. Assumes nothing.
+use mathlib.Core.Path.{_≡_, refl, subst}
+use mathlib.Core.Bool.{Bool, true, false, not, cond}
+use Prim.Native.Nat.{ℕ, zero, suc, _^_, _≤_, _<_}
+use native.Mathlib.Omega.{arith}
+use lib.IntN.{pos}
+use lib.Dec.{T, ltb, eqb, leb→le, nleb→lt}
+use lib.Ieee.{Float, binary64, add, sub, mul, le, ofInt}
+use Rattle.whole.specs.Whole.{Whole, _⊕_, _⊖_, only, min0, max0, _≈_, Zero, Under}
+use Rattle.weights.specs.Worth.{Worth, Small, zero64}
+use Rattle.weights.proofs.Worth.{add-worth, sub-worth, times-worth, as-worth, at-most-zero, at-least-zero, above-zero, below-zero}
+use Rattle.meaning.specs.Gradient.{share, judge}
+use Rattle.rows.specs.declared.Row.{Row}
+use Rattle.rows.specs.declared.Verdict.the-variants.{Zero as ZeroBy, One as OneBy, Open}
+use Rattle.rows.specs.Row.{addFree, removeFree, addFixed, addTerm, judgeOf, valueOf}
+use Rattle.rows.specs.Model.{atEnd}
+use Rattle.rows.specs.Counted.{RowWorth}
+
+pub as-row : {u : ℕ} {r : Row} {a b a′ b′ : Whole} → RowWorth u r a b → a ≈ a′ → b ≈ b′ → RowWorth u r a′ b′
+as-row h p q = record { lower = as-worth (h .lower) p; upper = as-worth (h .upper) q }
+
+-- ---- a term that a test lets in
+
+-- where the test holds c is d, and elsewhere d is 0
+record Picks (b : Bool) (c d : Whole) : Type 0 where
+  taken : T b → c ≈ d
+  left : T (not b) → Zero d
+
+module _ {u : ℕ} {q : Float} {c : Whole} (k : Worth u q c) where
+  picks-min : Picks (le q zero64) c (min0 c)
+  picks-min = record {
+    taken = λ e. omega (arith, leb→le (c .plus) (c .less) (subst T (at-most-zero k) e));
+    left = λ e. omega (arith, nleb→lt (c .plus) (c .less) (subst (λ (i : Bool). T (not i)) (at-most-zero k) e));
+  }
+
+  picks-max : Picks (le zero64 q) c (max0 c)
+  picks-max = record {
+    taken = λ e. omega (arith, leb→le (c .less) (c .plus) (subst T (at-least-zero k) e));
+    left = λ e. omega (arith, nleb→lt (c .less) (c .plus) (subst (λ (i : Bool). T (not i)) (at-least-zero k) e));
+  }
+
+module _ {u : ℕ} {t q : Float} {a c d : Whole} (h : Worth u t a) (k : Worth u q c) where
+  add-picked : (b : Bool) → Picks b c d → Small (a ⊕ d) → Worth u (cond b (add binary64 t q) t) (a ⊕ d)
+  add-picked true p w = let e = p .taken tt in as-worth (add-worth h k (omega arith)) (omega arith)
+  add-picked false p w = let e = p .left tt in as-worth h (omega arith)
+
+  sub-picked : (b : Bool) → Picks b c d → Small (a ⊖ d) → Worth u (cond b (sub binary64 t q) t) (a ⊖ d)
+  sub-picked true p w = let e = p .taken tt in as-worth (sub-worth h k (omega arith)) (omega arith)
+  sub-picked false p w = let e = p .left tt in as-worth h (omega arith)
+
+-- ---- the operations: bounds within 2^50 leave room for a coefficient within 2^31
+
+module _ {u : ℕ} {r : Row} {a b : Whole} (h : RowWorth u r a b) (near-a : Under (2 ^ 50) a) (near-b : Under (2 ^ 50) b) {q : Float} {c : Whole} (k : Worth u q c) (small : Under (2 ^ 31) c) where
+  pub add-free-worth : RowWorth u (addFree r q) (a ⊕ min0 c) (b ⊕ max0 c)
+  add-free-worth = record { lower = add-picked (h .lower) k _ (picks-min k) (omega arith); upper = add-picked (h .upper) k _ (picks-max k) (omega arith) }
+
+  pub remove-free-worth : RowWorth u (removeFree r q) (a ⊖ min0 c) (b ⊖ max0 c)
+  remove-free-worth = record { lower = sub-picked (h .lower) k _ (picks-min k) (omega arith); upper = sub-picked (h .upper) k _ (picks-max k) (omega arith) }
+
+  fixed-by : (v : ℕ) {d : Whole} → Worth u (mul binary64 q (ofInt binary64 (pos v))) d → Under (2 ^ 31) d → RowWorth u (addFixed r q v) (a ⊕ d) (b ⊕ d)
+  fixed-by v z w = record { lower = add-worth (h .lower) z (omega arith); upper = add-worth (h .upper) z (omega arith) }
+
+  pub add-fixed-worth : (v : ℕ) → v < 2 → RowWorth u (addFixed r q v) (a ⊕ share (min0 c) c v) (b ⊕ share (max0 c) c v)
+  unfolding share
+  add-fixed-worth zero l = fixed-by 0 (as-worth (times-worth 0 (omega arith) k (omega arith)) (omega arith)) (omega arith)
+  add-fixed-worth (suc zero) l = fixed-by 1 (as-worth (times-worth 1 (omega arith) k (omega arith)) (omega arith)) small
+  add-fixed-worth (suc (suc v)) l = absurd (omega arith)
+
+  -- a term, by the value of the other end
+  pub term-worth : (v : ℕ) → v ≤ 2 → RowWorth u (addTerm r q v) (a ⊕ share (min0 c) c v) (b ⊕ share (max0 c) c v)
+  unfolding addTerm share
+  term-worth zero l = add-fixed-worth 0 (omega arith)
+  term-worth (suc zero) l = add-fixed-worth 1 (omega arith)
+  term-worth (suc (suc zero)) l = add-free-worth
+  term-worth (suc (suc (suc v))) l = absurd (omega arith)
+
+  pub end-worth : (i e v : ℕ) → v ≤ 2 → RowWorth u (atEnd i e q v r) (a ⊕ only (eqb e i) (share (min0 c) c v)) (b ⊕ only (eqb e i) (share (max0 c) c v))
+  unfolding atEnd
+  end-worth i e v l = go (eqb e i)
+    where
+      go : (d : Bool) → RowWorth u (cond d (addTerm r q v) r) (a ⊕ only d (share (min0 c) c v)) (b ⊕ only d (share (max0 c) c v))
+      go true = term-worth v l
+      go false = as-row h (omega arith) (omega arith)
+
+-- "removing the free term and adding the fixed one"
+pub moved-worth : {u : ℕ} {r : Row} {a b : Whole} → RowWorth u r a b → Under (2 ^ 49) a → Under (2 ^ 49) b → {q : Float} {c : Whole} → Worth u q c → Under (2 ^ 31) c → (v : ℕ) → v < 2
+    → RowWorth u (addFixed (removeFree r q) q v) (a ⊖ min0 c ⊕ share (min0 c) c v) (b ⊖ max0 c ⊕ share (max0 c) c v)
+moved-worth h near-a near-b k small v l =
+    add-fixed-worth (remove-free-worth h (omega arith) (omega arith) k small) (omega arith) (omega arith) k small v l
+
+-- ---- the verdict: zero where the lower bound is strictly above 0, one where the upper is strictly below, else open
+
+module _ {u : ℕ} {r : Row} {a b : Whole} (h : RowWorth u r a b) where
+  pub judge-worth : judgeOf r ≡ cond (ltb (a .less) (a .plus)) (ZeroBy (r .lower)) (cond (ltb (b .plus) (b .less)) (OneBy (r .upper)) Open)
+  judge-worth = rw (above-zero (h .lower), below-zero (h .upper)) refl
+
+  -- the value that it forces, by the two whole numbers
+  pub value-worth : valueOf (judgeOf r) ≡ judge (ltb (a .less) (a .plus)) (ltb (b .plus) (b .less))
+  unfolding valueOf
+  value-worth = rw judge-worth (by (ltb (a .less) (a .plus)) (ltb (b .plus) (b .less)))
+    where
+      by : (x y : Bool) → valueOf (cond x (ZeroBy (r .lower)) (cond y (OneBy (r .upper)) Open)) ≡ judge x y
+      by true y = refl
+      by false true = refl
+      by false false = refl

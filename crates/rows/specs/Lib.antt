@@ -1,0 +1,4 @@
+pub mod Row
+pub mod Model
+pub mod Stored
+pub mod Counted

@@ -1,0 +1,54 @@
+-- What each operation on a row of the gradient gives (document 01, "Rows"). Assumes nothing.
+use Prim.Native.Nat.{ℕ}
+use mathlib.Core.Bool.{cond}
+use lib.Dec.{eqb}
+use lib.IntN.{pos}
+use lib.Ieee.{Float, binary64, add, sub, mul, le, lt, ofInt}
+use Rattle.weights.specs.Worth.{zero64}
+use Rattle.rows.specs.declared.Row.{Row}
+use Rattle.rows.specs.declared.Verdict.{Verdict}
+use Rattle.rows.specs.declared.Verdict.the-variants.{Zero, One, Open}
+use Rattle.rows.specs.declared.Conclusion.{Conclusion}
+
+-- "A row holds its lower and upper bound and starts both at c_i"
+abbrev pub startRow : Float → Row
+startRow c = record { lower = c; upper = c }
+
+-- "a free end adds to lower if the coefficient <= 0 and to upper if >= 0"
+abbrev pub addFree : Row → Float → Row
+addFree r a = record {
+  lower = cond (le a zero64) (add binary64 (r .lower) a) (r .lower);
+  upper = cond (le zero64 a) (add binary64 (r .upper) a) (r .upper);
+}
+
+-- and is removed from the same
+abbrev pub removeFree : Row → Float → Row
+removeFree r a = record {
+  lower = cond (le a zero64) (sub binary64 (r .lower) a) (r .lower);
+  upper = cond (le zero64 a) (sub binary64 (r .upper) a) (r .upper);
+}
+
+-- "a fixed end adds coefficient times value to both"
+abbrev pub addFixed : Row → Float → ℕ → Row
+addFixed r a v = record {
+  lower = add binary64 (r .lower) (mul binary64 a (ofInt binary64 (pos v)));
+  upper = add binary64 (r .upper) (mul binary64 a (ofInt binary64 (pos v)));
+}
+
+-- the term of an end with the byte v, where 2 is free
+unfoldable pub addTerm : Row → Float → ℕ → Row
+addTerm r a v = cond (eqb v 2) (addFree r a) (addFixed r a v)
+
+-- "zero, carrying a lower bound above 0; one, carrying an upper bound below 0; or open. Zero is tested first"
+abbrev pub judgeOf : Row → Verdict
+judgeOf r = cond (lt zero64 (r .lower)) (Zero (r .lower)) (cond (lt (r .upper) zero64) (One (r .upper)) Open)
+
+-- "A conclusion is a variable together with that verdict"
+abbrev pub concludeOf : Row → ℕ → Conclusion
+concludeOf r i = record { variable = i; verdict = judgeOf r }
+
+-- the value that a verdict forces, or 2
+unfoldable pub valueOf : Verdict → ℕ
+valueOf (Zero b) = 0
+valueOf (One b) = 1
+valueOf Open = 2

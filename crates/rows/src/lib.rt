@@ -1,0 +1,100 @@
+// Rows of the gradient: a row's bounds, its terms, and its verdict.
+pub mod fill;
+pub mod store;
+
+ghost use mathlib.Core.Path.{_≡_};
+ghost use Rattle.rows.specs.Row.{startRow, addFree, removeFree, addFixed, addTerm, judgeOf, concludeOf};
+
+pub struct Row {
+    pub lower: f64,
+    pub upper: f64,
+}
+
+// Zero carries a lower bound above 0, and one an upper bound below 0.
+pub enum Verdict {
+    Zero(f64),
+    One(f64),
+    Open,
+}
+
+pub struct Conclusion {
+    pub variable: u16,
+    pub verdict: Verdict,
+}
+
+impl Row {
+    pub fn start(linear: f64) -> Row
+        ensures { λ r. ⌜ r ≡ startRow linear ⌝ }
+    {
+        Row {
+            lower: linear,
+            upper: linear,
+        }
+    }
+
+    pub fn add_free(self, coeff: f64) -> Row
+        ensures { λ r. ⌜ r ≡ addFree self coeff ⌝ }
+    {
+        let mut row = self;
+        if coeff <= 0.0 {
+            row.lower = row.lower + coeff;
+        }
+        if coeff >= 0.0 {
+            row.upper = row.upper + coeff;
+        }
+        row
+    }
+
+    pub fn remove_free(self, coeff: f64) -> Row
+        ensures { λ r. ⌜ r ≡ removeFree self coeff ⌝ }
+    {
+        let mut row = self;
+        if coeff <= 0.0 {
+            row.lower = row.lower - coeff;
+        }
+        if coeff >= 0.0 {
+            row.upper = row.upper - coeff;
+        }
+        row
+    }
+
+    pub fn add_fixed(self, coeff: f64, value: u8) -> Row
+        ensures { λ r. ⌜ r ≡ addFixed self coeff value ⌝ }
+    {
+        let term = coeff * (value as f64);
+        Row {
+            lower: self.lower + term,
+            upper: self.upper + term,
+        }
+    }
+
+    // The term of an end with this byte, where 2 is free.
+    pub fn add_term(self, coeff: f64, value: u8) -> Row
+        ensures { λ r. ⌜ r ≡ addTerm self coeff value ⌝ }
+    {
+        if value == 2 {
+            self.add_free(coeff)
+        } else {
+            self.add_fixed(coeff, value)
+        }
+    }
+
+    pub fn judge(self) -> Verdict
+        ensures { λ r. ⌜ r ≡ judgeOf self ⌝ }
+    {
+        if self.lower > 0.0 {
+            return Verdict::Zero(self.lower);
+        }
+        if self.upper < 0.0 {
+            return Verdict::One(self.upper);
+        }
+        Verdict::Open
+    }
+
+    pub fn conclude(self, variable: u16) -> Conclusion
+        ensures { λ r. ⌜ r ≡ concludeOf self variable ⌝ }
+    {
+        let verdict = self.judge();
+        Conclusion { variable, verdict }
+    }
+}

@@ -1,0 +1,27 @@
+// Rows in lent floats: of n rows at the front, row t has its lower bound at t and its upper bound at n + t.
+use crate::Row;
+ghost use mathlib.Core.Path.{_≡_};
+ghost use Prim.Native.Nat.{_+_, _<_};
+ghost use lib.ListN.{length};
+ghost use Rattle.scratch.specs.Lent.{before, after};
+ghost use Rattle.rows.specs.Stored.{rowOn, putRow};
+
+pub fn row_at(f: &[f64], n: usize, t: usize) -> Row
+    requires { ⌜ n + t < length (now f) ⌝ }
+    ensures { λ r. ⌜ r ≡ rowOn (before f) n t ⌝ }
+{
+    let up = n + t;
+    Row {
+        lower: f[t],
+        upper: f[up],
+    }
+}
+
+pub fn put_row(f: &mut [f64], n: usize, t: usize, row: Row)
+    requires { ⌜ n + t < length (now f) ⌝ }
+    ensures { λ _. ⌜ after f ≡ putRow (before f) n t row ⌝ }
+{
+    let up = n + t;
+    f[t] = row.lower;
+    f[up] = row.upper;
+}
