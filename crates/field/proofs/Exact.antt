@@ -1,6 +1,6 @@
 -- A field's grade is exact exactly if document 01 calls it exact; how the code reads it from exponents and trailing zeros. Assumes nothing.
-use Prim.Native.Nat.{ℕ, suc, _+_, _<_, _≤_, _^_}
-use mathlib.Core.Path.{_≡_, refl, sym, ap, _∙_}
+use Prim.Native.Nat.{ℕ, suc, _<_, _≤_, _^_}
+use mathlib.Core.Path.{_≡_, refl, sym, _∙_}
 use mathlib.Core.Logic.{⊎-elim, _↔_}
 use mathlib.Core.Bool.{Bool, true, false, _&&_, cond, false≢true}
 use mathlib.Core.List.{List}
@@ -9,8 +9,7 @@ use borrow.Author.Tests.{le-leb, lt-leb}
 use lib.Dec.{T, leb}
 use lib.ListN.{length, getD}
 use lib.Ieee.{Float, nan, inf, fin, binary64, le, ofBits, fits}
-use lib.Ieee.Bits.{is-true}
-use Rattle.whole.specs.Whole.{Whole, Under}
+use Rattle.whole.specs.Whole.{Under}
 use Rattle.weights.specs.Counts.{Counts, wholeIn}
 use Rattle.weights.specs.Worth.{Worth, read, magnitude}
 use Rattle.weights.specs.Grain.{grain}
@@ -18,9 +17,8 @@ use Rattle.weights.proofs.GrainLaws.{grain-whole}
 use Rattle.weights.proofs.Worth.{read-worth, worth-whole, worth-read, read-side, under-read, read-under}
 use Rattle.scratch.proofs.All.{and-yes, and-no}
 use Rattle.scratch.proofs.Means.{true-is, both-is, every-is}
-use Rattle.field.specs.declared.Grade.{Grade}
 use Rattle.field.specs.declared.Grade.the-variants.{Exact, Inexact}
-use Rattle.field.specs.Field.{Field, variables, entries, linearOf, quadOf, Standard}
+use Rattle.field.specs.Field.{Field, variables, entries, linearOf, quadOf}
 use Rattle.field.specs.Grade.{halves, limit, weighs, allWeigh, isExact, gradeOf, Weighs, ExactIn}
 use Rattle.field.specs.Tests.{offDiagonal}
 use Rattle.field.proofs.Means.{diagonal-means}

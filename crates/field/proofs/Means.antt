@@ -12,9 +12,9 @@ use lib.Ieee.Scale.{finite}
 use Rattle.scratch.proofs.Means.{lt-is, le-is, eq-is, ne-is, true-is, both-is, either-is, every-is}
 use Rattle.field.specs.declared.Checked.the-variants.{Passed}
 use Rattle.field.specs.declared.Refusal.the-variants.{Variables, Lists, Order, Diagonal, Weights, Start, Scratch}
-use Rattle.field.specs.Field.{Field, variables, entries, rowEnd, columnEnd, linearOf, quadOf, Before, Shaped, Standard, StartFor}
+use Rattle.field.specs.Field.{Field, variables, entries, rowEnd, columnEnd, Before, Shaped, StartFor}
 use Rattle.field.specs.Table.{tested}
-use Rattle.field.specs.Tests.{endsBelow, risesAt, allRise, allFinite, bytesSmall, fewVariables, listsMatch, inOrder, offDiagonal, weightsFinite, startFits, floatsFit, wordsFit, shapeTests, looseTests, standardTests, readyTests, Finite, Loose, Sound, Ready}
+use Rattle.field.specs.Tests.{endsBelow, risesAt, allRise, allFinite, bytesSmall, fewVariables, listsMatch, inOrder, offDiagonal, weightsFinite, startFits, floatsFit, wordsFit, shapeTests, looseTests, standardTests, readyTests, Loose, Sound, Ready}
 use Rattle.field.proofs.Table.{pass-is, last-is, group-is}
 
 -- ---- each test

@@ -10,7 +10,7 @@ use Rattle.whole.specs.Whole.{Whole, _⊕_, sum, min0, max0, Under}
 use Rattle.whole.proofs.Sums.{only-under}
 use Rattle.weights.specs.Worth.{Worth, zero64}
 use Rattle.weights.proofs.Worth.{half-worth, as-worth, above-zero, below-zero}
-use Rattle.meaning.specs.Gradient.{View, view, share, part, low, high, verdict}
+use Rattle.meaning.specs.Gradient.{View, view, part, low, high, verdict}
 use Rattle.meaning.proofs.Views.{reach, min0-under, max0-under, share-under}
 use Rattle.field.specs.Field.{Field, variables, entries, rowEnd, columnEnd, Shaped, StartFor}
 use Rattle.field.specs.Grade.{ExactIn}

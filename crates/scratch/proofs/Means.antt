@@ -1,13 +1,13 @@
 -- What a test means, both ways: a comparison, two tests together, one test or another, a test at every position. Assumes nothing.
 use Prim.Native.Nat.{ℕ, _<_, _≤_}
 use mathlib.Core.Path.{_≡_, refl, ap}
-use mathlib.Core.Bool.{Bool, true, false, not, _&&_, _||_, false≢true}
+use mathlib.Core.Bool.{Bool, true, false, not, _&&_, _||_}
 use mathlib.Core.Logic.{_≢_, _⊎_, inl, inr, ⊎-elim, _↔_}
 use borrow.Author.Tests.{ltb-true, lt-ltb, leb-true, le-leb, eqb-true, eq-eqb, eqb-false, ne-eqb, not-true}
 use lib.Dec.{T, ltb, leb, eqb}
 use lib.Ieee.Bits.{is-true}
 use Rattle.scratch.specs.All.{allBelow}
-use Rattle.scratch.proofs.All.{both, and-yes, all-means}
+use Rattle.scratch.proofs.All.{both, all-means}
 
 pub lt-is : (a b : ℕ) → (ltb a b ≡ true) ↔ (a < b)
 lt-is a b = (ltb-true a b, lt-ltb a b)

@@ -1,6 +1,6 @@
 -- `all_rise` tests one entry against the next a turn. Assumes nothing.
 use Prim.Native.Nat.{_-_}
-use lib.ListN.{length, getD}
+use lib.ListN.{length}
 use mathlib.Core.Path.{sym, _∙_}
 use borrow.Author.Tests.{not-true, not-false}
 use Rattle.field.specs.Tests.{risesAt, allRise}

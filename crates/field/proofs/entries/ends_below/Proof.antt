@@ -1,7 +1,6 @@
 -- `ends_below` tests one end a turn. Assumes nothing.
 use Prim.Native.Nat.{_-_}
 use lib.ListN.{length, getD}
-use mathlib.Core.Path.{sym, _∙_}
 use lib.Dec.{ltb}
 use borrow.Author.Tests.{lt-ltb, le-ltb}
 use Rattle.field.specs.Tests.{endsBelow}

@@ -1,0 +1,12 @@
+pub mod Keeps
+pub mod Room
+pub mod Alike
+pub mod Invariant
+pub mod Sight
+pub mod Serve
+pub mod Bridge
+pub mod Theorems
+pub mod Cells
+pub mod Moves
+pub mod Turns
+pub mod Unique

@@ -1,0 +1,225 @@
+-- What the steps write into the cells is what the model's steps do to the run. Assumes nothing.
+use Prim.Native.Nat.{ℕ, _+_, _<_}
+use mathlib.Core.Path.{_≡_, refl, sym, ap, _∙_}
+use mathlib.Core.Logic.{_≢_, ⊎-elim}
+use mathlib.Core.List.{List, [], _∷_, _++_}
+use native.Mathlib.Nat.{le-refl}
+use native.Mathlib.Numerals.{add-one}
+use native.Mathlib.Decide.{ℕ-discrete}
+use native.Mathlib.Omega.{arith}
+use borrow.Author.Tests.{eq-eqb, ne-eqb}
+use types.Run.{OneOf}
+use denote.Enum.Declared.{tagOf}
+use lib.Ieee.{Float}
+use lib.ListN.{length, getD, set, take, drop, length-set, length-drop}
+use lib.Seq.{take-set-le, take-suc-set, drop-set-add, drop-set-lt, getD-set-same, getD-set-other}
+use Rattle.scratch.specs.Region.{region}
+use Rattle.field.specs.Field.{Field, variables, entries}
+use Rattle.rows.specs.declared.Row.{Row}
+use Rattle.rows.specs.declared.Verdict.{Verdict}
+use Rattle.rows.specs.declared.Verdict.the-variants.{Zero, One, Open}
+use Rattle.rows.specs.declared.Conclusion.{Conclusion}
+use Rattle.rows.specs.Row.{judgeOf, concludeOf, valueOf}
+use Rattle.rows.specs.Model.{coeffOf}
+use Rattle.rows.specs.Stored.{rowOn, putRow}
+use Rattle.rows.proofs.Verdict.{the-type}
+use Rattle.rows.proofs.Upto.{getD-upTo}
+use Rattle.rows.proofs.Stored.{length-put, rest-put, row-same, put-rows}
+use Rattle.places.specs.Places.{otherEnd}
+use Rattle.places.proofs.Places.{other-below}
+use Rattle.places.proofs.Shape.{ends-below}
+use Rattle.places.proofs.Walk.{adjacent-front}
+use Rattle.run.specs.Run.{Run, noRow, force, settle, judged, scanAt, moved, moveRow, serveAt}
+use Rattle.run.specs.Cells.{Cells, cells, base, runIn, Placed, Does, Settled}
+use Rattle.meaning.proofs.Free.{frees-set}
+use Rattle.run.proofs.Cells.{does-same, does-as, does-then}
+
+-- a store right behind a region makes it one longer
+region-push : (a n : ℕ) (u : List ℕ) (x : ℕ) → a + n < length u → region a (n + 1) (set u (a + n) x) ≡ region a n u ++ (x ∷ [])
+unfolding region
+region-push a n u x h = rw (add-one, drop-set-add a u n x) (take-suc-set (drop a u) n x (omega (arith, length-drop a u)))
+
+-- ---- a verdict: forced, or open
+
+-- the tag is that of zero or of one
+abbrev pub Forced : Verdict → Type 0
+Forced v = OneOf (0 ∷ 1 ∷ []) (tagOf the-type v)
+
+not-open : Forced Open → ⊥
+not-open k = ⊎-elim (λ (e : _≡_ {A = ℕ} 2 0). omega (arith, e)) (λ (e : _≡_ {A = ℕ} 2 1). omega (arith, e)) k
+
+-- it forces 0 or 1, and settles as that value
+forced-small : (v : Verdict) → Forced v → valueOf v < 2
+unfolding valueOf
+forced-small (Zero b) k = omega arith
+forced-small (One b) k = omega arith
+forced-small Open k = absurd (not-open k)
+
+forced-settles : (run : Run) (t : ℕ) (v : Verdict) → Forced v → force run t (valueOf v) ≡ settle run t v
+unfolding valueOf settle
+forced-settles run t (Zero b) k = refl
+forced-settles run t (One b) k = refl
+forced-settles run t Open k = absurd (not-open k)
+
+open-stays : (run : Run) (t : ℕ) {v : Verdict} → v ≡ Open → run ≡ settle run t v
+unfolding settle
+open-stays run t e = rw e
+
+-- ---- a free variable t and its row
+
+module _ {F : Field} {s : Cells} (P : Placed F s) {t : ℕ} (ht : t < variables F) where
+  module _ (free : getD (s .values) t 0 ≡ 2) where
+    -- it has a place in the queue
+    queue-open : base F + s .tail < length (s .words)
+    queue-open = omega (arith, P .queue-room, P .words-room, frees-set (s .values) t 0 free (omega arith))
+
+    -- so a conclusion on it can be settled
+    pub settle-room : {v : Verdict} {found : Conclusion} → found ≡ record { variable = t; verdict = v } → (found .variable < length (s .values)) × (base F + s .tail < length (s .words))
+    settle-room e = (rw e (omega (arith, P .values-long)), queue-open)
+
+    module _ {x : ℕ} (small : x < 2) where
+      abbrev forcedCells : Cells
+      forcedCells = cells (set (s .values) t x) (s .floats) (set (s .words) (base F + s .tail) t) (s .tail + 1)
+
+      front : take (base F) (set (s .words) (base F + s .tail) t) ≡ take (base F) (s .words)
+      front = take-set-le (base F) (s .words) (base F + s .tail) t (omega arith)
+
+      below : (h : ℕ) → h < s .tail + 1 → getD (set (s .words) (base F + s .tail) t) (base F + h) 0 < variables F
+      below h l = elim (ℕ-discrete h (s .tail)) [
+        | yes e ↦ rw (e, getD-set-same (s .words) (base F + s .tail) t 0 queue-open) ht
+        | no ne ↦ rw (getD-set-other (s .words) (base F + s .tail) (base F + h) t 0 (λ e. ne (omega arith))) (P .queue-below h (omega arith))
+      ]
+
+      force-does : Does F (λ run. force run t x) s forcedCells
+      unfolding runIn force
+      force-does = record {
+        run = rw (region-push (base F) (s .tail) (s .words) t queue-open);
+        kept = record {
+          placed = record {
+            shaped = P .shaped;
+            values-long = length-set (s .values) t x ∙ P .values-long;
+            floats-room = P .floats-room;
+            adjacent = adjacent-front front (length-set (s .words) (base F + s .tail) t) (P .adjacent);
+            words-room = omega (arith, length-set (s .words) (base F + s .tail) t, P .words-room);
+            queue-room = omega (arith, P .queue-room, frees-set (s .values) t x free small);
+            queue-below = below;
+          };
+          grows = omega arith;
+          front = front;
+          words-rest = drop-set-lt (base F + (s .tail + 1)) (s .words) (base F + s .tail) t (omega arith);
+          words-long = length-set (s .words) (base F + s .tail) t;
+          floats-rest = refl;
+          floats-long = refl;
+        };
+      }
+
+  -- the conclusion on t's row
+  module _ {found : Conclusion} (e : found ≡ concludeOf (rowOn (s .floats) (variables F) t) t) where
+    settles : settle (runIn F s) t (found .verdict) ≡ judged (runIn F s) t
+    unfolding judged runIn
+    settles =
+        ap (λ (j : Conclusion). settle (runIn F s) t (j .verdict)) e
+        ∙ ap (λ (r : Row). settle (runIn F s) t (judgeOf r)) (sym (getD-upTo (rowOn (s .floats) (variables F)) (variables F) t noRow ht))
+
+    -- an open row is passed over
+    judged-open : found .verdict ≡ Open → Does F (λ run. judged run t) s s
+    judged-open o = does-same P (open-stays (runIn F s) t o ∙ settles)
+
+    judged-forced : {vs′ u′ : List ℕ} {r : ℕ} → getD (s .values) t 0 ≡ 2 → Forced (found .verdict)
+        → Settled found (base F) (s .tail) (s .values) (s .words) vs′ u′ r
+        → Does F (λ run. judged run t) s (cells vs′ (s .floats) u′ r)
+    judged-forced free k S =
+        let i : found .variable ≡ t = ap (λ (j : Conclusion). j .variable) e in
+        rw (S .values, S .words, S .end, i)
+        (does-as (λ run. judged run t) (force-does free (forced-small (found .verdict) k)) (forced-settles (runIn F s) t (found .verdict) k ∙ settles))
+
+-- ---- a step of the scan
+
+module _ {F : Field} {s : Cells} (P : Placed F s) {i : ℕ} (hi : i < variables F) where
+  pub scan-fixed : getD (s .values) i 0 ≢ 2 → Does F (λ run. scanAt run i) s s
+  unfolding scanAt runIn
+  scan-fixed ne = does-same P (rw (ne-eqb (getD (s .values) i 0) 2 ne))
+
+  module _ (free : getD (s .values) i 0 ≡ 2) {row : Row} {found : Conclusion} (er : row ≡ rowOn (s .floats) (variables F) i) (ec : found ≡ concludeOf row i) where
+    of-row : found ≡ concludeOf (rowOn (s .floats) (variables F) i) i
+    of-row = ec ∙ ap (λ (r : Row). concludeOf r i) er
+
+    scans : judged (runIn F s) i ≡ scanAt (runIn F s) i
+    unfolding scanAt runIn
+    scans = rw (eq-eqb (getD (s .values) i 0) 2 free)
+
+    pub scan-open : found .verdict ≡ Open → Does F (λ run. scanAt run i) s s
+    scan-open o = does-as (λ run. scanAt run i) (judged-open P hi of-row o) scans
+
+    pub scan-forced : {vs′ u′ : List ℕ} {r : ℕ} → Forced (found .verdict)
+        → Settled found (base F) (s .tail) (s .values) (s .words) vs′ u′ r
+        → Does F (λ run. scanAt run i) s (cells vs′ (s .floats) u′ r)
+    scan-forced k S = does-as (λ run. scanAt run i) (judged-forced P hi of-row free k S) scans
+
+-- ---- a place of a served variable
+
+-- row t is moved
+move-does : {F : Field} {s : Cells} → Placed F s → {t : ℕ} → t < variables F → (a : Float) (v : ℕ) {r : Row} → r ≡ moved (rowOn (s .floats) (variables F) t) a v
+    → Does F (λ run. moveRow run t a v) s (cells (s .values) (putRow (s .floats) (variables F) t r) (s .words) (s .tail))
+unfolding moveRow runIn
+move-does {F} {s} P {t} ht a v {r} e =
+    let n = variables F in
+    record {
+      run = rw (put-rows (s .floats) n t r ht (P .floats-room), e, getD-upTo (rowOn (s .floats) n) n t noRow ht);
+      kept = record {
+        placed = record {
+          shaped = P .shaped;
+          values-long = P .values-long;
+          floats-room = omega (arith, P .floats-room, length-put (s .floats) n t r);
+          adjacent = P .adjacent;
+          words-room = P .words-room;
+          queue-room = P .queue-room;
+          queue-below = P .queue-below;
+        };
+        grows = le-refl _;
+        front = refl;
+        words-rest = refl;
+        words-long = refl;
+        floats-rest = rest-put (s .floats) n t r ht;
+        floats-long = length-put (s .floats) n t r;
+      };
+    }
+
+module _ {F : Field} {s : Cells} (P : Placed F s) (i : ℕ) {k t : ℕ} (hk : k < entries F) (et : t ≡ otherEnd (F .rows) (F .cols) i k) where
+  pub target-below : t < variables F
+  target-below = rw et (other-below (F .rows) (F .cols) i k (ends-below (P .shaped)) (omega (arith, P .shaped .rows-long)))
+
+  module _ (v : ℕ) where
+    pub serve-fixed : getD (s .values) t 0 ≢ 2 → Does F (λ run. serveAt F i v run k) s s
+    unfolding serveAt runIn
+    serve-fixed ne = does-same P (rw (← et, ne-eqb (getD (s .values) t 0) 2 ne))
+
+    module _ (free : getD (s .values) t 0 ≡ 2) {row : Row} {found : Conclusion} {f′ : List Float} {a : Float} (ea : a ≡ coeffOf F k)
+        (er : row ≡ moved (rowOn (s .floats) (variables F) t) a v) (ef : f′ ≡ putRow (s .floats) (variables F) t row) (ec : found ≡ concludeOf row t) where
+      mid : Cells
+      mid = cells (s .values) (putRow (s .floats) (variables F) t row) (s .words) (s .tail)
+
+      moved-there : Does F (λ run. moveRow run t a v) s mid
+      unfolding mid
+      moved-there = move-does P target-below a v er
+
+      of-moved : found ≡ concludeOf (rowOn (mid .floats) (variables F) t) t
+      unfolding mid
+      of-moved = ec ∙ ap (λ (r : Row). concludeOf r t) (sym (row-same (s .floats) (variables F) t row target-below (P .floats-room)))
+
+      serves : judged (moveRow (runIn F s) t a v) t ≡ serveAt F i v (runIn F s) k
+      unfolding serveAt runIn
+      serves = rw (← et, eq-eqb (getD (s .values) t 0) 2 free, ea)
+
+      then-judged : {s′ : Cells} → Does F (λ run. judged run t) mid s′ → Does F (λ run. serveAt F i v run k) s s′
+      then-judged D = does-as (λ run. serveAt F i v run k) (does-then (λ run. judged run t) moved-there D) serves
+
+      pub serve-open : found .verdict ≡ Open → Does F (λ run. serveAt F i v run k) s (cells (s .values) f′ (s .words) (s .tail))
+      unfolding mid
+      serve-open o = rw ef (then-judged (judged-open (moved-there .kept .placed) target-below of-moved o))
+
+      pub serve-forced : {vs′ u′ : List ℕ} {r : ℕ} → Forced (found .verdict)
+          → Settled found (base F) (s .tail) (s .values) (s .words) vs′ u′ r
+          → Does F (λ run. serveAt F i v run k) s (cells vs′ f′ u′ r)
+      unfolding mid
+      serve-forced k S = rw ef (then-judged (judged-forced (moved-there .kept .placed) target-below of-moved free k S))

@@ -1,0 +1,29 @@
+-- `forced` is the value of a verdict, by its cases. Assumes nothing.
+use Rattle.rows.specs.Row.{valueOf}
+use borrow.Author.Needs.{needs}
+use Rattle.run.proofs.steps.forced.Statement.{statement}
+use Rattle.run.proofs.steps.forced.Tie as tie
+
+enum-told : tie.Need-enum-told
+enum-told c = search needs
+
+enum-told-2 : tie.Need-enum-told-2
+enum-told-2 c = search needs
+
+enum-told-3 : tie.Need-enum-told-3
+enum-told-3 c = search needs
+
+returns : tie.Need-returns
+unfolding valueOf
+returns c = search needs
+
+returns-2 : tie.Need-returns-2
+unfolding valueOf
+returns-2 c = search needs
+
+returns-3 : tie.Need-returns-3
+unfolding valueOf
+returns-3 c = search needs
+
+pub forced-spec : {M : Type 1} → statement M
+forced-spec = tie.close (tie.spec enum-told enum-told-2 enum-told-3 returns returns-2 returns-3)

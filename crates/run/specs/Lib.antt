@@ -1,0 +1,4 @@
+pub mod Run
+pub mod Room
+pub mod Ended
+pub mod Cells

@@ -1,0 +1,96 @@
+-- The gradient run as the source works it (document 01, "Closure"): variables are scanned upward, then a first-in queue is served.
+-- Executable on every field, float by float. Assumes nothing.
+use Prim.Native.Nat.{ℕ, zero, suc}
+use mathlib.Core.Bool.{Bool, cond}
+use mathlib.Core.List.{List, [], _∷_, _++_}
+use lib.Dec.{eqb, ltb}
+use lib.ListN.{length, getD, set}
+use lib.Ieee.{Float, nan}
+use Rattle.field.specs.Field.{Field, variables}
+use Rattle.rows.specs.declared.Row.{Row}
+use Rattle.rows.specs.declared.Verdict.{Verdict}
+use Rattle.rows.specs.declared.Verdict.the-variants.{Zero, One, Open}
+use Rattle.rows.specs.Row.{addFixed, removeFree, judgeOf}
+use Rattle.rows.specs.Model.{coeffOf, rowOf}
+use Rattle.rows.specs.Stored.{upTo}
+use Rattle.places.specs.Places.{places, otherEnd}
+
+-- the values so far, a row for each variable, and every variable forced so far, in the order in which they were forced
+pub record Run : Type 0 where
+  pub values : List ℕ
+  pub rows : List Row
+  pub queue : List ℕ
+
+abbrev pub noRow : Row
+noRow = record { lower = nan; upper = nan }
+
+abbrev pub rowFor : Run → ℕ → Row
+rowFor run t = getD (run .rows) t noRow
+
+abbrev pub isFree : Run → ℕ → Bool
+isFree run t = eqb (getD (run .values) t 0) 2
+
+-- t takes the value x, and goes to the end of the queue
+unfoldable pub force : Run → ℕ → ℕ → Run
+force run t x = record { values = set (run .values) t x; rows = run .rows; queue = run .queue ++ (t ∷ []) }
+
+-- "Callers act only on a forced verdict and pass over an open row"
+unfoldable pub settle : Run → ℕ → Verdict → Run
+settle run t (Zero b) = force run t 0
+settle run t (One b) = force run t 1
+settle run t Open = run
+
+-- t is settled by the verdict on its row
+unfoldable pub judged : Run → ℕ → Run
+judged run t = settle run t (judgeOf (rowFor run t))
+
+-- ---- "Scan variables upward"
+
+unfoldable pub scanAt : Run → ℕ → Run
+scanAt run i = cond (isFree run i) (judged run i) run
+
+-- the variables below i
+unfoldable pub scanTo : Run → ℕ → Run
+scanTo run zero = run
+scanTo run (suc i) = scanAt (scanTo run i) i
+
+-- ---- "then serve a first-in queue, removing the free term and adding the fixed one, testing after each update"
+
+-- a row whose term of coefficient a was free, and is fixed at v
+abbrev pub moved : Row → Float → ℕ → Row
+moved r a v = addFixed (removeFree r a) a v
+
+unfoldable pub moveRow : Run → ℕ → Float → ℕ → Run
+moveRow run t a v = record { values = run .values; rows = set (run .rows) t (moved (rowFor run t) a v); queue = run .queue }
+
+-- variable i, whose value is v, at its place k: a free other end has its row moved and is judged
+unfoldable pub serveAt : Field → ℕ → ℕ → Run → ℕ → Run
+serveAt F i v run k =
+    let t = otherEnd (F .rows) (F .cols) i k in
+    cond (isFree run t) (judged (moveRow run t (coeffOf F k) v) t) run
+
+unfoldable pub serveAll : Field → ℕ → ℕ → Run → List ℕ → Run
+serveAll F i v run [] = run
+serveAll F i v run (k ∷ ks) = serveAll F i v (serveAt F i v run k) ks
+
+-- every place of i, rising
+unfoldable pub serve : Field → Run → ℕ → Run
+serve F run i = serveAll F i (getD (run .values) i 0) run (places (F .rows) (F .cols) i)
+
+-- the queue from position h on, in that many turns at most; "`VecDeque` holds each variable once, so n places do"
+unfoldable pub work : Field → ℕ → Run → ℕ → Run
+work F zero run h = run
+work F (suc turns) run h = cond (ltb h (length (run .queue))) (work F turns (serve F run (getD (run .queue) h 0)) (suc h)) run
+
+-- ---- the run
+
+-- from given values and rows
+unfoldable pub propagate : Field → List ℕ → List Row → Run
+propagate F s rows = work F (variables F) (scanTo (record { values = s; rows = rows; queue = [] }) (variables F)) 0
+
+-- from the rows at the start values
+unfoldable pub closureRun : Field → List ℕ → Run
+closureRun F s = propagate F s (upTo (rowOf F s) (variables F))
+
+unfoldable pub closure : Field → List ℕ → List ℕ
+closure F s = closureRun F s .values
