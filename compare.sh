@@ -1,0 +1,9 @@
+#!/bin/sh
+# Runs the Rust text and the port on the same random cases and compares every line, for the calls that the port has.
+# Usage: compare.sh SEED COUNT [RUST_TEXT_FOLDER]
+set -eu
+usage='usage: compare.sh SEED COUNT [RUST_TEXT_FOLDER]'
+seed=${1:?$usage}
+count=${2:?$usage}
+cd "$(dirname "$0")"
+CALLS=${CALLS:-closure} exec side-by-side/compare "$seed" "$count" "${3:-../shared/docs/src}" -- tools/run replay

@@ -1,0 +1,12 @@
+// Reads the records of a field from standard input, and writes its closure.
+use libc::STDIN_FILENO;
+use libc::STDOUT_FILENO;
+
+fn main() {
+    // One byte more than the longest well-formed input (256 * 10 + 1,024 * 14 + 256 * 5 + 2): what follows it changes no answer.
+    let mut input = [0u8; 18179];
+    let n = io::read_full(STDIN_FILENO, &mut input);
+    let mut text = [0u8; 2582];
+    let size = records::answering::answer(&input[..n], &mut text);
+    io::write_all(STDOUT_FILENO, &text[..size]);
+}

@@ -1,0 +1,143 @@
+-- What is told lies at the front of the lists: a store at the count adds one to it, and the step on the lists is the step on what is told. Assumes nothing.
+use Prim.Native.Nat.{ℕ, suc, _+_, _<_, _≤_}
+use mathlib.Core.Path.{_≡_, refl, sym, ap, _∙_}
+use mathlib.Core.Bool.{Bool, true, false, cond, _&&_}
+use mathlib.Core.List.{List, [], _∷_, _++_, append-assoc}
+use native.Mathlib.Omega.{arith}
+use borrow.Author.Tests.{ltb-true}
+use lib.Dec.{ltb, eqb}
+use lib.ListN.{length, getD, set, drop, length-append, length-drop, length-set, List·getD-append}
+use lib.Seq.{drop-cons, set-at, set-append-left}
+use lib.Ieee.{Float}
+use Rattle.records.specs.Over.{over}
+use Rattle.records.specs.Told.{Told, withWeight, withEntry, withGiven, mayDeclare, mayEnter, mayGive, Turned, more, ended, taken}
+use Rattle.records.specs.Parsing.{answerOf, listsOf, laid, Room, tally, stored, goOn, Noted, noted, note}
+use Rattle.records.specs.declared.Record.{Record}
+use Rattle.records.specs.declared.Record.the-variants.{Weight, Entry, Given, End, Malformed}
+use Rattle.records.specs.declared.parsing.Turn.the-variants.{On, Stop}
+
+-- ---- one list over another
+
+module _ {A : Type 0} (l s : List A) where
+  pub length-over : length l ≤ length s → length (over l s) ≡ length s
+  unfolding over
+  length-over h = simp (length-append, length-drop) (omega arith)
+
+  pub over-at : (i : ℕ) (d : A) → i < length l → getD (over l s) i d ≡ getD l i d
+  unfolding over
+  over-at i d h = List·getD-append l (drop (length l) s) d i h
+
+  pub over-set : (i : ℕ) (x : A) → i < length l → set (over l s) i x ≡ over (set l i x) s
+  unfolding over
+  over-set i x h = set-append-left l (drop (length l) s) i x h ∙ ap (λ (n : ℕ). set l i x ++ drop n s) (sym (length-set l i x))
+
+  pub over-push : (n : ℕ) (x : A) → length l ≡ n → n < length s → set (over l s) n x ≡ over (l ++ x ∷ []) s
+  unfolding over
+  over-push n x e h =
+      let more : suc (length l) ≡ length (l ++ x ∷ []) = omega (arith, length-append l (x ∷ [])) in
+      ap (λ (r : List A). set (l ++ r) n x) (drop-cons s (length l) x (omega arith))
+      ∙ set-at l (getD s (length l) x) (drop (suc (length l)) s) x n e
+      ∙ sym (append-assoc l (x ∷ []) (drop (suc (length l)) s))
+      ∙ ap (λ (k : ℕ). (l ++ x ∷ []) ++ drop k s) more
+
+-- ---- what is told
+
+-- as many start values as weights, three lists of one length, and within the limits
+pub record Within (t : Told) : Type 0 where
+  pub start : length (t .start) ≡ length (t .linear)
+  pub rows : length (t .rows) ≡ length (t .quad)
+  pub cols : length (t .cols) ≡ length (t .quad)
+  pub few-variables : length (t .linear) ≤ 256
+  pub few-entries : length (t .quad) ≤ 1024
+
+pub record SameLengths (p p′ : Told) : Type 0 where
+  pub linear : length (p′ .linear) ≡ length (p .linear)
+  pub rows : length (p′ .rows) ≡ length (p .rows)
+  pub cols : length (p′ .cols) ≡ length (p .cols)
+  pub quad : length (p′ .quad) ≡ length (p .quad)
+  pub start : length (p′ .start) ≡ length (p .start)
+
+pub laid-lengths : {t p : Told} → Within t → Room p → SameLengths p (laid t p)
+laid-lengths {t} {p} w r = record {
+  linear = length-over (t .linear) (p .linear) (omega arith);
+  rows = length-over (t .rows) (p .rows) (omega arith);
+  cols = length-over (t .cols) (p .cols) (omega arith);
+  quad = length-over (t .quad) (p .quad) (omega arith);
+  start = length-over (t .start) (p .start) (omega arith);
+}
+
+pub laid-room : {t p : Told} → Within t → Room p → Room (laid t p)
+laid-room w r =
+    let same = laid-lengths w r in
+    record { linear = omega arith; rows = omega arith; cols = omega arith; quad = omega arith; start = omega arith }
+
+-- ---- a step
+
+pub and-left : (a b : Bool) → (a && b) ≡ true → a ≡ true
+and-left true b e = refl
+and-left false b e = e
+
+abbrev pub laidTurn : Told → Turned → Noted
+laidTurn p (more t at) = noted (On (tally at (length (t .linear)) (length (t .quad)))) (laid t p)
+laidTurn p (ended b t) = noted (Stop (answerOf b t)) (laid t p)
+
+module _ (t p : Told) (w : Within t) (r : Room p) where
+  weight-laid : (x : Float) (at : ℕ) (b : Bool) → mayDeclare (length (t .linear)) ≡ b
+      → noted (goOn b (tally at (length (t .linear) + 1) (length (t .quad))))
+      (listsOf (stored b (length (t .linear)) x (over (t .linear) (p .linear))) (over (t .rows) (p .rows)) (over (t .cols) (p .cols)) (over (t .quad) (p .quad))
+      (stored b (length (t .linear)) 2 (over (t .start) (p .start))))
+      ≡ laidTurn p (cond b (more (withWeight x t) at) (ended false t))
+  weight-laid x at true e =
+      let n = length (t .linear) in
+      let room : n < 256 = ltb-true n 256 e in
+      let one-more : n + 1 ≡ length (t .linear ++ x ∷ []) = omega (arith, length-append (t .linear) (x ∷ [])) in
+      rw (over-push (t .linear) (p .linear) n x refl (omega arith), over-push (t .start) (p .start) n 2 (w .start) (omega arith), one-more)
+  weight-laid x at false e = refl
+
+  entry-laid : (row col : ℕ) (x : Float) (at : ℕ) (b : Bool) → mayEnter (length (t .quad)) ≡ b
+      → noted (goOn b (tally at (length (t .linear)) (length (t .quad) + 1)))
+      (listsOf (over (t .linear) (p .linear)) (stored b (length (t .quad)) row (over (t .rows) (p .rows))) (stored b (length (t .quad)) col (over (t .cols) (p .cols)))
+      (stored b (length (t .quad)) x (over (t .quad) (p .quad))) (over (t .start) (p .start)))
+      ≡ laidTurn p (cond b (more (withEntry row col x t) at) (ended false t))
+  entry-laid row col x at true e =
+      let m = length (t .quad) in
+      let room : m < 1024 = ltb-true m 1024 e in
+      let one-more : m + 1 ≡ length (t .quad ++ x ∷ []) = omega (arith, length-append (t .quad) (x ∷ [])) in
+      rw (
+        over-push (t .rows) (p .rows) m row (w .rows) (omega arith),
+        over-push (t .cols) (p .cols) m col (w .cols) (omega arith),
+        over-push (t .quad) (p .quad) m x refl (omega arith),
+        one-more,
+      )
+  entry-laid row col x at false e = refl
+
+  may-give-laid : (v b : ℕ) → mayGive v b (length (t .linear)) (over (t .start) (p .start)) ≡ mayGive v b (length (t .linear)) (t .start)
+  may-give-laid v b = go (ltb v (length (t .linear))) refl
+    where
+      go : (d : Bool) → ltb v (length (t .linear)) ≡ d
+          → (ltb v (length (t .linear)) && (eqb (getD (over (t .start) (p .start)) v 0) 2 && ltb b 2)) ≡ (ltb v (length (t .linear)) && (eqb (getD (t .start) v 0) 2 && ltb b 2))
+      go true e =
+          let in-range : v < length (t .linear) = ltb-true v (length (t .linear)) e in
+          ap (λ (y : ℕ). ltb v (length (t .linear)) && (eqb y 2 && ltb b 2)) (over-at (t .start) (p .start) v 0 (omega arith))
+      go false e = rw e
+
+  given-laid : (v b at : ℕ) (d : Bool) → mayGive v b (length (t .linear)) (t .start) ≡ d
+      → noted (goOn d (tally at (length (t .linear)) (length (t .quad))))
+      (listsOf (over (t .linear) (p .linear)) (over (t .rows) (p .rows)) (over (t .cols) (p .cols)) (over (t .quad) (p .quad)) (stored d v b (over (t .start) (p .start))))
+      ≡ laidTurn p (cond d (more (withGiven v b t) at) (ended false t))
+  given-laid v b at true e =
+      let in-range : v < length (t .linear) = ltb-true v (length (t .linear)) (and-left _ _ e) in
+      rw (over-set (t .start) (p .start) v b (omega arith))
+  given-laid v b at false e = refl
+
+  answer-laid : (b : Bool) → cond b (answerOf true t) (answerOf false t) ≡ answerOf b t
+  answer-laid true = refl
+  answer-laid false = refl
+
+  pub laid-step : (size at : ℕ) (found : Record) → note size found (tally at (length (t .linear)) (length (t .quad))) (laid t p) ≡ laidTurn p (taken size found t)
+  unfolding note taken
+  laid-step size at (Weight x next) = weight-laid x (next .at) _ refl
+  laid-step size at (Entry row col x next) = entry-laid row col x (next .at) _ refl
+  laid-step size at (Given v b next) = rw (may-give-laid v b) (given-laid v b (next .at) _ refl)
+  laid-step size at (End next) = rw (answer-laid (eqb (next .at) size))
+  laid-step size at Malformed = refl

@@ -1,0 +1,11 @@
+pub mod Answers
+pub mod Finds
+pub mod Front
+pub mod Laid
+pub mod Loop
+pub mod Means
+pub mod Notes
+pub mod Spelling
+pub mod Theorems
+pub mod Worked
+pub mod Writes

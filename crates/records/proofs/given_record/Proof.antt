@@ -1,0 +1,55 @@
+-- `given_record` reads a mark FX and what follows. Assumes nothing.
+use mathlib.Core.Path.{ap, _∙_}
+use Prim.Native.Nat.{ℕ, _+_}
+use lib.ListN.{getD}
+use denote.Ref.{now}
+use Rattle.records.specs.Reading.{cursor, givenAt}
+use Rattle.records.specs.declared.Record.the-variants.{Given}
+use Rattle.records.proofs.Finds.{cut, fits}
+use borrow.Author.Needs.{needs}
+use Rattle.records.proofs.given_record.Statement.{statement}
+use Rattle.records.proofs.given_record.Tie as tie
+
+left-requires : tie.Need-left-requires
+left-requires c κs = search needs
+
+returns : tie.Need-returns
+unfolding givenAt
+returns c = cut 5 (now (c .before .before .before .args .bytes)) (c .before .before .before .args .at) _ (c .before .left .ensures) (c .if1 .taken)
+
+add-short : tie.Need-add-short
+add-short c = search needs
+
+short-requires : tie.Need-short-requires
+short-requires c κs = search needs
+
+add-value : tie.Need-add-value
+add-value c = search needs
+
+shared-slice-read-value : tie.Need-shared-slice-read-value
+shared-slice-read-value c = search needs
+
+add-t5 : tie.Need-add-t5
+add-t5 c = search needs
+
+returns-2 : tie.Need-returns-2
+unfolding givenAt
+returns-2 c =
+    let at-left = c .before .before .before in
+    let entry = at-left .before .before in
+    let a = entry .args in
+    ap (λ (v : ℕ). Given v (getD (now (a .bytes)) (a .at + 4) 0) (cursor (a .at + 5))) (c .before .short .ensures) ∙ fits 5 (now
+    (entry .args .bytes)) (entry .args .at) _ (at-left .left .ensures) (c .before .before .if1 .left)
+
+pub given-record-spec : {M : Type 1} → statement M
+given-record-spec =
+    tie.close
+    (tie.spec
+    left-requires
+    returns
+    add-short
+    short-requires
+    add-value
+    shared-slice-read-value
+    add-t5
+    returns-2)

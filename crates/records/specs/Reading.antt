@@ -1,0 +1,52 @@
+-- The record that stands at an index of the input (document 01, "The record program"). Assumes nothing.
+use Prim.Native.Nat.{ℕ, _+_, _-_}
+use mathlib.Core.Bool.{cond}
+use mathlib.Core.List.{List}
+use lib.Dec.{leb, eqb}
+use lib.ListN.{length, getD}
+use Rattle.endian.specs.Bytes.{numberAt, floatAt}
+use Rattle.records.specs.declared.Cursor.{Cursor}
+use Rattle.records.specs.declared.Record.{Record}
+use Rattle.records.specs.declared.Record.the-variants.{Weight, Entry, Given, End, Malformed}
+
+-- the two letters of a mark, as a little-endian number
+abbrev pub markVC : ℕ
+markVC = 0x4356
+
+abbrev pub markQE : ℕ
+markQE = 0x4551
+
+abbrev pub markFX : ℕ
+markFX = 0x5846
+
+abbrev pub markZZ : ℕ
+markZZ = 0x5a5a
+
+abbrev pub cursor : ℕ → Cursor
+cursor at = record { at = at }
+
+-- a record of k bytes, unless the input is cut before its end
+abbrev pub whole : ℕ → List ℕ → ℕ → Record → Record
+whole k s at r = cond (leb k (length s - at)) r Malformed
+
+-- VC and f64
+unfoldable pub weightAt : List ℕ → ℕ → Record
+weightAt s at = whole 10 s at (Weight (floatAt s (at + 2)) (cursor (at + 10)))
+
+-- QE, u16 row, u16 column, f64
+unfoldable pub entryAt : List ℕ → ℕ → Record
+entryAt s at = whole 14 s at (Entry (numberAt 2 s (at + 2)) (numberAt 2 s (at + 4)) (floatAt s (at + 6)) (cursor (at + 14)))
+
+-- FX, u16 variable, one byte
+unfoldable pub givenAt : List ℕ → ℕ → Record
+givenAt s at = whole 5 s at (Given (numberAt 2 s (at + 2)) (getD s (at + 4) 0) (cursor (at + 5)))
+
+unfoldable pub markedAt : ℕ → List ℕ → ℕ → Record
+markedAt mark s at =
+    cond (eqb mark markVC) (weightAt s at)
+    (cond (eqb mark markQE) (entryAt s at)
+    (cond (eqb mark markFX) (givenAt s at)
+    (cond (eqb mark markZZ) (End (cursor (at + 2))) Malformed)))
+
+unfoldable pub readAt : List ℕ → ℕ → Record
+readAt s at = whole 2 s at (markedAt (numberAt 2 s at) s at)

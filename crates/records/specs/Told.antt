@@ -1,0 +1,74 @@
+-- What records tell, one after another (document 01, "The record program"). Assumes nothing.
+use Prim.Native.Nat.{ℕ, zero, suc}
+use mathlib.Core.Bool.{Bool, false, _&&_, cond}
+use mathlib.Core.List.{List, [], _∷_, _++_}
+use lib.Dec.{ltb, eqb}
+use lib.ListN.{length, getD, set}
+use lib.Ieee.{Float}
+use Rattle.records.specs.Reading.{readAt}
+use Rattle.records.specs.declared.Record.{Record}
+use Rattle.records.specs.declared.Record.the-variants.{Weight, Entry, Given, End, Malformed}
+
+-- a field's lists and its start values
+pub record Told : Type 0 where
+  pub linear : List Float
+  pub rows : List ℕ
+  pub cols : List ℕ
+  pub quad : List Float
+  pub start : List ℕ
+
+abbrev pub nothing : Told
+nothing = record { linear = []; rows = []; cols = []; quad = []; start = [] }
+
+-- the next linear weight; its variable is free
+abbrev pub withWeight : Float → Told → Told
+withWeight x t = record { linear = t .linear ++ x ∷ []; rows = t .rows; cols = t .cols; quad = t .quad; start = t .start ++ 2 ∷ [] }
+
+abbrev pub withEntry : ℕ → ℕ → Float → Told → Told
+withEntry row col x t = record { linear = t .linear; rows = t .rows ++ row ∷ []; cols = t .cols ++ col ∷ []; quad = t .quad ++ x ∷ []; start = t .start }
+
+abbrev pub withGiven : ℕ → ℕ → Told → Told
+withGiven v b t = record { linear = t .linear; rows = t .rows; cols = t .cols; quad = t .quad; start = set (t .start) v b }
+
+-- up to 256 variables and 1,024 entries
+abbrev pub mayDeclare : ℕ → Bool
+mayDeclare variables = ltb variables 256
+
+abbrev pub mayEnter : ℕ → Bool
+mayEnter entries = ltb entries 1024
+
+-- a declared variable, not given yet, and 0 or 1
+abbrev pub mayGive : ℕ → ℕ → ℕ → List ℕ → Bool
+mayGive v b variables start = ltb v variables && (eqb (getD start v 0) 2 && ltb b 2)
+
+-- after a record: what is told so far and where the next one stands, or the end, well-formed or not
+pub data Turned : Type 0 where
+  more : Told → ℕ → Turned
+  ended : Bool → Told → Turned
+
+unfoldable pub taken : ℕ → Record → Told → Turned
+taken size (Weight x next) t = cond (mayDeclare (length (t .linear))) (more (withWeight x t) (next .at)) (ended false t)
+taken size (Entry row col x next) t = cond (mayEnter (length (t .quad))) (more (withEntry row col x t) (next .at)) (ended false t)
+taken size (Given v b next) t = cond (mayGive v b (length (t .linear)) (t .start)) (more (withGiven v b t) (next .at)) (ended false t)
+taken size (End next) t = ended (eqb (next .at) size) t
+taken size Malformed t = ended false t
+
+-- whether the input is well-formed, and what it told up to its end or to the first fault
+pub record Outcome : Type 0 where
+  pub whole : Bool
+  pub told : Told
+
+abbrev pub outcome : Bool → Told → Outcome
+outcome b t = record { whole = b; told = t }
+
+abbrev pub following : (ℕ → Told → Outcome) → Turned → Outcome
+following read (more t at) = read at t
+following read (ended b t) = outcome b t
+
+-- reading on from an index, k records at most; each has two bytes at least, so as many as there are bytes are enough
+unfoldable pub readFrom : ℕ → List ℕ → ℕ → Told → Outcome
+readFrom zero s at t = outcome false t
+readFrom (suc k) s at t = following (readFrom k s) (taken (length s) (readAt s at) t)
+
+unfoldable pub parsed : List ℕ → Outcome
+parsed s = readFrom (suc (length s)) s 0 nothing

@@ -1,0 +1,1 @@
+//! Stands in for intel-mkl-src, which the text only links.

@@ -1,0 +1,145 @@
+//! The words of an answer line, as docs/CASES.md gives them.
+
+use crate::{table, Case};
+use std::fmt::Display;
+
+/// What a call answers.
+pub enum Answer {
+    /// The refusals 1 to 8.
+    Refused(u8),
+    /// An answer list does not fit.
+    NoRoom,
+    Clash,
+    Done(Done),
+}
+
+/// What a call answers on 0; a part that the call does not have is nothing.
+#[derive(Default)]
+pub struct Done {
+    pub values: Option<Vec<u8>>,
+    pub pairs: Option<u64>,
+    pub constraints: Option<Vec<(usize, usize, usize)>>,
+    pub found: Option<Vec<u8>>,
+    pub variables: Option<Vec<usize>>,
+    pub linear: Option<Vec<f64>>,
+    pub entries: Option<Vec<(usize, usize, f64)>>,
+    pub constant: Option<f64>,
+}
+
+/// The whole line, with the promise for each lent slice.
+pub fn line(case: &Case, answer: &Answer) -> String {
+    let call = case.call;
+    let mut words: Vec<String> = Vec::new();
+    // The word for start values, answer lists, the field and scratch.
+    let (number, start, lists, scratch) = match answer {
+        Answer::Refused(number) => (*number, "kept", "kept", "kept"),
+        Answer::NoRoom => (9, "kept", "zeros", "zeros"),
+        Answer::Clash => (10, "kept", "zeros", "zeros"),
+        Answer::Done(_) => (0, "", "", "zeros"),
+    };
+    words.push(number.to_string());
+    if let Answer::Done(done) = answer {
+        if call.has_field() {
+            words.push(table::grade(case).to_string());
+        }
+        done_words(case, done, &mut words);
+    } else {
+        if call.fills_start() {
+            words.push(format!("values={start}"));
+        }
+        if call.finds_constraints() {
+            words.push(format!("constraints={lists}"));
+        }
+        if call.finds_values() {
+            words.push(format!("found={lists}"));
+        }
+        if call.finds_variables() {
+            words.push(format!("variables={lists}"));
+        }
+        if call.changes_field() {
+            words.push("field=kept".to_string());
+        }
+    }
+    if call.takes_floats() {
+        words.push(format!("floats={scratch}"));
+    }
+    if call.takes_words() {
+        words.push(format!("words={scratch}"));
+    }
+    words.join(" ")
+}
+
+fn done_words(case: &Case, done: &Done, words: &mut Vec<String>) {
+    if let Some(values) = &done.values {
+        words.push(format!("values={}", digits(values)));
+    }
+    if let Some(pairs) = done.pairs {
+        words.push(format!("pairs={pairs}"));
+    }
+    if let Some(constraints) = &done.constraints {
+        words.push(format!("count={}", constraints.len()));
+        let triples = constraints.iter().map(|(i, j, k)| format!("{i},{j},{k}"));
+        words.push(format!("constraints={}", joined(triples, ";")));
+        words.push("past=kept".to_string());
+    }
+    if let Some(found) = &done.found {
+        words.push(format!("found={}", digits(found)));
+    }
+    if let Some(variables) = &done.variables {
+        words.push(format!("count={}", variables.len()));
+        words.push(format!("variables={}", joined(variables.iter(), ",")));
+        words.push("past=kept".to_string());
+    }
+    if let Some(linear) = &done.linear {
+        words.push(format!(
+            "linear={}",
+            joined(linear.iter().map(|&c| hex(c)), ",")
+        ));
+    }
+    if let Some(entries) = &done.entries {
+        words.push(format!("m={}", entries.len()));
+        let places = entries
+            .iter()
+            .map(|&(i, j, q)| format!("{i},{j},{}", hex(q)));
+        words.push(format!("entries={}", joined(places, ";")));
+        let past = if case.call == crate::Call::SubProblem {
+            "zeros"
+        } else {
+            "kept"
+        };
+        words.push(format!("field-past={past}"));
+    }
+    if let Some(constant) = done.constant {
+        words.push(format!("constant={}", hex(constant)));
+    }
+}
+
+/// The bits of a weight as 16 hex digits; all NaN are one word.
+pub fn hex(x: f64) -> String {
+    if x.is_nan() {
+        "nan".to_string()
+    } else {
+        format!("{:016x}", x.to_bits())
+    }
+}
+
+fn digits(values: &[u8]) -> String {
+    joined(values.iter(), "")
+}
+
+/// The items with the mark between them; a dash where there are none.
+fn joined(items: impl Iterator<Item = impl Display>, mark: &str) -> String {
+    let words: Vec<_> = items.map(|x| x.to_string()).collect();
+    if words.is_empty() {
+        "-".to_string()
+    } else {
+        words.join(mark)
+    }
+}
+
+/// The content of `name=content` in an answer line.
+pub fn part<'a>(line: &'a str, name: &str) -> Option<&'a str> {
+    line.split(' ')
+        .find_map(|word| word.strip_prefix(name)?.strip_prefix('='))
+        .map(|content| if content == "-" { "" } else { content })
+}

@@ -1,0 +1,307 @@
+//! Checks answers on exact fields against document 01's whole-number definitions and, up to 12 variables, against all completions.
+//! Usage: `demands CASES ANSWERS`. It prints how many cases of each call were checked and fails at the first that breaks a demand.
+
+use std::collections::BTreeMap;
+use std::fs::File;
+use std::io::{self, BufRead, BufReader};
+use stream::line::part;
+use stream::{table, Call, Case, FORBIDDEN, MOST_PAIRS};
+use tools::whole::Whole;
+
+/// The greatest number of variables whose completions are gone through.
+const MOST: usize = 12;
+
+/// The greatest number of variables for which the definitions are worked out.
+const MOST_DEFINED: usize = 130;
+
+fn main() -> io::Result<()> {
+    let words: Vec<String> = std::env::args().skip(1).collect();
+    let [cases, answers] = &words[..] else {
+        panic!("usage: demands CASES ANSWERS")
+    };
+    let mut cases = BufReader::with_capacity(1 << 20, File::open(cases)?);
+    let mut answers = BufReader::with_capacity(1 << 20, File::open(answers)?).lines();
+    let mut counts: BTreeMap<Call, (u64, u64)> = BTreeMap::new();
+    let mut number = 0;
+    while let Some(case) = Case::read(&mut cases)? {
+        number += 1;
+        let line = answers.next().expect("an answer for each case")?;
+        let count = counts.entry(case.call).or_default();
+        if !(line.starts_with("0 exact ") || case.call == Call::Propagation)
+            || case.n() > MOST_DEFINED
+        {
+            continue;
+        }
+        let checked = match case.call {
+            Call::Propagation => propagation(&case, &line).map(|done| (0, done)),
+            _ => field_call(&case, &line),
+        };
+        match checked {
+            Ok((defined, demanded)) => {
+                count.0 += defined;
+                count.1 += demanded;
+            }
+            Err(what) => {
+                println!("case {number}: {what}\n{}\nanswer {line}", case.show());
+                std::process::exit(1);
+            }
+        }
+    }
+    println!("call: cases whose answer is the definition's; cases whose completions obey");
+    for (call, (defined, demanded)) in counts {
+        println!("{}: {defined}; {demanded}", call.name());
+    }
+    Ok(())
+}
+
+type Checked = Result<(u64, u64), String>;
+
+fn field_call(case: &Case, line: &str) -> Checked {
+    if !table::exact(case) {
+        return Err("graded exact, but it is not".to_string());
+    }
+    let whole = Whole::of(case);
+    let small = case.n() <= MOST;
+    let values = digits(line, "values");
+    let found = digits(line, "found");
+    let constraints = triples(line);
+    let mut defined = 0;
+    match case.call {
+        Call::Closure => {
+            same("closure", &values, &whole.closure(&case.start))?;
+            defined = 1;
+        }
+        Call::SingleProbe | Call::ColdProbe => {
+            let probe = whole.probe(&case.start, case.variable as usize, case.value as u8);
+            same("probe", &found, &probe)?;
+            defined = 1;
+        }
+        Call::Probe | Call::LimitedProbe if case.n() <= 40 => {
+            let candidates = if case.call == Call::Probe {
+                (0..case.n()).filter(|&i| case.start[i] == 2).collect()
+            } else {
+                whole.candidates(&case.start, case.limit)
+            };
+            let (all, given) = whole.probes(&case.start, &candidates);
+            same("constraints", &constraints, &all)?;
+            same("found values", &found, &given)?;
+            defined = 1;
+        }
+        Call::Pairs if small => {
+            let (count, all) = whole.pairs(&case.start, case.limit.min(MOST_PAIRS));
+            same("pair constraints", &constraints, &all)?;
+            same(
+                "pair count",
+                &part(line, "pairs"),
+                &Some(count.to_string().as_str()),
+            )?;
+            defined = 1;
+        }
+        _ => {}
+    }
+    if !small {
+        return Ok((defined, 0));
+    }
+    match case.call {
+        Call::Closure => {
+            let best = whole.best(&case.start);
+            every(
+                &best,
+                |x| agrees(x, &values),
+                "a best completion breaks a value",
+            )?;
+        }
+        Call::Components | Call::Preprocess | Call::Heavy => {
+            let best = whole.best(&case.start);
+            some(
+                &best,
+                |x| agrees(x, &values),
+                "no best completion has all values",
+            )?;
+            let kept = (0..case.n()).all(|i| case.start[i] == 2 || case.start[i] == values[i]);
+            some(&[0], |_| kept, "a start value is lost")?;
+        }
+        Call::SingleProbe | Call::ColdProbe => {
+            let mut assumed = case.start.clone();
+            assumed[case.variable as usize] = case.value as u8;
+            let best = whole.best(&assumed);
+            every(
+                &best,
+                |x| agrees(x, &found),
+                "a best completion breaks a value",
+            )?;
+        }
+        Call::Probe | Call::LimitedProbe | Call::Pairs => {
+            let best = whole.best(&case.start);
+            every(
+                &best,
+                |x| agrees(x, &found),
+                "a best completion breaks a value",
+            )?;
+            every(
+                &best,
+                |x| meets(x, &constraints),
+                "a best completion breaks a constraint",
+            )?;
+        }
+        Call::Anchors => {
+            let best = whole.best(&case.start);
+            for anchor in variables(line) {
+                some(&best, |x| (x >> anchor) & 1 == 0, "an anchor is never 0")?;
+                some(&best, |x| (x >> anchor) & 1 == 1, "an anchor is never 1")?;
+            }
+        }
+        Call::NoEffect => {
+            for i in variables(line) {
+                let all = Whole::completions(&vec![2; case.n()]);
+                every(
+                    &all,
+                    |x| whole.twice_f(x) == whole.twice_f(x ^ (1 << i)),
+                    "a variable without effect has one",
+                )?;
+            }
+        }
+        Call::Shift | Call::SubProblem => reduced(case, &whole, line)?,
+        Call::Propagation => {}
+    }
+    Ok((defined, 1))
+}
+
+/// f of a completion is the reduced f plus the constant.
+fn reduced(case: &Case, whole: &Whole, line: &str) -> Result<(), String> {
+    let linear: Vec<f64> = items(line, "linear", ',').map(weight).collect();
+    let entries = items(line, "entries", ';').map(|item| {
+        let parts: Vec<_> = item.split(',').collect();
+        (
+            parts[0].parse().unwrap(),
+            parts[1].parse().unwrap(),
+            weight(parts[2]),
+        )
+    });
+    let smaller = Whole::new(&linear, entries);
+    let constant = part(line, "constant").map_or(0, |c| (2.0 * weight(c)) as i64);
+    let places: Vec<usize> = if case.call == Call::SubProblem {
+        variables(line)
+    } else {
+        (0..case.n()).collect()
+    };
+    let start = if case.call == Call::SubProblem {
+        case.start.clone()
+    } else {
+        vec![2; case.n()]
+    };
+    let rising: Vec<_> = (0..case.n()).filter(|&i| start[i] == 2).collect();
+    same("map", &places, &rising)?;
+    every(
+        &Whole::completions(&start),
+        |x| {
+            let y = places
+                .iter()
+                .enumerate()
+                .map(|(new, old)| ((x >> old) & 1) << new)
+                .sum();
+            whole.twice_f(x) == smaller.twice_f(y) + constant
+        },
+        "f is not the reduced f plus the constant",
+    )
+}
+
+/// An assignment that meets the constraints has every value, and on a clash there is none.
+fn propagation(case: &Case, line: &str) -> Result<u64, String> {
+    if case.n() > MOST || !(line.starts_with("0 ") || line.starts_with("10 ")) {
+        return Ok(0);
+    }
+    let constraints: Vec<_> = case
+        .constraints
+        .chunks_exact(3)
+        .map(|t| (usize::from(t[0]), usize::from(t[1]), usize::from(t[2])))
+        .collect();
+    let clash = line.starts_with("10 ");
+    let values = if clash {
+        Vec::new()
+    } else {
+        digits(line, "values")
+    };
+    let meeting: Vec<_> = Whole::completions(&case.start)
+        .into_iter()
+        .filter(|&x| meets(x, &constraints))
+        .collect();
+    let ok = |x: usize| !clash && agrees(x, &values);
+    every(
+        &meeting,
+        ok,
+        "an assignment meets the constraints and breaks a value",
+    )?;
+    Ok(1)
+}
+
+fn agrees(x: usize, values: &[u8]) -> bool {
+    values
+        .iter()
+        .enumerate()
+        .all(|(i, &v)| v == 2 || (x >> i) & 1 == usize::from(v))
+}
+
+fn meets(x: usize, constraints: &[(usize, usize, usize)]) -> bool {
+    constraints.iter().all(|&(i, j, kind)| {
+        let pair = 2 * ((x >> i) & 1) + ((x >> j) & 1);
+        FORBIDDEN[kind] >> pair & 1 == 0
+    })
+}
+
+fn every(all: &[usize], test: impl Fn(usize) -> bool, what: &str) -> Result<(), String> {
+    match all.iter().find(|&&x| !test(x)) {
+        Some(x) => Err(format!("{what}: {x:b} (variable 0 on the right)")),
+        None => Ok(()),
+    }
+}
+
+fn some(all: &[usize], test: impl Fn(usize) -> bool, what: &str) -> Result<(), String> {
+    if all.iter().any(|&x| test(x)) {
+        Ok(())
+    } else {
+        Err(what.to_string())
+    }
+}
+
+fn same<T: PartialEq + std::fmt::Debug>(name: &str, got: &T, want: &T) -> Result<(), String> {
+    if got == want {
+        Ok(())
+    } else {
+        Err(format!("{name}: {got:?}, but by the definition {want:?}"))
+    }
+}
+
+fn items<'a>(line: &'a str, name: &str, mark: char) -> impl Iterator<Item = &'a str> {
+    part(line, name)
+        .unwrap_or("")
+        .split(mark)
+        .filter(|item| !item.is_empty())
+}
+
+fn digits(line: &str, name: &str) -> Vec<u8> {
+    part(line, name)
+        .unwrap_or("")
+        .bytes()
+        .map(|b| b - b'0')
+        .collect()
+}
+
+fn variables(line: &str) -> Vec<usize> {
+    items(line, "variables", ',')
+        .map(|item| item.parse().unwrap())
+        .collect()
+}
+
+fn triples(line: &str) -> Vec<(usize, usize, usize)> {
+    items(line, "constraints", ';')
+        .map(|item| {
+            let parts: Vec<usize> = item.split(',').map(|x| x.parse().unwrap()).collect();
+            (parts[0], parts[1], parts[2])
+        })
+        .collect()
+}
+
+fn weight(hex: &str) -> f64 {
+    f64::from_bits(u64::from_str_radix(hex, 16).unwrap())
+}

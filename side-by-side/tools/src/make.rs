@@ -1,0 +1,212 @@
+//! Random cases of every call.
+
+use crate::breaks;
+use crate::fields::{self, Field, EXACT, INEXACT};
+use crate::random::Random;
+use stream::{Call, Case};
+
+/// The greatest length of a list of constraint elements that a case asks for.
+pub const MOST_ROOM: usize = 1_500_000;
+
+/// A case of the call; one in five is broken in one or two ways.
+pub fn random_case(random: &mut Random, call: Call, small: bool) -> Case {
+    let mut case = whole_case(random, call, small);
+    let ways = match random.below(100) {
+        0..=79 => 0,
+        80..=91 => 1,
+        _ => 2,
+    };
+    for _ in 0..ways {
+        let number = random.pick(&[1, 2, 3, 4, 5, 6, 7, 8, 9]);
+        // A list past the limits makes a long case, so few are made.
+        if number != 1 || call == Call::Propagation || (!small && random.often(50)) {
+            breaks::break_case(random, &mut case, number);
+        }
+    }
+    case
+}
+
+fn whole_case(random: &mut Random, call: Call, small: bool) -> Case {
+    let mut case = Case::new(call);
+    let n = size(random, call, small);
+    if call.has_field() {
+        let diagonal = !call.needs_standard() && random.often(700);
+        let tone = if random.often(550) {
+            random.pick(&EXACT)
+        } else {
+            random.pick(&INEXACT)
+        };
+        let most = if small { 24 } else { most_entries(random, n) };
+        let mut field = fields::field(random, n, most, tone, diagonal);
+        if call == Call::Anchors && random.often(700) {
+            fields::make_symmetric(random, &mut field);
+        }
+        put_field(&mut case, field);
+    }
+    if call.has_start() {
+        case.start = start(random, n);
+    }
+    if call.probes_one() && n > 0 && random.often(990) {
+        case.start[random.below(n)] = 2;
+    }
+    if call == Call::Propagation {
+        case.constraints = constraints(random, &case.start, small);
+    }
+    arguments(random, &mut case);
+    case
+}
+
+pub fn put_field(case: &mut Case, field: Field) {
+    case.linear = field.linear;
+    case.rows = field.entries.iter().map(|e| e.0 as u16).collect();
+    case.columns = field.entries.iter().map(|e| e.1 as u16).collect();
+    case.weights = field.entries.iter().map(|e| e.2).collect();
+}
+
+fn size(random: &mut Random, call: Call, small: bool) -> usize {
+    use Call::{Heavy, LimitedProbe, Pairs, Probe};
+    let slow = matches!(call, Heavy | LimitedProbe | Pairs | Probe);
+    let n = match random.below(10_000) {
+        0..=299 => random.below(2),
+        300..=6_499 => 2 + random.below(11),
+        6_500..=8_999 => 13 + random.below(28),
+        9_000..=9_899 => 41 + random.below(80),
+        9_900..=9_979 => 121 + random.below(300),
+        9_980..=9_994 if slow => 300 + random.below(500),
+        9_980..=9_994 => 421 + random.below(1_500),
+        9_995..=9_997 if slow => random.pick(&[706, 707, 708, 709]),
+        9_995..=9_997 => 2_000 + random.below(2_095),
+        _ => random.pick(&[4_095, 4_096]),
+    };
+    if small {
+        n.min(1 + random.below(9))
+    } else {
+        n
+    }
+}
+
+fn most_entries(random: &mut Random, n: usize) -> usize {
+    if n > 300 && random.often(100) {
+        32_768
+    } else {
+        (8 * n).clamp(200, 32_768)
+    }
+}
+
+fn start(random: &mut Random, n: usize) -> Vec<u8> {
+    let fixed = random.pick(&[0, 0, 100, 300, 700, 1000]);
+    (0..n)
+        .map(|_| {
+            if random.often(fixed) {
+                random.below(2) as u8
+            } else {
+                2
+            }
+        })
+        .collect()
+}
+
+/// Constraints that a hidden assignment meets, but for a few.
+fn constraints(random: &mut Random, start: &[u8], small: bool) -> Vec<u16> {
+    let n = start.len();
+    if n < 2 {
+        return Vec::new();
+    }
+    let hidden: Vec<usize> = start
+        .iter()
+        .map(|&v| {
+            if v == 2 {
+                random.below(2)
+            } else {
+                usize::from(v)
+            }
+        })
+        .collect();
+    let astray = random.pick(&[0, 0, 20, 300]);
+    let mut count = random.below(3 * n);
+    if !small && random.often(2) {
+        count = random.pick(&[65_535, 65_536]);
+    }
+    let mut list = Vec::new();
+    for _ in 0..count {
+        let i = random.below(n);
+        let j = (i + 1 + random.below(n - 1)) % n;
+        let mut kind = random.below(6);
+        while !random.often(astray)
+            && stream::FORBIDDEN[kind] >> (2 * hidden[i] + hidden[j]) & 1 == 1
+        {
+            kind = random.below(6);
+        }
+        list.extend([i as u16, j as u16, kind as u16]);
+    }
+    list
+}
+
+/// Rooms, scratch and parameters that fit, some of them exactly.
+pub fn arguments(random: &mut Random, case: &mut Case) {
+    let n = case.n();
+    let call = case.call;
+    if call.finds_values() {
+        case.found_room = n as u32;
+    }
+    if call.finds_constraints() {
+        let ample = 3 * (n * n.saturating_sub(1)).min(MOST_ROOM / 3);
+        let room = match random.below(10) {
+            0 => random.below(30),
+            1 => 3 * random.below(n + 1),
+            2 => ample + random.below(3),
+            _ => ample,
+        };
+        case.constraint_room = room as u32;
+    }
+    if call.finds_variables() {
+        case.variable_room = match random.below(10) {
+            0 => random.below(4),
+            1 => random.below(n + 2),
+            2 => n + random.below(9),
+            _ => n,
+        } as u32;
+    }
+    let (floats, words) = case.least_scratch();
+    let spare = random.pick(&[0, 0, 0, 1, 2, 17]);
+    if call.takes_floats() {
+        case.floats = floats + spare;
+    }
+    if call.takes_words() {
+        case.words = words + random.pick(&[0, spare]);
+    }
+    if call.probes_one() {
+        let free: Vec<_> = (0..n).filter(|&i| case.start[i] == 2).collect();
+        if !free.is_empty() {
+            case.variable = random.pick(&free) as u64;
+        }
+        case.value = random.below(2) as u64;
+    }
+    if call == Call::LimitedProbe {
+        let any = random.below(n + 2) as u64;
+        case.limit = random.pick(&[0, 1, 2, 3, any, any, any, n as u64, u64::MAX]);
+    }
+    if call == Call::Pairs {
+        let free = case.start.iter().filter(|&&v| v == 2).count() as u64;
+        let all = free * free.saturating_sub(1) / 2;
+        let any = random.below(all as usize + 2) as u64;
+        case.limit = random.pick(&[
+            0,
+            1,
+            64,
+            any,
+            any,
+            all,
+            all,
+            all.saturating_sub(1),
+            all + 1,
+            249_999,
+            250_000,
+            250_001,
+            u64::MAX,
+        ]);
+    }
+    if call == Call::Anchors {
+        case.least_size = random.pick(&[0, 0, 1, 2, 2, 3, 4, n as u64, n as u64 + 1, u64::MAX]);
+    }
+}

@@ -1,0 +1,318 @@
+//! The recorded set: document 01's worked values, every refusal alone and in pairs, sizes at the limits, and small random cases.
+
+use crate::breaks;
+use crate::make;
+use crate::random::Random;
+use stream::{table, Call, Case, CALLS};
+
+const TWO_61: f64 = 2_305_843_009_213_693_952.0;
+
+/// One worked value: a name, the linear weights, the entries and the start values.
+type Worked = (
+    &'static str,
+    &'static [f64],
+    &'static [(u16, u16, f64)],
+    &'static [u8],
+);
+
+/// Document 01's values a to n, its two run and compared, and document 02's example under C-14.
+pub const WORKED: [Worked; 17] = [
+    ("a", &[], &[], &[]),
+    ("b", &[0.0], &[], &[2]),
+    ("c", &[0.5], &[], &[2]),
+    ("d", &[-0.5], &[], &[2]),
+    ("e", &[0.0, 0.0], &[(0, 1, 2.0)], &[2, 2]),
+    ("f", &[0.0, 0.0], &[(0, 1, -2.0)], &[2, 2]),
+    ("g", &[-5.0, -1.0], &[(0, 1, 4.0)], &[2, 2]),
+    ("h", &[-5.0, -1.0], &[(0, 1, 4.0)], &[0, 2]),
+    ("i", &[-1.0, -1.0], &[(0, 1, 4.0)], &[2, 2]),
+    ("j", &[-1.0, -1.0], &[(0, 1, 6.0)], &[2, 2]),
+    ("m", &[-0.5, -0.5], &[(0, 1, 2.0)], &[2, 2]),
+    ("n", &[-1.0, -5.0], &[(0, 1, 4.0)], &[2, 2]),
+    ("small", &[1e-10, 0.0], &[], &[2, 2]),
+    (
+        "swallowed",
+        &[-1.0, TWO_61, -2.0, -0.25],
+        &[(0, 1, -TWO_61), (0, 2, 1.0), (0, 3, 2.0)],
+        &[2, 2, 2, 2],
+    ),
+    ("cold", &[1.0, 0.0], &[(0, 1, -TWO_61)], &[2, 2]),
+    ("cold, turned", &[1.0, 0.0], &[(1, 0, -TWO_61)], &[2, 2]),
+    ("both", &[-1.0, 2.0], &[(1, 0, 4.0), (0, 1, -4.0)], &[2, 2]),
+];
+
+/// The worked value as a case of the call, with room for every answer.
+pub fn worked_case(call: Call, worked: &Worked) -> Case {
+    let mut case = Case::new(call);
+    if call.has_field() {
+        case.linear = worked.1.to_vec();
+        case.rows = worked.2.iter().map(|e| e.0).collect();
+        case.columns = worked.2.iter().map(|e| e.1).collect();
+        case.weights = worked.2.iter().map(|e| e.2).collect();
+    }
+    // Document 01 orders entries by column, so a list given by rows is put in order.
+    let mut entries: Vec<_> = case
+        .entries()
+        .map(|(i, j, q)| (j as u16, i as u16, q))
+        .collect();
+    entries.sort_by_key(|e| (e.0, e.1));
+    case.columns = entries.iter().map(|e| e.0).collect();
+    case.rows = entries.iter().map(|e| e.1).collect();
+    case.weights = entries.iter().map(|e| e.2).collect();
+    if call.has_start() {
+        case.start = worked.3.to_vec();
+    }
+    ample(&mut case);
+    case
+}
+
+/// Gives the case room for every answer and the least scratch.
+pub fn ample(case: &mut Case) {
+    let n = case.n() as u32;
+    let call = case.call;
+    case.found_room = if call.finds_values() { n } else { 0 };
+    case.constraint_room = if call.finds_constraints() {
+        3 * n * n
+    } else {
+        0
+    };
+    case.variable_room = if call.finds_variables() { n } else { 0 };
+    (case.floats, case.words) = case.least_scratch();
+    case.limit = if matches!(call, Call::Pairs | Call::LimitedProbe) {
+        1_000
+    } else {
+        0
+    };
+    case.least_size = if call == Call::Anchors { 2 } else { 0 };
+}
+
+/// Seeds of small random cases on which a near miss answers otherwise: pairs merged, forcing at a bound of 0, no queue or a
+/// last-in one, rows worked out afresh or summed in another order, ties to the highest mask, sorted bits, stored zeros passed over,
+/// one round of the heavy call, the first value kept, a bound equal to the tolerance, rounded sums of anchors.
+const SHARP: [(Call, &[u64]); 11] = [
+    (
+        Call::Closure,
+        &[
+            1, 3, 4, 5, 20, 28, 35, 91, 210, 246, 247, 412, 518, 578, 1158, 1411, 1605, 2429, 4506,
+            7199, 8489, 9646, 11830, 16539,
+        ],
+    ),
+    (
+        Call::Components,
+        &[
+            2, 4, 5, 7, 28, 34, 53, 57, 59, 72, 130, 135, 182, 199, 207, 258, 333, 824, 1139,
+            16989, 20885, 32642,
+        ],
+    ),
+    (
+        Call::Preprocess,
+        &[58, 116, 209, 412, 880, 1158, 1453, 2122, 2357, 2712, 2904],
+    ),
+    (
+        Call::Heavy,
+        &[35, 62, 213, 385, 589, 1535, 1674, 1878, 2062, 2662, 2715],
+    ),
+    (Call::SingleProbe, &SHARP_PROBES),
+    (Call::ColdProbe, &SHARP_PROBES),
+    (
+        Call::Probe,
+        &[
+            3, 19, 31, 37, 59, 65, 70, 90, 95, 205, 412, 1453, 12208, 14388,
+        ],
+    ),
+    (Call::LimitedProbe, &[3, 4, 7, 42, 90, 12208, 14388, 25893]),
+    (
+        Call::Pairs,
+        &[
+            7, 11, 16, 59, 89, 115, 121, 139, 175, 199, 267, 371, 934, 2506, 3484, 3529,
+        ],
+    ),
+    (
+        Call::Anchors,
+        &[
+            1, 2, 16, 17, 26, 28, 36, 82, 99, 301, 381, 414, 507, 532, 746,
+        ],
+    ),
+    (Call::NoEffect, &[0, 49, 52]),
+];
+
+const SHARP_PROBES: [u64; 16] = [
+    121, 246, 247, 495, 518, 1022, 1149, 1605, 1710, 3401, 4523, 11830, 12000, 33095, 39789, 47042,
+];
+
+/// The least number of recorded cases, however few the calls.
+const LEAST: usize = 2_100;
+
+/// Every recorded case of the given calls, in the order of the codes.
+pub fn recorded(calls: &[Call]) -> Vec<Case> {
+    let mut cases = Vec::new();
+    for (call, _) in CALLS {
+        if calls.contains(&call) {
+            worked(call, &mut cases);
+            refusals(call, &mut cases);
+            limits(call, &mut cases);
+            sharp(call, &mut cases);
+        }
+    }
+    let each = LEAST.saturating_sub(cases.len()).div_ceil(calls.len());
+    for (call, _) in CALLS {
+        if calls.contains(&call) {
+            let mut random = Random::new(0x0b5e_55ed + u64::from(call.code()));
+            for _ in 0..each.max(75) {
+                cases.push(make::random_case(&mut random, call, true));
+            }
+        }
+    }
+    cases
+}
+
+fn sharp(call: Call, cases: &mut Vec<Case>) {
+    // Components above the greatest size and rounds of the heavy call need more variables than the small cases have.
+    let small = !matches!(call, Call::Components | Call::Heavy);
+    let seeds = SHARP
+        .iter()
+        .filter(|row| row.0 == call)
+        .flat_map(|row| row.1);
+    for &seed in seeds {
+        cases.push(make::random_case(&mut Random::new(seed), call, small));
+    }
+}
+
+fn worked(call: Call, cases: &mut Vec<Case>) {
+    if call == Call::Propagation {
+        // k, then l, then each kind with each single start value.
+        let both = [0, 1, 5, 0, 1, 1];
+        cases.push(propagation(&[1, 2], &both));
+        cases.push(propagation(&[2, 2], &both));
+        cases.push(propagation(&[2, 2], &[]));
+        cases.push(propagation(&[], &[]));
+        for kind in 0..6 {
+            for start in [
+                [0, 2],
+                [1, 2],
+                [2, 0],
+                [2, 1],
+                [0, 0],
+                [0, 1],
+                [1, 0],
+                [1, 1],
+            ] {
+                cases.push(propagation(&start, &[0, 1, kind]));
+                cases.push(propagation(&start, &[1, 0, kind]));
+            }
+        }
+        return;
+    }
+    for worked in &WORKED {
+        let case = worked_case(call, worked);
+        if call.probes_one() {
+            for i in 0..case.n() {
+                for value in 0..2 {
+                    let mut case = case.clone();
+                    case.variable = i as u64;
+                    case.value = value;
+                    cases.push(case);
+                }
+            }
+        } else {
+            cases.push(case);
+        }
+    }
+}
+
+fn propagation(start: &[u8], constraints: &[u16]) -> Case {
+    let mut case = Case::new(Call::Propagation);
+    case.start = start.to_vec();
+    case.constraints = constraints.to_vec();
+    ample(&mut case);
+    case
+}
+
+/// Every refusal alone, several ways, and every two of them together, on a small case.
+fn refusals(call: Call, cases: &mut Vec<Case>) {
+    let mut random = Random::new(0xb4ea + u64::from(call.code()));
+    let base = |random: &mut Random| {
+        let mut case = Case::new(call);
+        if call.has_field() {
+            case.linear = vec![-1.0, -1.0, 0.5];
+            case.rows = vec![0, 0, 1];
+            case.columns = vec![1, 2, 2];
+            case.weights = vec![4.0, -2.0, 6.0];
+        }
+        if call.has_start() {
+            case.start = vec![2, 2, random.pick(&[0, 1, 2, 2])];
+        }
+        if call == Call::Propagation {
+            case.constraints = vec![0, 1, 1, 1, 2, 5];
+        }
+        ample(&mut case);
+        case
+    };
+    for number in 2..=9 {
+        for _ in 0..5 {
+            let mut case = base(&mut random);
+            if breaks::break_case(&mut random, &mut case, number) {
+                assert_eq!(table::refusal(&case), Some(number).filter(|&k| k < 9));
+                cases.push(case);
+            }
+        }
+        for other in number + 1..=9 {
+            let mut case = base(&mut random);
+            let second = breaks::break_case(&mut random, &mut case, other);
+            if breaks::break_case(&mut random, &mut case, number) && second {
+                assert_eq!(table::refusal(&case), Some(number));
+                cases.push(case);
+            }
+        }
+    }
+}
+
+/// Sizes at the limits, where the case stays small.
+fn limits(call: Call, cases: &mut Vec<Case>) {
+    let sized = |n: usize| {
+        let mut case = Case::new(call);
+        if call.has_field() {
+            case.linear = vec![0.0; n];
+        }
+        if call.has_start() {
+            case.start = vec![2; n];
+        }
+        ample(&mut case);
+        case.constraint_room = case.constraint_room.min(3);
+        case
+    };
+    // One variable too many, with no start values where the call takes a field.
+    let mut long = sized(4_097);
+    if call.has_field() {
+        long.start.clear();
+    }
+    cases.push(long);
+    match call {
+        Call::Closure | Call::Propagation => cases.push(sized(4_096)),
+        Call::Pairs => {
+            for (n, limit) in [
+                (707, u64::MAX),
+                (708, 250_000),
+                (708, 249_999),
+                (708, 250_001),
+            ] {
+                let mut case = sized(n);
+                case.limit = limit;
+                cases.push(case);
+            }
+        }
+        Call::Components => {
+            // Chains of 10 and 11 on either side of the greatest size, each with its own least values.
+            for n in [9, 10, 11, 12] {
+                let mut case = sized(n);
+                case.linear = (0..n).map(|i| (i % 3) as f64 - 1.0).collect();
+                case.rows = (0..n as u16 - 1).collect();
+                case.columns = (1..n as u16).collect();
+                case.weights = (1..n).map(|i| (i % 5) as f64 - 2.0).collect();
+                ample(&mut case);
+                cases.push(case);
+            }
+        }
+        _ => {}
+    }
+}
