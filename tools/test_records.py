@@ -1,14 +1,31 @@
-"""The tests of `records`: each form there and back, and each fault with its line."""
+"""The tests of `records`: each form there and back, each fault with its line, and that the shipped files are what the tools write."""
 import importlib.machinery
 import importlib.util
 import os
 import struct
+import sys
+import tempfile
 import unittest
 
-path = os.path.join(os.path.dirname(os.path.abspath(__file__)), "records")
-spec = importlib.util.spec_from_loader("records", importlib.machinery.SourceFileLoader("records", path))
-records = importlib.util.module_from_spec(spec)
-spec.loader.exec_module(records)
+sys.dont_write_bytecode = True
+here = os.path.dirname(os.path.abspath(__file__))
+root = os.path.dirname(here)
+
+
+def load(name):
+    loader = importlib.machinery.SourceFileLoader(name, os.path.join(here, name))
+    module = importlib.util.module_from_spec(importlib.util.spec_from_loader(name, loader))
+    loader.exec_module(module)
+    return module
+
+
+records = load("records")
+record_cases = load("record_cases")
+
+
+def contents(*parts):
+    with open(os.path.join(root, *parts), "rb") as file:
+        return file.read()
 
 
 def field(text, name="f"):
@@ -79,6 +96,20 @@ class Answer(unittest.TestCase):
 
     def test_refusal(self):
         self.assertEqual(records.named(field(""), "refused 5\n"), "refused 5\n")
+
+
+class Shipped(unittest.TestCase):
+    def test_example(self):
+        text = contents("example", "plan.txt").decode()
+        self.assertEqual(records.pack(field(text)), contents("example", "plan.rec"))
+
+    def test_cases(self):
+        with tempfile.TemporaryDirectory() as room:
+            names = [os.path.join(room, name) for name in ("stdin", "stdout")]
+            self.assertEqual(record_cases.main(names), 0)
+            for name in names:
+                with open(name, "rb") as file:
+                    self.assertEqual(file.read(), contents("crates", "presolve_cases", os.path.basename(name)))
 
 
 if __name__ == "__main__":
