@@ -4,6 +4,8 @@ use Rattle.field.specs.declared.Refusal.{Refusal}
 use Rattle.field.specs.declared.Refusal.the-variants.{Variables, Lists, Order, Diagonal, Weights, Start, Argument, Scratch, Room, Clash}
 use Rattle.field.specs.declared.Answer.{Answer}
 use Rattle.field.specs.declared.Answer.the-variants.{Done, Refused}
+use Rattle.field.specs.declared.Counted.{Counted}
+use Rattle.field.specs.declared.Counted.the-variants.{Counts, Refuses}
 
 abbrev pub numberOf : Refusal → ℕ
 numberOf Variables = 1
@@ -20,3 +22,7 @@ numberOf Clash = 10
 abbrev pub answerNumber : Answer → ℕ
 answerNumber (Done g) = 0
 answerNumber (Refused r) = numberOf r
+
+abbrev pub countedNumber : Counted → ℕ
+countedNumber (Counts g k) = 0
+countedNumber (Refuses r) = numberOf r

@@ -7,6 +7,6 @@ fn main() {
     let mut input = [0u8; 18179];
     let n = io::read_full(STDIN_FILENO, &mut input);
     let mut text = [0u8; 2582];
-    let size = records::answering::answer(&input[..n], &mut text);
+    let size = answering::answer(&input[..n], &mut text);
     io::write_all(STDOUT_FILENO, &text[..size]);
 }

@@ -6,11 +6,10 @@ use mathlib.Core.List.{List}
 use native.Mathlib.Omega.{arith}
 use lib.ListN.{length, take, drop}
 use lib.Seq.{take-at}
-use Rattle.records.specs.Over.{over}
+use Rattle.scratch.specs.Over.{over}
 use Rattle.records.specs.Reading.{readAt}
 use Rattle.records.specs.Told.{Told, nothing, withWeight, withEntry, withGiven, mayDeclare, mayEnter, mayGive, Turned, more, ended, taken, outcome, following, readFrom, parsed}
 use Rattle.records.specs.Parsing.{answerOf, Parses}
-use Rattle.records.specs.Text.{Written}
 use Rattle.records.specs.declared.Record.{Record}
 use Rattle.records.specs.declared.Record.the-variants.{Weight, Entry, Given, End, Malformed}
 use Rattle.records.specs.declared.parsing.Parsed.{Parsed}
@@ -23,9 +22,6 @@ use Rattle.records.proofs.Loop.{forward, nothing-within}
 
 pub parses-once : {s : List ℕ} {p p₁ p₂ : Told} {r₁ r₂ : Parsed} → Parses s p r₁ p₁ → Parses s p r₂ p₂ → (r₁ ≡ r₂) × (p₁ ≡ p₂)
 parses-once a b = (a .answer ∙ sym (b .answer), a .lists ∙ sym (b .lists))
-
-pub written-once : {text o o₁ o₂ : List ℕ} {r₁ r₂ : ℕ} → Written text o o₁ r₁ → Written text o o₂ r₂ → (r₁ ≡ r₂) × (o₁ ≡ o₂)
-written-once a b = (a .size ∙ sym (b .size), a .list ∙ sym (b .list))
 
 -- ---- within the limits
 

@@ -9,7 +9,7 @@ use lib.Dec.{ltb, eqb}
 use lib.ListN.{length, getD, set, drop, length-append, length-drop, length-set, List·getD-append}
 use lib.Seq.{drop-cons, set-at, set-append-left}
 use lib.Ieee.{Float}
-use Rattle.records.specs.Over.{over}
+use Rattle.scratch.specs.Over.{over}
 use Rattle.records.specs.Told.{Told, withWeight, withEntry, withGiven, mayDeclare, mayEnter, mayGive, Turned, more, ended, taken}
 use Rattle.records.specs.Parsing.{answerOf, listsOf, laid, Room, tally, stored, goOn, Noted, noted, note}
 use Rattle.records.specs.declared.Record.{Record}

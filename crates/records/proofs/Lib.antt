@@ -1,4 +1,3 @@
-pub mod Answers
 pub mod Finds
 pub mod Front
 pub mod Laid
@@ -6,6 +5,3 @@ pub mod Loop
 pub mod Means
 pub mod Notes
 pub mod Spelling
-pub mod Theorems
-pub mod Worked
-pub mod Writes

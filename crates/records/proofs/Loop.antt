@@ -8,7 +8,7 @@ use borrow.Author.Tests.{ltb-true}
 use lib.ListN.{length, getD, length-append, length-set}
 use lib.Ieee.{Float}
 use Rattle.endian.specs.Bytes.{numberAt, floatAt}
-use Rattle.records.specs.Over.{over}
+use Rattle.scratch.specs.Over.{over}
 use Rattle.records.specs.Reading.{readAt}
 use Rattle.records.specs.Told.{Told, nothing, withWeight, withEntry, withGiven, mayDeclare, mayEnter, mayGive, Turned, more, ended, taken, Outcome, outcome, following, readFrom, parsed}
 use Rattle.records.specs.Parsing.{answerOf, listsOf, laid, Room, Parses, tally, Noted, noted, note}

@@ -6,7 +6,7 @@ use mathlib.Core.List.{List}
 use lib.Dec.{eqb}
 use lib.ListN.{length, set}
 use lib.Ieee.{Float}
-use Rattle.records.specs.Over.{over}
+use Rattle.scratch.specs.Over.{over}
 use Rattle.records.specs.Told.{Told, mayDeclare, mayEnter, mayGive, parsed}
 use Rattle.records.specs.declared.Record.{Record}
 use Rattle.records.specs.declared.Record.the-variants.{Weight, Entry, Given, End, Malformed}

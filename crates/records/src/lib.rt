@@ -1,7 +1,5 @@
 // The record format of a field: records read from bytes, the field that they tell, and the text of an answer.
-pub mod answering;
 pub mod parsing;
-pub mod text;
 
 use endian::float;
 use endian::number;

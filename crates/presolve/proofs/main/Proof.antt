@@ -1,7 +1,7 @@
 -- The text that `main` writes lies within the bytes that it lent. Assumes nothing.
 use mathlib.Core.Path.{sym}
 use lib.Seq.{length-take-le}
-use Rattle.records.proofs.Answers.{written-fits}
+use Rattle.text.proofs.Writes.{written-fits}
 use borrow.Author.Needs.{needs}
 use Rattle.presolve.proofs.main.Statement.{statement}
 use Rattle.presolve.proofs.main.Tie as tie

@@ -4,7 +4,7 @@ use mathlib.Core.List.{List, _++_}
 use lib.ListN.{length, length-append}
 use mathlib.Core.Path.{sym}
 use lib.Seq.{length-take-le}
-use Rattle.records.proofs.Answers.{written-fits}
+use Rattle.text.proofs.Writes.{written-fits}
 use native.Mathlib.Omega.{arith}
 use borrow.Author.Needs.{needs}
 use Rattle.presolve_cases.proofs.answer_next.Statement.{statement}

@@ -1,0 +1,142 @@
+-- The answer's text from what its parts promise: the parsed field, the call `closure`, and the writers. Assumes nothing.
+use Prim.Native.Nat.{ℕ, _+_, _*_, _<_, _≤_}
+use mathlib.Core.Path.{_≡_, refl, sym, ap, _∙_}
+use mathlib.Core.Bool.{Bool, true, false, cond}
+use mathlib.Core.List.{List, [], _∷_, _++_, append-nil}
+use native.Mathlib.Omega.{arith}
+use lib.ListN.{length, take, drop, length-append, drop-of-length-le}
+use lib.Seq.{length-take-le}
+use lib.Ieee.{Float}
+use Rattle.field.specs.declared.Answer.{Answer}
+use Rattle.field.specs.declared.Answer.the-variants.{Done, Refused}
+use Rattle.field.specs.declared.Checked.{Checked}
+use Rattle.field.specs.declared.Checked.the-variants.{Passed, Failed}
+use Rattle.field.specs.declared.Grade.{Grade}
+use Rattle.field.specs.declared.Refusal.{Refusal}
+use Rattle.field.specs.declared.Refusal.the-variants.{Variables, Lists, Order, Diagonal, Weights, Start, Argument, Scratch, Room as NoRoom, Clash}
+use Rattle.field.specs.Answers.{numberOf}
+use Rattle.field.specs.Field.{Field, fieldOf, variables, entries}
+use Rattle.field.specs.Table.{Test, test, tested}
+use Rattle.field.specs.Tests.{floatsFit, wordsFit, standardTests, readyTests}
+use Rattle.field.proofs.Means.{floats-mean, words-mean}
+use Rattle.field.proofs.Table.{test-ok, none-left, group-no, group-ok}
+use Rattle.closure.specs.Call.{Left, left, leaves, closureCall}
+use Rattle.scratch.specs.Over.{over}
+use Rattle.records.specs.Told.{Told, parsed}
+use Rattle.records.specs.Parsing.{answerOf, Parses}
+use Rattle.text.specs.Text.{refusedText, answerText, Wrote, Written}
+use Rattle.answering.specs.Answer.{checkedText, fieldText, toldText, outcomeText, answerBytes, Enough, Fits}
+use Rattle.records.specs.declared.parsing.Parsed.{Parsed}
+use Rattle.records.specs.declared.parsing.Parsed.the-variants.{Field as Found, Malformed}
+use Rattle.records.proofs.Front.{field-whole, field-fronts}
+use Rattle.text.proofs.Writes.{written}
+
+-- ---- a refusal's number
+
+pub number-small : (r : Refusal) → numberOf r ≤ 10
+number-small Variables = omega arith
+number-small Lists = omega arith
+number-small Order = omega arith
+number-small Diagonal = omega arith
+number-small Weights = omega arith
+number-small Start = omega arith
+number-small Argument = omega arith
+number-small Scratch = omega arith
+number-small NoRoom = omega arith
+number-small Clash = omega arith
+
+pub refusal-small : {a : Answer} {r : Refusal} {n : ℕ} → a ≡ Refused r → n ≡ numberOf r → n < 1000
+refusal-small {r = r} e same = omega (arith, number-small r)
+
+-- ---- the field's text
+
+-- test 8 cannot fail where the scratch is as long as the table asks: then the tests 1 to 6 decide
+pub scratch-fits : (F : Field) (s : List ℕ) {f u : ℕ} → 8 * variables F + 4 * entries F + 16 ≤ f → 16 * variables F + 8 * entries F + 16 ≤ u
+    → tested (readyTests F s f u) ≡ tested (standardTests F s)
+unfolding readyTests
+scratch-fits F s {f} {u} floats words = go (tested (standardTests F s)) refl
+  where
+    eighth : List Test
+    eighth = test Scratch (floatsFit (variables F) (entries F) f) ∷ test Scratch (wordsFit (variables F) (entries F) u) ∷ []
+
+    passes : Passed ≡ tested eighth
+    passes = test-ok Scratch _ (floats-mean (variables F) (entries F) f .1 floats) (test-ok Scratch [] (words-mean (variables F) (entries F) u .1 words) none-left)
+
+    go : (k : Checked) → tested (standardTests F s) ≡ k → tested (standardTests F s ++ eighth) ≡ tested (standardTests F s)
+    go Passed e = sym (group-ok (standardTests F s) eighth e passes) ∙ sym e
+    go (Failed r) e = sym (group-no (standardTests F s) eighth e) ∙ sym e
+
+module _ (f : List Float) (u : List ℕ) {F : Field} {s v v′ : List ℕ} {f′ : List Float} {u′ : List ℕ} {k out : ℕ} {a : Answer}
+    (fits : Fits F s k) (enough : Enough (length f) (length u) out) (same : v ≡ s) (call : left a v′ f′ u′ ≡ closureCall F v f u) where
+  decided : left a v′ f′ u′ ≡ leaves (tested (standardTests F s)) F s f u
+  unfolding closureCall
+  decided =
+      let floats : 8 * variables F + 4 * entries F + 16 ≤ length f = omega (arith, fits .few-variables, fits .few-entries, enough .floats) in
+      let words : 16 * variables F + 8 * entries F + 16 ≤ length u = omega (arith, fits .few-variables, fits .few-entries, enough .words) in
+      call ∙ ap (λ (l : List ℕ). closureCall F l f u) same ∙ ap (λ (k : Checked). leaves k F s f u) (scratch-fits F s floats words)
+
+  pub done-text : {g : Grade} → a ≡ Done g → answerText g s v′ ≡ fieldText F s
+  unfolding fieldText checkedText leaves
+  done-text {g} e = by (tested (standardTests F s)) decided
+    where
+      by : (k : Checked) → left a v′ f′ u′ ≡ leaves k F s f u → answerText g s v′ ≡ checkedText k F s
+      by Passed q = cc (ap (λ (l : Left). l .answer) q, ap (λ (l : Left). l .values) q)
+      by (Failed r) q = let z : _≡_ {A = ℕ} 0 1 = cc (ap (λ (l : Left). l .answer) q) in absurd (omega arith)
+
+  pub refused-text : {r : Refusal} → a ≡ Refused r → refusedText (numberOf r) ≡ fieldText F s
+  unfolding fieldText checkedText leaves
+  refused-text {r} e = by (tested (standardTests F s)) decided
+    where
+      by : (k : Checked) → left a v′ f′ u′ ≡ leaves k F s f u → refusedText (numberOf r) ≡ checkedText k F s
+      by Passed q = let z : _≡_ {A = ℕ} 0 1 = cc (ap (λ (l : Left). l .answer) q) in absurd (omega arith)
+      by (Failed t) q = let z : r ≡ t = cc (ap (λ (l : Left). l .answer) q) in ap (λ (x : Refusal). refusedText (numberOf x)) z
+
+-- ---- the input's text
+
+-- within the limits, and each part of a list is as long as its count
+pub record Counted (n m : ℕ) (p : Told) : Type 0 where
+  pub few-variables : n ≤ 256
+  pub few-entries : m ≤ 1024
+  pub linear : n ≡ length (take n (p .linear))
+  pub rows : m ≡ length (take m (p .rows))
+  pub cols : m ≡ length (take m (p .cols))
+  pub quad : m ≡ length (take m (p .quad))
+  pub start : n ≡ length (take n (p .start))
+
+-- the field at the front of the lists
+abbrev pub frontField : ℕ → ℕ → Told → Field
+frontField n m p = fieldOf (take n (p .linear)) (take m (p .rows)) (take m (p .cols)) (take m (p .quad))
+
+module _ {s : List ℕ} {p p′ : Told} {r : Parsed} (done : Parses s p r p′) where
+  pub found-counted : {n m : ℕ} → r ≡ Found n m → Counted n m p′
+  found-counted e = let at = field-fronts done e in record {
+    few-variables = omega (arith, at .variables, at .within .few-variables);
+    few-entries = omega (arith, at .entries, at .within .few-entries);
+    linear = omega (arith, at .variables, ap length (at .linear));
+    rows = omega (arith, at .entries, ap length (at .rows), at .within .rows);
+    cols = omega (arith, at .entries, ap length (at .cols), at .within .cols);
+    quad = omega (arith, at .entries, ap length (at .quad));
+    start = omega (arith, at .variables, ap length (at .start), at .within .start);
+  }
+
+  pub front-fits : {n m : ℕ} (values : List ℕ) → r ≡ Found n m → 256 ≤ length values → Fits (frontField n m p′) (take n (p′ .start)) (length (take n values))
+  front-fits {n} {m} values e room = let counted = found-counted e in record {
+    few-variables = omega (arith, counted .linear, counted .few-variables);
+    few-entries = omega (arith, counted .quad, counted .few-entries);
+    start-long = omega (arith, counted .start, counted .linear);
+    values-long = omega (arith, counted .linear, length-take-le n values (omega (arith, counted .few-variables)));
+  }
+
+  pub field-text : {n m : ℕ} → r ≡ Found n m → fieldText (frontField n m p′) (take n (p′ .start)) ≡ answerBytes s
+  unfolding answerBytes
+  field-text e =
+      let at = field-fronts done e in
+      rw (at .linear, at .rows, at .cols, at .quad, at .start) (sym (ap outcomeText (field-whole done e)))
+
+  pub malformed-text : r ≡ Malformed → refusedText 11 ≡ answerBytes s
+  unfolding answerBytes
+  malformed-text e = by (parsed s .whole) (sym e ∙ done .answer)
+    where
+      by : (b : Bool) → Malformed ≡ answerOf b (parsed s .told) → refusedText 11 ≡ cond b (toldText (parsed s .told)) (refusedText 11)
+      by true q = let z : _≡_ {A = ℕ} 0 1 = cc in absurd (omega arith)
+      by false q = refl

@@ -1,0 +1,191 @@
+-- What the program answers, in plain words, and that the bytes that it reads decide it. Assumes nothing.
+use Prim.Native.Nat.{ℕ, zero, suc, _+_, _*_, _<_, _≤_}
+use mathlib.Core.Path.{_≡_, refl, sym, ap, _∙_}
+use mathlib.Core.Logic.{_≢_, _⊎_, inl, inr, _↔_}
+use mathlib.Core.Bool.{Bool, true, false, cond, true≢false}
+use mathlib.Core.List.{List, [], _∷_, _++_}
+use native.Mathlib.Omega.{arith}
+use borrow.Author.Tests.{ltb-true, ltb-false, lt-ltb}
+use lib.Dec.{eqb, ltb}
+use lib.Ieee.{binary64, ofBits}
+use lib.ListN.{length, getD, set, take, length-append, length-set}
+use lib.Seq.{take-all, length-take-le}
+use Rattle.meaning.specs.Free.{frees}
+use Rattle.meaning.proofs.Free.{frees-set}
+use Rattle.field.specs.declared.Checked.{Checked}
+use Rattle.field.specs.declared.Checked.the-variants.{Passed, Failed}
+use Rattle.field.specs.declared.Grade.{Grade}
+use Rattle.field.specs.declared.Grade.the-variants.{Exact, Inexact}
+use Rattle.field.specs.declared.Refusal.{Refusal}
+use Rattle.field.specs.declared.Refusal.the-variants.{Order, Diagonal, Weights}
+use Rattle.field.specs.Answers.{numberOf}
+use Rattle.field.specs.Field.{Field}
+use Rattle.field.specs.Grade.{gradeOf}
+use Rattle.field.specs.Table.{FirstToFail, fails, passes}
+use Rattle.field.specs.Tests.{shapeTests, standardTests, Sound}
+use Rattle.field.proofs.Means.{few-means, lists-mean, start-means, standard-passes}
+use Rattle.field.proofs.Table.{first-refuses}
+use Rattle.run.specs.Run.{closure}
+use Rattle.endian.specs.Bytes.{bytesOf}
+use Rattle.text.specs.Text.{decimal, refusedText, gradeLine, answerText}
+use Rattle.records.specs.Told.{Told, outcome, Outcome, parsed}
+use Rattle.records.specs.WellFormed.{Item, weight, entry, given, spell, spelled, tells, Fine, Tells, none, next, WellFormed}
+use Rattle.answering.specs.Answer.{checkedText, fieldText, fieldTold, toldText, outcomeText, answerBytes}
+use Rattle.answering.proofs.Answers.{number-small}
+use Rattle.records.proofs.Laid.{Within}
+use Rattle.records.proofs.Front.{parsed-within}
+use Rattle.records.proofs.Means.{parsed-means}
+
+-- ---- the answer
+
+-- a sound field and its start values: the grade, and what the closure forces
+pub sound-text : (t : Told) → Sound (fieldTold t) (t .start) → toldText t ≡ answerText (gradeOf (fieldTold t)) (t .start) (closure (fieldTold t) (t .start))
+unfolding fieldText checkedText
+sound-text t sound = rw (standard-passes (fieldTold t) (t .start) .1 sound)
+
+-- any other: the number of the first of the tests 1 to 6 that fails
+pub failed-text : (t : Told) {r : Refusal} → FirstToFail (standardTests (fieldTold t) (t .start)) r → toldText t ≡ refusedText (numberOf r)
+unfolding fieldText checkedText
+failed-text t first = rw (first-refuses first)
+
+-- a well-formed input has the text of what it tells, and any other is `refused 11`
+pub record Answered (s text : List ℕ) : Type 0 where
+  pub told : (u : Told) → WellFormed s u → text ≡ toldText u
+  pub other : ((u : Told) → WellFormed s u → ⊥) → text ≡ refusedText 11
+
+module _ (s : List ℕ) (bytes : (i : ℕ) → getD s i 0 < 256) where
+  -- THE ANSWER
+  pub answer-exactly : Answered s (answerBytes s)
+  unfolding answerBytes
+  answer-exactly = record {
+    told = λ u w. ap outcomeText (parsed-means s bytes u .1 w);
+    other = λ not-one. by not-one (parsed s .whole) refl;
+  }
+    where
+      by : ((u : Told) → WellFormed s u → ⊥) → (b : Bool) → parsed s .whole ≡ b → cond b (toldText (parsed s .told)) (refusedText 11) ≡ refusedText 11
+      by not-one true e = absurd (not-one (parsed s .told) (parsed-means s bytes (parsed s .told) .0 (ap (λ (b : Bool). outcome b (parsed s .told)) e)))
+      by not-one false e = refl
+
+-- ---- the longest input
+
+frees-push : (s : List ℕ) → frees (s ++ 2 ∷ []) ≡ frees s + 1
+unfolding frees
+frees-push [] = refl
+frees-push (v ∷ s) = by (eqb v 2) (frees-push s)
+  where
+    by : (b : Bool) → frees (s ++ 2 ∷ []) ≡ frees s + 1 → cond b (suc (frees (s ++ 2 ∷ []))) (frees (s ++ 2 ∷ [])) ≡ cond b (suc (frees s)) (frees s) + 1
+    by true e = omega arith
+    by false e = e
+
+-- 10 bytes for each weight, 14 for each entry and 5 for each value given
+abbrev bulk : Told → ℕ → ℕ
+bulk t left = 10 * length (t .linear) + 14 * length (t .quad) + 5 * length (t .start) + 5 * left
+
+item-size : (t : Told) (i : Item) → Fine t i → length (spell i) + bulk t (frees (tells i t .start)) ≡ bulk (tells i t) (frees (t .start))
+unfolding spell bytesOf tells Fine
+item-size t (weight bits) f =
+    omega (arith, length-append (t .start) (2 ∷ []), frees-push (t .start), length-append (t .linear) (ofBits binary64 bits ∷ []))
+item-size t (entry row col bits) f = omega (arith, length-append (t .quad) (ofBits binary64 bits ∷ []))
+item-size t (given v b) f = omega (arith, length-set (t .start) v b, frees-set (t .start) v b (f .2) (f .3))
+
+size : {t u : Told} {items : List Item} → Tells t items u → length (spelled items) + bulk t (frees (u .start)) ≡ 2 + bulk u (frees (t .start))
+unfolding spelled
+size none = omega arith
+size (next {t} {u} {i} {is} f rest) = omega (arith, size rest, item-size t i f, length-append (spell i) (spelled is))
+
+module _ (s : List ℕ) (bytes : (i : ℕ) → getD s i 0 < 256) where
+  told-within : (u : Told) → WellFormed s u → Within u
+  told-within u w = let told : parsed s .told ≡ u = ap (λ (o : Outcome). o .told) (parsed-means s bytes u .1 w) in rw told at (parsed-within s)
+
+  -- 256 weights, 1,024 entries and 256 given values
+  pub longest : (u : Told) → WellFormed s u → length s ≤ 18178
+  unfolding frees
+  longest u w = let within = told-within u w in omega (arith, size (w .told), ap length (w .bytes), within .few-variables, within .few-entries, within .start)
+
+  longer : 18178 < length s → answerBytes s ≡ refusedText 11
+  longer long = answer-exactly s bytes .other (λ u w. omega (arith, longest u w))
+
+take-bytes : (n : ℕ) (s : List ℕ) → ((i : ℕ) → getD s i 0 < 256) → (i : ℕ) → getD (take n s) i 0 < 256
+take-bytes zero s bytes i = omega arith
+take-bytes (suc n) [] bytes i = omega arith
+take-bytes (suc n) (x ∷ s) bytes zero = bytes zero
+take-bytes (suc n) (x ∷ s) bytes (suc i) = take-bytes n s (λ j. bytes (suc j)) i
+
+-- one byte more than the longest well-formed input decides: what follows changes nothing
+pub answer-decided : (s : List ℕ) → ((i : ℕ) → getD s i 0 < 256) → (n : ℕ) → 18178 < n → answerBytes (take n s) ≡ answerBytes s
+answer-decided s bytes n enough = by (ltb n (length s)) refl
+  where
+    by : (b : Bool) → ltb n (length s) ≡ b → answerBytes (take n s) ≡ answerBytes s
+    by true e =
+        let cut : n < length s = ltb-true n (length s) e in
+        longer (take n s) (take-bytes n s bytes) (omega (arith, length-take-le n s (omega arith))) ∙ sym (longer s bytes (omega arith))
+    by false e = ap answerBytes (take-all n s (ltb-false n (length s) e))
+
+-- ---- which numbers are printed
+
+-- a byte that a record gives is 0 or 1, and any other is 2
+push-small : (s : List ℕ) → ((i : ℕ) → getD s i 0 ≤ 2) → (i : ℕ) → getD (s ++ 2 ∷ []) i 0 ≤ 2
+push-small [] h zero = omega arith
+push-small [] h (suc i) = omega arith
+push-small (x ∷ s) h zero = h zero
+push-small (x ∷ s) h (suc i) = push-small s (λ j. h (suc j)) i
+
+set-small : (s : List ℕ) (v b : ℕ) → b < 2 → ((i : ℕ) → getD s i 0 ≤ 2) → (i : ℕ) → getD (set s v b) i 0 ≤ 2
+set-small [] v b small h i = omega arith
+set-small (x ∷ s) zero b small h zero = omega arith
+set-small (x ∷ s) zero b small h (suc i) = h (suc i)
+set-small (x ∷ s) (suc v) b small h zero = h zero
+set-small (x ∷ s) (suc v) b small h (suc i) = set-small s v b small (λ j. h (suc j)) i
+
+item-small : (t : Told) (i : Item) → Fine t i → ((k : ℕ) → getD (t .start) k 0 ≤ 2) → (k : ℕ) → getD (tells i t .start) k 0 ≤ 2
+unfolding tells Fine
+item-small t (weight bits) f h = push-small (t .start) h
+item-small t (entry row col bits) f h = h
+item-small t (given v b) f h = set-small (t .start) v b (f .3) h
+
+start-small : {t u : Told} {items : List Item} → Tells t items u → ((k : ℕ) → getD (t .start) k 0 ≤ 2) → (k : ℕ) → getD (u .start) k 0 ≤ 2
+start-small none h = h
+start-small (next {t} {u} {i} f rest) h = start-small rest (item-small t i f h)
+
+-- the limits of records are narrower than those of tests 1 and 2, and their start values pass test 6
+pub only-three : (s : List ℕ) → ((i : ℕ) → getD s i 0 < 256) → (u : Told) {r : Refusal} → WellFormed s u → FirstToFail (standardTests (fieldTold u) (u .start)) r
+    → (r ≡ Order) ⊎ ((r ≡ Diagonal) ⊎ (r ≡ Weights))
+unfolding standardTests shapeTests
+only-three s bytes u w first = by first
+  where
+    within : Within u
+    within = told-within s bytes u w
+
+    never : {A : Type 0} {b : Bool} → b ≡ true → b ≡ false → A
+    never p q = absurd (true≢false (sym p ∙ q))
+
+    by : {r : Refusal} → FirstToFail (standardTests (fieldTold u) (u .start)) r → (r ≡ Order) ⊎ ((r ≡ Diagonal) ⊎ (r ≡ Weights))
+    by (fails e) = never (few-means (length (u .linear)) .1 (omega (arith, within .few-variables))) e
+    by (passes _ (fails e)) = never (lists-mean (u .rows) (u .cols) (u .quad) .1 (within .rows, (within .cols, omega (arith, within .few-entries)))) e
+    by (passes _ (passes _ (fails e))) = inl refl
+    by (passes _ (passes _ (passes _ (fails e)))) = inr (inl refl)
+    by (passes _ (passes _ (passes _ (passes _ (fails e))))) = inr (inr refl)
+    by (passes _ (passes _ (passes _ (passes _ (passes _ (fails e)))))) =
+        never (start-means (length (u .linear)) (u .start) .1 (record { long = within .start; small = start-small (w .told) (λ k. omega arith) })) e
+
+-- the second byte after `refused ` tells 11 from any number of the table
+not-eleven : (k : Checked) (F : Field) (s : List ℕ) → checkedText k F s ≢ refusedText 11
+unfolding checkedText answerText gradeLine refusedText decimal
+not-eleven Passed F s e = by (gradeOf F) (ap (λ (l : List ℕ). getD l 0 0) e)
+  where
+    by : (g : Grade) → getD (answerText g s (closure F s)) 0 0 ≡ 114 → ⊥
+    by Exact q = omega arith
+    by Inexact q = omega arith
+not-eleven (Failed r) F s e = by (numberOf r) (number-small r) (ap (λ (l : List ℕ). getD l 9 0) e)
+  where
+    by : (n : ℕ) → n ≤ 10 → getD (refusedText n) 9 0 ≡ 49 → ⊥
+    by n few q = go (ltb n 10) refl
+      where
+        go : (b : Bool) → ltb n 10 ≡ b → ⊥
+        go true l = let below : n < 10 = ltb-true n 10 l in omega (arith, simp (lt-ltb n 10 below) at q)
+        go false l = let ten : n ≡ 10 = omega (arith, ltb-false n 10 l) in omega (arith, rw ten at q)
+
+-- `refused 11` is printed exactly if the input is not well-formed
+pub eleven-exactly : (s : List ℕ) → ((i : ℕ) → getD s i 0 < 256) → (answerBytes s ≡ refusedText 11) ↔ ((u : Told) → WellFormed s u → ⊥)
+unfolding fieldText
+eleven-exactly s bytes = ((λ e u w. not-eleven _ (fieldTold u) (u .start) (sym (answer-exactly s bytes .told u w) ∙ e)), answer-exactly s bytes .other)

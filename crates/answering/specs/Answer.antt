@@ -1,0 +1,54 @@
+-- What the program answers to each input (document 01, "The record program"), as one function of its bytes. Assumes nothing.
+use Prim.Native.Nat.{ℕ, _≤_}
+use mathlib.Core.Path.{_≡_}
+use mathlib.Core.Bool.{cond}
+use mathlib.Core.List.{List}
+use lib.ListN.{length}
+use Rattle.field.specs.declared.Checked.{Checked}
+use Rattle.field.specs.declared.Checked.the-variants.{Passed, Failed}
+use Rattle.field.specs.Answers.{numberOf}
+use Rattle.field.specs.Field.{Field, fieldOf, variables, entries}
+use Rattle.field.specs.Grade.{gradeOf}
+use Rattle.field.specs.Table.{tested}
+use Rattle.field.specs.Tests.{standardTests}
+use Rattle.run.specs.Run.{closure}
+use Rattle.text.specs.Text.{refusedText, answerText}
+use Rattle.records.specs.Told.{Told, Outcome, parsed}
+
+-- "any other refusal `refused` and its number. Otherwise it runs the closure", prints the grade first, and shows what was forced
+unfoldable pub checkedText : Checked → Field → List ℕ → List ℕ
+checkedText Passed F s = answerText (gradeOf F) s (closure F s)
+checkedText (Failed r) F s = refusedText (numberOf r)
+
+-- the first of the tests 1 to 6 that fails decides
+unfoldable pub fieldText : Field → List ℕ → List ℕ
+fieldText F s = checkedText (tested (standardTests F s)) F s
+
+-- the field that is told, and the text for it and its start values
+abbrev pub fieldTold : Told → Field
+fieldTold t = fieldOf (t .linear) (t .rows) (t .cols) (t .quad)
+
+abbrev pub toldText : Told → List ℕ
+toldText t = fieldText (fieldTold t) (t .start)
+
+-- an input that is not well-formed "prints `refused 11`"
+abbrev pub outcomeText : Outcome → List ℕ
+outcomeText o = cond (o .whole) (toldText (o .told)) (refusedText 11)
+
+unfoldable pub answerBytes : List ℕ → List ℕ
+answerBytes s = outcomeText (parsed s)
+
+-- ---- the memory that any input can need: 256 variables, 1,024 entries, and the longest text
+
+-- 8 * 256 + 4 * 1024 + 16 floats, 16 * 256 + 8 * 1024 + 16 words, and 22 + 10 * 256 bytes of text
+pub record Enough (f u out : ℕ) : Type 0 where
+  pub floats : 6160 ≤ f
+  pub words : 12304 ≤ u
+  pub text : 2582 ≤ out
+
+-- a field and its start values within these limits, and a byte for each value
+pub record Fits (F : Field) (s : List ℕ) (values : ℕ) : Type 0 where
+  pub few-variables : variables F ≤ 256
+  pub few-entries : entries F ≤ 1024
+  pub start-long : length s ≡ variables F
+  pub values-long : values ≡ variables F

@@ -1,0 +1,102 @@
+// The whole answer: the field that an input tells, its closure, and their text.
+use records::parsing::Parsed;
+use records::parsing::parse;
+use text::put_bytes;
+use text::write_answer;
+use text::write_refused;
+use field::Answer;
+ghost use Prim.Native.Nat.{_≤_};
+ghost use lib.ListN.{length};
+ghost use Rattle.scratch.specs.Lent.{before, after};
+ghost use Rattle.field.specs.Field.{lent, given};
+ghost use Rattle.text.specs.Text.{Written};
+ghost use Rattle.records.specs.Parsing.{listsOf, Room};
+ghost use Rattle.answering.specs.Answer.{Enough, Fits, fieldText, answerBytes};
+
+// The closure works on a copy: the start values say which variables were given.
+fn answer_field(
+    c: &[f64],
+    rows: &[u16],
+    cols: &[u16],
+    q: &[f64],
+    start: &[u8],
+    values: &mut [u8],
+    f: &mut [f64],
+    u: &mut [u32],
+    out: &mut [u8],
+) -> usize
+    requires { ⌜ Fits (lent c rows cols q) (now start) (length (now values)) ⌝ }
+    requires { ⌜ Enough (length (now f)) (length (now u)) (length (now out)) ⌝ }
+    ensures { λ r. ⌜ Written (fieldText (given c rows cols q) (before start)) (before out) (after out) r ⌝ }
+{
+    put_bytes(values, 0, start);
+    let answer = closure::closure(c, rows, cols, q, values, f, u);
+    match answer {
+        Answer::Done(grade) => write_answer(grade, start, values, out),
+        Answer::Refused(refusal) => write_refused(scratch::wide_word(refusal.number()), out),
+    }
+}
+
+// The field lies at the front of the lists, with room for the largest.
+fn answer_in(
+    bytes: &[u8],
+    c: &mut [f64],
+    rows: &mut [u16],
+    cols: &mut [u16],
+    q: &mut [f64],
+    start: &mut [u8],
+    values: &mut [u8],
+    f: &mut [f64],
+    u: &mut [u32],
+    out: &mut [u8],
+) -> usize
+    requires { ⌜ Room (listsOf (now c) (now rows) (now cols) (now q) (now start)) ⌝ }
+    requires { ⌜ 256 ≤ length (now values) ⌝ }
+    requires { ⌜ Enough (length (now f)) (length (now u)) (length (now out)) ⌝ }
+    ensures { λ r. ⌜ Written (answerBytes (before bytes)) (before out) (after out) r ⌝ }
+{
+    let parsed = parse(bytes, c, rows, cols, q, start);
+    match parsed {
+        Parsed::Field {
+            variables: n,
+            entries: m,
+        } => answer_field(
+            &c[..n],
+            &rows[..m],
+            &cols[..m],
+            &q[..m],
+            &start[..n],
+            &mut values[..n],
+            f,
+            u,
+            out,
+        ),
+        Parsed::Malformed => write_refused(11, out),
+    }
+}
+
+// The text for an input, at the front of `out`, which has room for any: 22 bytes for the grade and the end, and 10 for each of 256 x lines.
+pub fn answer(bytes: &[u8], out: &mut [u8; 2582]) -> usize
+    ensures { λ r. ⌜ Written (answerBytes (before bytes)) (before out) (after out) r ⌝ }
+{
+    let mut c = [0.0; 256];
+    let mut rows = [0u16; 1024];
+    let mut cols = [0u16; 1024];
+    let mut q = [0.0; 1024];
+    let mut start = [0u8; 256];
+    let mut values = [0u8; 256];
+    let mut f = [0.0; 6160];
+    let mut u = [0u32; 12304];
+    answer_in(
+        bytes,
+        &mut c,
+        &mut rows,
+        &mut cols,
+        &mut q,
+        &mut start,
+        &mut values,
+        &mut f,
+        &mut u,
+        out,
+    )
+}
