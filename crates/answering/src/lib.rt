@@ -1,10 +1,10 @@
 // The whole answer: the field that an input tells, its closure, and their text.
+use field::Answer;
 use records::parsing::Parsed;
 use records::parsing::parse;
 use text::put_bytes;
 use text::write_answer;
 use text::write_refused;
-use field::Answer;
 ghost use Prim.Native.Nat.{_≤_};
 ghost use lib.ListN.{length};
 ghost use Rattle.scratch.specs.Lent.{before, after};
