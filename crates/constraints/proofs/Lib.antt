@@ -1,0 +1,5 @@
+pub mod Codes
+pub mod Order
+pub mod Sorted
+pub mod Triples
+pub mod Numbers

@@ -1,0 +1,4 @@
+pub mod Codes
+pub mod Triple
+pub mod Sorted
+pub mod Keys
