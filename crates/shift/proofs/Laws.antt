@@ -1,0 +1,22 @@
+-- From the tests to the answer: what the call leaves where a test fails, and where none does. Assumes nothing.
+use Prim.Native.Nat.{ℕ}
+use mathlib.Core.Path.{_≡_, ap}
+use Rattle.field.specs.declared.Counted.the-variants.{Counts, Refuses}
+use Rattle.field.specs.declared.Checked.the-variants.{Passed, Failed}
+use Rattle.field.specs.declared.Grade.{Grade}
+use Rattle.field.specs.declared.Refusal.{Refusal}
+use Rattle.field.specs.Field.{Field}
+use Rattle.field.specs.Table.{tested}
+use Rattle.field.specs.Tests.{looseTests}
+use Rattle.field.specs.Grade.{gradeOf}
+use Rattle.shift.specs.Closing.{Closing, closing, closed}
+use Rattle.shift.specs.Call.{left, leaves, shiftCall}
+
+module _ (F : Field) where
+  pub refused-call : {r : Refusal} → tested (looseTests F) ≡ Failed r → left (Refuses r) F ≡ shiftCall F
+  unfolding shiftCall leaves
+  refused-call e = rw e
+
+  pub done-call : {g : Grade} {G : Field} {m : ℕ} → tested (looseTests F) ≡ Passed → g ≡ gradeOf F → closing G m ≡ closed F → left (Counts g m) G ≡ shiftCall F
+  unfolding shiftCall leaves
+  done-call e eg ec = rw (e, eg, ← ec)

@@ -1,0 +1,64 @@
+-- The loop over the entries: where it stands after k of them, and how it starts, turns and ends. Assumes nothing.
+use Prim.Native.Nat.{ℕ, suc, _+_, _<_, _≤_}
+use mathlib.Core.Path.{_≡_, refl, sym, ap, _∙_}
+use mathlib.Core.List.{List, map}
+use native.Mathlib.Nat.{le-antisymm}
+use native.Mathlib.Numerals.{add-one}
+use native.Mathlib.Omega.{arith}
+use lib.ListN.{length, getD, length-map}
+use lib.Ieee.{Float, nan}
+use Rattle.field.specs.Field.{Field, fieldOf, variables, entries, rowEnd, columnEnd, quadOf, Shaped}
+use Rattle.shift.specs.Closing.{Closable, linearTo, keptTo, upFront, Closing, closing, closedTo, closed, closeAt}
+use Rattle.shift.proofs.Turns.{front-long, front-past, kept-few, linear-long, closes-one}
+
+-- the lists G with m entries kept are what the first k entries of F leave, and as long as they were
+pub record Stands (F : Field) (k : ℕ) (G : Field) (m : ℕ) : Type 0 where
+  pub within : k ≤ entries F
+  pub is : closing G m ≡ closedTo F k
+  pub linear-same : length (G .linear) ≡ length (F .linear)
+  pub rows-same : length (G .rows) ≡ length (F .rows)
+  pub cols-same : length (G .cols) ≡ length (F .cols)
+  pub quad-same : length (G .quad) ≡ length (F .quad)
+
+module _ {F : Field} (S : Shaped F) where
+  stands : {k m : ℕ} {G : Field} → k ≤ entries F → closing G m ≡ closedTo F k → Stands F k G m
+  unfolding closedTo
+  stands {k} {m} {G} h e = record {
+    within = h;
+    is = e;
+    linear-same = ap (λ (x : Closing). length (x .lists .linear)) e ∙ linear-long F k;
+    rows-same = ap (λ (x : Closing). length (x .lists .rows)) e ∙ same (rowEnd F) (F .rows) (omega (arith, S .rows-long));
+    cols-same = ap (λ (x : Closing). length (x .lists .cols)) e ∙ same (columnEnd F) (F .cols) (omega (arith, S .cols-long));
+    quad-same = ap (λ (x : Closing). length (x .lists .quad)) e ∙ same (quadOf F) (F .quad) h;
+  }
+    where
+      same : {A : Type 0} (g : ℕ → A) (old : List A) → k ≤ length old → length (upFront (map g (keptTo F k)) old) ≡ length old
+      same g old l = front-long (map g (keptTo F k)) old (omega (arith, length-map (keptTo F k) g, kept-few F k))
+
+  pub stands-start : Stands F 0 F 0
+  unfolding closedTo linearTo keptTo
+  stands-start = record { within = omega arith; is = refl; linear-same = refl; rows-same = refl; cols-same = refl; quad-same = refl }
+
+  -- the next entry is as it was given
+  pub stands-ready : {k m : ℕ} {G : Field} → Stands F k G m → k < entries F → Closable k m G
+  unfolding closedTo
+  stands-ready {k} {m} {G} s h = record {
+    behind = rw (ap (λ (x : Closing). x .kept) (s .is)) (kept-few F k);
+    few = omega (arith, S .few-entries);
+    in-rows = omega (arith, s .rows-same, S .rows-long);
+    in-cols = omega (arith, s .cols-same, S .cols-long);
+    in-quad = omega (arith, s .quad-same);
+    row-below =
+        let e : getD (G .rows) k 0 ≡ rowEnd F k = ap (λ (x : Closing). getD (x .lists .rows) k 0) (s .is)
+            ∙ front-past (map (rowEnd F) (keptTo F k)) (F .rows) k 0 (omega (arith, length-map (keptTo F k) (rowEnd F), kept-few F k)) in
+        omega (arith, S .row-below k h, s .linear-same);
+  }
+
+  pub stands-turn : {k m m′ : ℕ} {G G′ : Field} → Stands F k G m → k < entries F → closing G′ m′ ≡ closeAt k (closing G m) → Stands F (k + 1) G′ m′
+  stands-turn {k} s h e =
+      rw add-one
+      (stands (omega arith) (e ∙ ap (closeAt k) (s .is) ∙ closes-one F k (omega (arith, S .rows-long)) (omega (arith, S .cols-long)) h))
+
+  pub stands-done : {k m : ℕ} {G : Field} → Stands F k G m → entries F ≤ k → closing G m ≡ closed F
+  unfolding closed
+  stands-done s h = s .is ∙ ap (closedTo F) (le-antisymm (s .within) h)

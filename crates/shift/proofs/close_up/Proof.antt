@@ -1,0 +1,61 @@
+-- `close_up` closes up one entry a turn. Assumes nothing.
+use Prim.Native.Nat.{_-_}
+use native.Mathlib.Omega.{arith}
+use Rattle.field.specs.Field.{fieldOf}
+use Rattle.shift.proofs.Loop.{Stands, stands-start, stands-ready, stands-turn, stands-done}
+use borrow.Author.Needs.{needs}
+use Rattle.shift.proofs.close_up.Statement.{statement}
+use Rattle.shift.proofs.close_up.Tie as tie
+
+abbrev Inv-loop : tie.InvT-loop
+Inv-loop c₀ rows₀ cols₀ q₀ kept₀ k₀ k-end c rows cols q kept k = Stands (fieldOf c₀ rows₀ cols₀ q₀) k (fieldOf c rows cols q) kept
+
+abbrev μ-loop : tie.MeasureT-loop
+μ-loop c₀ rows₀ cols₀ q₀ kept₀ k₀ k-end c rows cols q kept k = k-end - k
+
+loop-holds : tie.Need-loop-holds Inv-loop μ-loop
+loop-holds c = stands-start (c .before .before .before .before .pre .shaped)
+
+close-at-requires : tie.Need-close-at-requires Inv-loop μ-loop
+close-at-requires c κs = stands-ready (c .before .before .before .before .before .before .before .before .before .before .pre .shaped) (c .before .before .before .before .before .loop .inv) (c .before .before .before .before .loop-test .taken)
+
+add-k : tie.Need-add-k Inv-loop μ-loop
+add-k c = search needs
+
+loop-less : tie.Need-loop-less Inv-loop μ-loop
+loop-less c = omega arith
+
+loop-again : tie.Need-loop-again Inv-loop μ-loop
+loop-again c = stands-turn (c .before .before .before .before .before .before .before .before .before .before .before .before .before .before .before .before .before .before .before .pre .shaped) (c .before .before .before .before .before .before .before .before .before .before .before .before .before .before .loop .inv) (c .before .before .before .before .before .before .before .before .before .before .before .before .before .loop-test .taken) (c .before .before .before .before .before .before .before .before .close-at .ensures)
+
+same-length : tie.Need-same-length Inv-loop μ-loop
+same-length c = omega arith
+
+same-length-2 : tie.Need-same-length-2 Inv-loop μ-loop
+same-length-2 c = omega arith
+
+same-length-3 : tie.Need-same-length-3 Inv-loop μ-loop
+same-length-3 c = omega arith
+
+same-length-4 : tie.Need-same-length-4 Inv-loop μ-loop
+same-length-4 c = omega arith
+
+returns : tie.Need-returns Inv-loop μ-loop
+returns c = stands-done (c .before .before .before .before .before .before .pre .shaped) (c .before .loop .inv) (omega arith)
+
+pub close-up-spec : {M : Type 1} → statement M
+close-up-spec =
+    tie.close
+    (tie.spec
+    Inv-loop
+    μ-loop
+    loop-holds
+    close-at-requires
+    add-k
+    loop-less
+    loop-again
+    same-length
+    same-length-2
+    same-length-3
+    same-length-4
+    returns)

@@ -1,0 +1,72 @@
+-- `shift` tests, grades and closes up. Assumes nothing.
+use mathlib.Core.Path.{sym, _∙_}
+use Rattle.field.proofs.Means.{loose-passes}
+use Rattle.shift.proofs.Laws.{refused-call, done-call}
+use borrow.Author.Needs.{needs}
+use Rattle.shift.proofs.shift.Statement.{statement}
+use Rattle.shift.proofs.shift.Tie as tie
+
+loose-requires : tie.Need-loose-requires
+loose-requires c κs = search needs
+
+enum-known-checked : tie.Need-enum-known-checked
+enum-known-checked c = search needs
+
+same-length : tie.Need-same-length
+same-length c = search needs
+
+same-length-2 : tie.Need-same-length-2
+same-length-2 c = search needs
+
+same-length-3 : tie.Need-same-length-3
+same-length-3 c = search needs
+
+same-length-4 : tie.Need-same-length-4
+same-length-4 c = search needs
+
+returns : tie.Need-returns
+returns c = refused-call _ (sym (c .before .before .before .loose .ensures) ∙ c .before .checked .given .1)
+
+enum-told : tie.Need-enum-told
+enum-told c = search needs
+
+graded-requires : tie.Need-graded-requires
+graded-requires c κs = let shaped = loose-passes _ .0 (sym (c .before .before .before .before .before .before .loose .ensures) ∙ c .before .before .before .before .enum-told .given .1) .shaped in shaped .rows-long ∙ sym (shaped .cols-long)
+
+close-up-requires : tie.Need-close-up-requires
+close-up-requires c κs = loose-passes _ .0 (sym (c .before .before .before .before .before .before .before .before .before .before .before .loose .ensures) ∙ c .before .before .before .before .before .before .before .before .before .enum-told .given .1)
+
+same-length-5 : tie.Need-same-length-5
+same-length-5 c = search needs
+
+same-length-6 : tie.Need-same-length-6
+same-length-6 c = search needs
+
+same-length-7 : tie.Need-same-length-7
+same-length-7 c = search needs
+
+same-length-8 : tie.Need-same-length-8
+same-length-8 c = search needs
+
+returns-2 : tie.Need-returns-2
+returns-2 c = done-call _ (sym (c .before .before .before .before .before .before .before .before .before .before .before .before .before .before .before .before .before .before .before .before .loose .ensures) ∙ c .before .before .before .before .before .before .before .before .before .before .before .before .before .before .before .before .before .before .enum-told .given .1) (c .before .before .before .before .before .before .before .before .before .before .before .before .before .graded .ensures) (c .before .before .before .before .before .before .before .before .close-up .ensures)
+
+pub shift-spec : {M : Type 1} → statement M
+shift-spec =
+    tie.close
+    (tie.spec
+    loose-requires
+    enum-known-checked
+    same-length
+    same-length-2
+    same-length-3
+    same-length-4
+    returns
+    enum-told
+    graded-requires
+    close-up-requires
+    same-length-5
+    same-length-6
+    same-length-7
+    same-length-8
+    returns-2)

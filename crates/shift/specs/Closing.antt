@@ -1,0 +1,84 @@
+-- How a field's diagonal goes into its linear weights, entry by entry (document 01, `shift_qubo`): "entries close up in place, 0.5q of a
+-- diagonal goes into c, the new m is returned, places past it are unchanged". Assumes nothing.
+use Prim.Native.Nat.{ℕ, zero, suc, _+_, _<_, _≤_}
+use mathlib.Core.Path.{_≡_}
+use mathlib.Core.Bool.{Bool, cond}
+use mathlib.Core.List.{List, [], _∷_, _++_, map}
+use lib.Dec.{eqb}
+use lib.ListN.{length, getD, set, drop}
+use lib.Ieee.{Float, nan, binary64, add, mul}
+use denote.Ref.{RefT}
+use denote.Triple.Both.{Both}
+use Rattle.weights.specs.Worth.{half64}
+use Rattle.scratch.specs.Lent.{after}
+use Rattle.field.specs.Field.{Field, fieldOf, variables, entries, rowEnd, columnEnd, quadOf}
+
+-- ---- what is promised
+
+-- whether entry k has its row equal to its column
+abbrev pub onDiagonal : Field → ℕ → Bool
+onDiagonal F k = eqb (rowEnd F k) (columnEnd F k)
+
+-- "0.5q of a diagonal goes into c"
+abbrev pub intoLinear : Field → ℕ → List Float → List Float
+intoLinear F k c = set c (rowEnd F k) (add binary64 (getD c (rowEnd F k) nan) (mul binary64 half64 (quadOf F k)))
+
+-- the linear weights after the first k entries
+unfoldable pub linearTo : Field → ℕ → List Float
+linearTo F zero = F .linear
+linearTo F (suc k) = cond (onDiagonal F k) (intoLinear F k (linearTo F k)) (linearTo F k)
+
+-- of the first k entries, the positions of those off the diagonal, in order
+unfoldable pub keptTo : Field → ℕ → List ℕ
+keptTo F zero = []
+keptTo F (suc k) = cond (onDiagonal F k) (keptTo F k) (keptTo F k ++ k ∷ [])
+
+-- "entries close up in place", "places past it are unchanged"
+abbrev pub upFront : {A : Type 0} → List A → List A → List A
+upFront new old = new ++ drop (length new) old
+
+-- four lists, and how many entries are kept at their front
+pub record Closing : Type 0 where
+  pub lists : Field
+  pub kept : ℕ
+
+abbrev pub closing : Field → ℕ → Closing
+closing G m = record { lists = G; kept = m }
+
+-- after the first k entries
+unfoldable pub closedTo : Field → ℕ → Closing
+closedTo F k =
+    closing
+    (fieldOf
+    (linearTo F k)
+    (upFront (map (rowEnd F) (keptTo F k)) (F .rows))
+    (upFront (map (columnEnd F) (keptTo F k)) (F .cols))
+    (upFront (map (quadOf F) (keptTo F k)) (F .quad)))
+    (length (keptTo F k))
+
+-- after all of them
+unfoldable pub closed : Field → Closing
+closed F = closedTo F (entries F)
+
+-- ---- one entry
+
+-- entry k as it stands in the lists: half of it goes into c, or it moves up
+unfoldable pub closeAt : ℕ → Closing → Closing
+closeAt k s =
+    let G = s .lists in
+    cond (onDiagonal G k)
+    (closing (fieldOf (intoLinear G k (G .linear)) (G .rows) (G .cols) (G .quad)) (s .kept))
+    (closing (fieldOf (G .linear) (set (G .rows) (s .kept) (rowEnd G k)) (set (G .cols) (s .kept) (columnEnd G k)) (set (G .quad) (s .kept) (quadOf G k))) (s .kept + 1))
+
+-- entry k is there, its row is a variable, and no more are kept than came before it
+pub record Closable (k kept : ℕ) (G : Field) : Type 0 where
+  pub behind : kept ≤ k
+  pub few : k ≤ 32768
+  pub in-rows : k < length (G .rows)
+  pub in-cols : k < length (G .cols)
+  pub in-quad : k < length (G .quad)
+  pub row-below : rowEnd G k < variables G
+
+-- a word for contracts: the field behind four slices, after a call
+abbrev pub leftBehind : {W X Y Z : Type 0} → Both W (RefT (List Float)) → Both X (RefT (List ℕ)) → Both Y (RefT (List ℕ)) → Both Z (RefT (List Float)) → Field
+leftBehind c rows cols q = fieldOf (after c) (after rows) (after cols) (after q)
