@@ -1,0 +1,13 @@
+pub mod Listed
+pub mod Going
+pub mod Walking
+pub mod Rest
+pub mod Partition
+pub mod Cells
+pub mod Moves
+pub mod Turns
+pub mod Marks
+pub mod Calls
+pub mod Unique
+pub mod Theorems
+pub mod Worked

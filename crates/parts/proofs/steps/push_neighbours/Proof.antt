@@ -1,0 +1,117 @@
+-- `push_neighbours` is the model's fold over the places of a variable. Assumes nothing.
+use Prim.Native.Nat.{_-_}
+use native.Mathlib.Omega.{arith}
+use Rattle.field.specs.Field.{fieldOf}
+use Rattle.places.proofs.Walk.{walk-turn}
+use Rattle.parts.specs.Cells.{cells}
+use Rattle.parts.proofs.Turns.{Serving, serve-start, serve-turn, serve-done}
+use borrow.Author.Needs.{needs}
+use Rattle.parts.proofs.steps.push_neighbours.Statement.{statement}
+use Rattle.parts.proofs.steps.push_neighbours.Tie as tie
+
+abbrev Inv-loop : tie.InvT-loop
+Inv-loop c rows cols q zeros u₀ top i n start end last₀ p₀ u last p = Serving (fieldOf c rows cols q) zeros i end p (cells u₀ top) (cells u last)
+
+abbrev μ-loop : tie.MeasureT-loop
+μ-loop c rows cols q zeros u₀ top i n start end last₀ p₀ u last p = end - p
+
+mul-wide-word : tie.Need-mul-wide-word Inv-loop μ-loop
+mul-wide-word c = search needs
+
+slice-read-wide-word : tie.Need-slice-read-wide-word Inv-loop μ-loop
+slice-read-wide-word c =
+    let start = c .before .before .before .before .before .before in
+    omega (arith, start .pre .0 .words-room, start .pre .1)
+
+wide-word-requires : tie.Need-wide-word-requires Inv-loop μ-loop
+wide-word-requires c κs = search needs
+
+add-wide-word : tie.Need-add-wide-word Inv-loop μ-loop
+add-wide-word c = search needs
+
+mul-wide-word-2 : tie.Need-mul-wide-word-2 Inv-loop μ-loop
+mul-wide-word-2 c = search needs
+
+slice-read-wide-word-2 : tie.Need-slice-read-wide-word-2 Inv-loop μ-loop
+slice-read-wide-word-2 c =
+    let start = c .before .before .before .before .before .before .before .before in
+    omega (arith, start .pre .0 .words-room, start .pre .1)
+
+wide-word-requires-2 : tie.Need-wide-word-requires-2 Inv-loop μ-loop
+wide-word-requires-2 c κs = search needs
+
+loop-holds : tie.Need-loop-holds Inv-loop μ-loop
+loop-holds c =
+    let at-wide-word = c .before .before in
+    let start = at-wide-word .before .before .before .before .before .before .before in
+    serve-start (start .args .zeros) (start .pre .0) (start .pre .1) (at-wide-word .wide-word .ensures) (c .wide-word2 .ensures)
+
+add-wide-word-2 : tie.Need-add-wide-word-2 Inv-loop μ-loop
+add-wide-word-2 c = search needs
+
+add-wide-word-3 : tie.Need-add-wide-word-3 Inv-loop μ-loop
+add-wide-word-3 c = omega (arith, walk-turn (c .before .loop .inv .along .walk) (c .loop-test .taken) .index)
+
+mul-wide-word-3 : tie.Need-mul-wide-word-3 Inv-loop μ-loop
+mul-wide-word-3 c = omega (arith, walk-turn (c .before .loop .inv .along .walk) (c .loop-test .taken) .index)
+
+slice-read-wide-word-3 : tie.Need-slice-read-wide-word-3 Inv-loop μ-loop
+slice-read-wide-word-3 c = walk-turn (c .before .before .loop .inv .along .walk) (c .before .loop-test .taken) .index
+
+wide-word-requires-3 : tie.Need-wide-word-requires-3 Inv-loop μ-loop
+wide-word-requires-3 c κs = search needs
+
+visit-at-requires : tie.Need-visit-at-requires Inv-loop μ-loop
+visit-at-requires c κs =
+    let at-wide-word3 = c .before in
+    let at-loop-test = at-wide-word3 .before .before in
+    let at-loop = at-loop-test .before in
+    let start = at-loop .before .before .before .before .before .before .before .before .before .before in
+    let turn = walk-turn (at-loop .loop .inv .along .walk) (at-loop-test .loop-test .taken) in
+    (at-loop .loop .inv .kept .placed, omega (arith, at-wide-word3 .wide-word3 .ensures, turn .entry, start .pre .0 .shaped .rows-long))
+
+add-p : tie.Need-add-p Inv-loop μ-loop
+add-p c = search needs
+
+loop-less : tie.Need-loop-less Inv-loop μ-loop
+loop-less c = omega (arith, c .before .before .before .before .before .before .loop-test .taken)
+
+loop-again : tie.Need-loop-again Inv-loop μ-loop
+loop-again c =
+    let at-visit-at = c .before .before in
+    let at-wide-word3 = at-visit-at .before .before in
+    let at-loop-test = at-wide-word3 .before .before in
+    let at-loop = at-loop-test .before in
+    serve-turn (at-loop .loop .inv) (at-loop-test .loop-test .taken) (at-wide-word3 .wide-word3 .ensures) (at-visit-at .visit-at .ensures)
+
+same-length : tie.Need-same-length Inv-loop μ-loop
+same-length c = c .before .loop .inv .kept .long
+
+returns : tie.Need-returns Inv-loop μ-loop
+returns c = serve-done (c .before .loop .inv) (c .loop-test .left)
+
+pub push-neighbours-spec : {M : Type 1} → statement M
+push-neighbours-spec =
+    tie.close
+    (tie.spec
+    Inv-loop
+    μ-loop
+    mul-wide-word
+    slice-read-wide-word
+    wide-word-requires
+    add-wide-word
+    mul-wide-word-2
+    slice-read-wide-word-2
+    wide-word-requires-2
+    loop-holds
+    add-wide-word-2
+    add-wide-word-3
+    mul-wide-word-3
+    slice-read-wide-word-3
+    wide-word-requires-3
+    visit-at-requires
+    add-p
+    loop-less
+    loop-again
+    same-length
+    returns)
