@@ -1,17 +1,20 @@
 -- The numbers of triples: nothing is lost, and their order is the order of the triples. Assumes nothing.
-use Prim.Native.Nat.{ℕ, suc, _/_, _<_}
-use mathlib.Core.Path.{_≡_, sym, ap, _∙_, subst}
-use mathlib.Core.List.{List, [], _∷_, map}
+use Prim.Native.Nat.{ℕ, suc, _+_, _*_, _/_, _<_}
+use mathlib.Core.Path.{_≡_, refl, sym, ap, _∙_, subst}
+use mathlib.Core.List.{List, [], _∷_, _++_, map}
 use native.Mathlib.Nat.{div-add-mod', mod-lt}
+use native.Mathlib.Numerals.{add-one}
 use native.Mathlib.Omega.{arith}
+use lib.ListN.{length, getD, take, length-map}
+use lib.Seq.{length-take-le, take-suc}
 use Rattle.constraints.specs.declared.Kind.{Kind}
 use Rattle.constraints.specs.Codes.{codeOf}
-use Rattle.constraints.specs.Triple.{Triple, triple}
+use Rattle.constraints.specs.Triple.{Triple, triple, filled, stored}
 use Rattle.constraints.specs.Sorted.{Before, by-first, by-second, by-code, Rising}
 use Rattle.constraints.specs.Keys.{keyOf, unkey, Small, Climbs}
 use Rattle.constraints.proofs.Codes.{code-small}
 use Rattle.constraints.proofs.Order.{Way, front, there, past, way}
-use Rattle.constraints.proofs.Triples.{in-map}
+use Rattle.constraints.proofs.Triples.{in-map, filled-put}
 
 module _ (k : ℕ) where
   -- every number is the number of what it stands for
@@ -71,3 +74,15 @@ rising-unkeys (k ∷ ks) c = (
   λ y m. let s = in-map unkey 0 ks m in subst (Before (unkey k)) (sym (s .1 .1)) (unkey-before (c 0 (suc (s .0)) (omega arith) (omega (arith, s .1 .0)))),
   rising-unkeys ks (λ i j h l. c (suc i) (suc j) (omega arith) (omega arith)),
 )
+
+map-snoc : (ks : List ℕ) (k : ℕ) → map unkey (ks ++ k ∷ []) ≡ map unkey ks ++ unkey k ∷ []
+map-snoc [] k = refl
+map-snoc (x ∷ ks) k = ap (λ (l : List Triple). unkey x ∷ l) (map-snoc ks k)
+
+-- a list filled with what the first i numbers stand for takes one more by one store
+pub filled-next : (ks list : List ℕ) (i : ℕ) → i < length ks → 3 * i + 2 < length list
+    → stored (filled (map unkey (take i ks)) list) i (unkey (getD ks i 0)) ≡ filled (map unkey (take (i + 1) ks)) list
+filled-next ks list i h room =
+    let long : length (map unkey (take i ks)) ≡ i = length-map (take i ks) unkey ∙ length-take-le i ks (omega arith) in
+    let z = rw long at (filled-put (map unkey (take i ks)) list (unkey (getD ks i 0)) (omega (arith, long))) in
+    rw (add-one i, take-suc ks i 0 h, map-snoc (take i ks) (getD ks i 0)) z

@@ -133,7 +133,15 @@ module _ (items : List Triple) (list : List ℕ) where
       let room : k + 3 ≤ length (flat items ++ drop k list) = omega (arith, length-append (flat items) (drop k list), length-flat items, length-drop k list) in
       rw (two, add-one k)
       (sets-eq part (flat items ++ drop k list) k room
-      ∙ rw (take-at (flat items) (drop k list) k (length-flat items), flat-append items (x ∷ []), long, next, sym (drop-drop 3 k (flat items ++ drop k list)), drop-at (flat items) (drop k list) k (length-flat items), drop-drop 3 k list))
+      ∙ rw (
+        take-at (flat items) (drop k list) k (length-flat items),
+        flat-append items (x ∷ []),
+        long,
+        next,
+        sym (drop-drop 3 k (flat items ++ drop k list)),
+        drop-at (flat items) (drop k list) k (length-flat items),
+        drop-drop 3 k list,
+      ))
 
 -- ---- the constraints of a list
 

@@ -2,6 +2,8 @@
 use Prim.Native.Nat.{ℕ}
 use Rattle.field.specs.declared.Refusal.{Refusal}
 use Rattle.field.specs.declared.Refusal.the-variants.{Variables, Lists, Order, Diagonal, Weights, Start, Argument, Scratch, Room, Clash}
+use Rattle.field.specs.declared.Checked.{Checked}
+use Rattle.field.specs.declared.Checked.the-variants.{Passed, Failed}
 use Rattle.field.specs.declared.Answer.{Answer}
 use Rattle.field.specs.declared.Answer.the-variants.{Done, Refused}
 use Rattle.field.specs.declared.Counted.{Counted}
@@ -18,6 +20,10 @@ numberOf Argument = 7
 numberOf Scratch = 8
 numberOf Room = 9
 numberOf Clash = 10
+
+abbrev pub checkedNumber : Checked → ℕ
+checkedNumber Passed = 0
+checkedNumber (Failed r) = numberOf r
 
 abbrev pub answerNumber : Answer → ℕ
 answerNumber (Done g) = 0

@@ -5,7 +5,7 @@ pub mod tests;
 mod weighs;
 
 ghost use mathlib.Core.Path.{_≡_};
-ghost use Rattle.field.specs.Answers.{numberOf, answerNumber, countedNumber};
+ghost use Rattle.field.specs.Answers.{numberOf, answerNumber};
 
 // Whether all sums of a field's weights are exact in f64 when counted in halves.
 pub enum Grade {
@@ -73,15 +73,4 @@ impl Answer {
 pub enum Counted {
     Counts(Grade, usize),
     Refuses(Refusal),
-}
-
-impl Counted {
-    pub fn number(self) -> u32
-        ensures { λ r. ⌜ r ≡ countedNumber self ⌝ }
-    {
-        match self {
-            Counted::Counts(_, _) => 0,
-            Counted::Refuses(refusal) => refusal.number(),
-        }
-    }
 }

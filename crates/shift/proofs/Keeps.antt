@@ -111,8 +111,8 @@ module _ {u : ℕ} {F : Field} (S : Shaped F) (w : WholeIn u F) where
       where
         by : (b : Bool) → onDiagonal F k ≡ b → sum (variables F) (value k) ⊕ sum (length (keptTo F k)) (λ t. term (getD (keptTo F k) t 0)) ≈ sum (variables F) (value 0) ⊕ sum k term
             → sum (variables F) (λ i. read u (getD (cond b (intoLinear F k (linearTo F k)) (linearTo F k)) i nan) ⊙ getD x i 0)
-                ⊕ sum (length (cond b (keptTo F k) (keptTo F k ++ k ∷ []))) (λ t. term (getD (cond b (keptTo F k) (keptTo F k ++ k ∷ [])) t 0))
-              ≈ sum (variables F) (value 0) ⊕ (sum k term ⊕ term k)
+            ⊕ sum (length (cond b (keptTo F k) (keptTo F k ++ k ∷ []))) (λ t. term (getD (cond b (keptTo F k) (keptTo F k ++ k ∷ [])) t 0))
+            ≈ sum (variables F) (value 0) ⊕ (sum k term ⊕ term k)
         by false e ih = omega (arith, ih, sum-more (keptTo F k) k term)
         by true e ih = omega (arith, ih, goes-in k (omega arith) (eqb-true _ _ e))
 

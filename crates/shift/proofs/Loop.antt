@@ -50,7 +50,7 @@ module _ {F : Field} (S : Shaped F) where
     in-quad = omega (arith, s .quad-same);
     row-below =
         let e : getD (G .rows) k 0 ≡ rowEnd F k = ap (λ (x : Closing). getD (x .lists .rows) k 0) (s .is)
-            ∙ front-past (map (rowEnd F) (keptTo F k)) (F .rows) k 0 (omega (arith, length-map (keptTo F k) (rowEnd F), kept-few F k)) in
+        ∙ front-past (map (rowEnd F) (keptTo F k)) (F .rows) k 0 (omega (arith, length-map (keptTo F k) (rowEnd F), kept-few F k)) in
         omega (arith, S .row-below k h, s .linear-same);
   }
 

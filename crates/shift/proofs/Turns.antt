@@ -75,7 +75,7 @@ module _ (c : List Float) (rows cols : List ℕ) (q : List Float) (k kept : ℕ)
 module _ (k : ℕ) (G : Field) (kept : ℕ) {i j : ℕ} {x : Float} (ei : rowEnd G k ≡ i) (ej : columnEnd G k ≡ j) (ex : quadOf G k ≡ x) where
   reads : closeAt k (closing G kept)
       ≡ cond (eqb i j) (closing (fieldOf (set (G .linear) i (add binary64 (getD (G .linear) i nan) (mul binary64 half64 x))) (G .rows) (G .cols) (G .quad)) kept)
-        (closing (fieldOf (G .linear) (set (G .rows) kept i) (set (G .cols) kept j) (set (G .quad) kept x)) (kept + 1))
+      (closing (fieldOf (G .linear) (set (G .rows) kept i) (set (G .cols) kept j) (set (G .quad) kept x)) (kept + 1))
   unfolding closeAt
   reads = rw (ei, ej, ex)
 
@@ -99,10 +99,10 @@ module _ (F : Field) (k : ℕ) (in-rows : k < length (F .rows)) (in-cols : k < l
       ∙ by (onDiagonal F k)
     where
       by : (b : Bool) → cond b (closing (fieldOf (intoLinear F k (linearTo F k)) (closedTo F k .lists .rows) (closedTo F k .lists .cols) (closedTo F k .lists .quad)) (length (keptTo F k)))
-              (closing (fieldOf (linearTo F k) (set (closedTo F k .lists .rows) (length (keptTo F k)) (rowEnd F k)) (set (closedTo F k .lists .cols) (length (keptTo F k)) (columnEnd F k))
-              (set (closedTo F k .lists .quad) (length (keptTo F k)) (quadOf F k))) (length (keptTo F k) + 1))
+          (closing (fieldOf (linearTo F k) (set (closedTo F k .lists .rows) (length (keptTo F k)) (rowEnd F k)) (set (closedTo F k .lists .cols) (length (keptTo F k)) (columnEnd F k))
+          (set (closedTo F k .lists .quad) (length (keptTo F k)) (quadOf F k))) (length (keptTo F k) + 1))
           ≡ closing (fieldOf (cond b (intoLinear F k (linearTo F k)) (linearTo F k)) (upFront (map (rowEnd F) (cond b (keptTo F k) (keptTo F k ++ k ∷ []))) (F .rows))
-              (upFront (map (columnEnd F) (cond b (keptTo F k) (keptTo F k ++ k ∷ []))) (F .cols)) (upFront (map (quadOf F) (cond b (keptTo F k) (keptTo F k ++ k ∷ []))) (F .quad)))
-              (length (cond b (keptTo F k) (keptTo F k ++ k ∷ [])))
+          (upFront (map (columnEnd F) (cond b (keptTo F k) (keptTo F k ++ k ∷ []))) (F .cols)) (upFront (map (quadOf F) (cond b (keptTo F k) (keptTo F k ++ k ∷ []))) (F .quad)))
+          (length (cond b (keptTo F k) (keptTo F k ++ k ∷ [])))
       by true = refl
       by false = rw (more (rowEnd F) (F .rows) in-rows, more (columnEnd F) (F .cols) in-cols, more (quadOf F) (F .quad) in-quad, length-append (keptTo F k) (k ∷ []))

@@ -20,7 +20,12 @@ same-length : tie.Need-same-length
 same-length c = search needs
 
 returns : tie.Need-returns
-returns c = c .before .before .store .ensures ∙ rw (c .before .before .before .before .before .first-of .ensures, c .before .before .before .before .second-of .ensures, c .before .before .before .code-of .ensures)
+returns c =
+    let at-store = c .before .before in
+    let at-code-of = at-store .before in
+    let at-second-of = at-code-of .before in
+    let at-first-of = at-second-of .before in
+    at-store .store .ensures ∙ rw (at-first-of .first-of .ensures, at-second-of .second-of .ensures, at-code-of .code-of .ensures)
 
 pub put-key-spec : {M : Type 1} → statement M
 put-key-spec =

@@ -1,0 +1,5 @@
+pub mod Means
+pub mod Copies
+pub mod Laws
+pub mod Demands
+pub mod Worked

@@ -1,0 +1,31 @@
+-- The tests that propagation makes (document 01, "Answers, tested in this order"). Assumes nothing.
+use Prim.Native.Nat.{ℕ, _%_}
+use mathlib.Core.Bool.{Bool, not, _&&_}
+use mathlib.Core.List.{List, [], _∷_}
+use lib.Dec.{leb, ltb, eqb}
+use lib.ListN.{length}
+use Rattle.scratch.specs.All.{allBelow}
+use Rattle.field.specs.declared.Refusal.the-variants.{Variables, Start, Argument, Scratch}
+use Rattle.field.specs.Table.{Test, test}
+use Rattle.field.specs.Tests.{fewVariables, startFits, wordsFit}
+use Rattle.constraints.specs.Triple.{Triple, room, tripleAt}
+
+-- 7: "a constraint with kind above 5, equal ends, or an end not below n"
+abbrev pub fits : ℕ → Triple → Bool
+fits n x = leb (x .code) 5 && (not (eqb (x .first) (x .second)) && (ltb (x .first) n && ltb (x .second) n))
+
+unfoldable pub allFit : ℕ → List ℕ → Bool
+allFit n list = allBelow (λ t. fits n (tripleAt list t)) (room list)
+
+-- 7: "more than 65,536 constraints or a list not of whole triples"
+unfoldable pub constraintsFit : ℕ → List ℕ → Bool
+constraintsFit n list = leb (length list) 196608 && (eqb (length list % 3) 0 && allFit n list)
+
+-- 1, 6, 7 and 8
+unfoldable pub propagationTests : List ℕ → List ℕ → ℕ → List Test
+propagationTests s list words =
+    test Variables (fewVariables (length s))
+    ∷ test Start (startFits (length s) s)
+    ∷ test Argument (constraintsFit (length s) list)
+    ∷ test Scratch (wordsFit (length s) (room list) words)
+    ∷ []

@@ -1,0 +1,77 @@
+// Tests 1, 6, 7 and 8, in this order.
+use field::Checked;
+use field::Refusal;
+ghost use mathlib.Core.Path.{_≡_};
+ghost use Prim.Native.Nat.{_+_, _*_, _<_};
+ghost use Rattle.scratch.specs.Lent.{before};
+ghost use Rattle.constraints.specs.Triple.{triple};
+ghost use Rattle.field.specs.Table.{tested};
+ghost use Rattle.propagation.specs.Tests.{fits as fitsIn, allFit, constraintsFit, propagationTests};
+
+// Whether three numbers are a constraint between two variables.
+fn fits(n: usize, first: usize, second: usize, code: usize) -> bool
+    ensures { λ r. ⌜ r ≡ fitsIn n (triple first second code) ⌝ }
+{
+    if code > 5 {
+        return false;
+    }
+    if first == second {
+        return false;
+    }
+    if first >= n {
+        return false;
+    }
+    second < n
+}
+
+// Whether every triple of the list is one.
+fn all_fit(n: usize, list: &[u16]) -> bool
+    ensures { λ r. ⌜ r ≡ allFit n (before list) ⌝ }
+{
+    let k = list.len() / 3;
+    let mut t: usize = 0;
+    while t < k {
+        let i = 3 * t;
+        let first = scratch::wide_short(list[i]);
+        let second = scratch::wide_short(list[i + 1]);
+        let code = scratch::wide_short(list[i + 2]);
+        if !fits(n, first, second, code) {
+            return false;
+        }
+        t += 1;
+    }
+    true
+}
+
+// 7
+fn constraints_fit(n: usize, list: &[u16]) -> bool
+    ensures { λ r. ⌜ r ≡ constraintsFit n (before list) ⌝ }
+{
+    if list.len() > 196608 {
+        return false;
+    }
+    if list.len() % 3 != 0 {
+        return false;
+    }
+    all_fit(n, list)
+}
+
+// 1, 6, 7 and 8
+pub fn ready(start: &[u8], list: &[u16], words: usize) -> Checked
+    ensures { λ r. ⌜ r ≡ tested (propagationTests (before start) (before list) words) ⌝ }
+{
+    let n = start.len();
+    if !field::tests::few_variables(n) {
+        return Checked::Failed(Refusal::Variables);
+    }
+    if !field::tests::start_fits(n, start) {
+        return Checked::Failed(Refusal::Start);
+    }
+    if !constraints_fit(n, list) {
+        return Checked::Failed(Refusal::Argument);
+    }
+    if !field::tests::words_fit(n, list.len() / 3, words) {
+        return Checked::Failed(Refusal::Scratch);
+    }
+    Checked::Passed
+}
