@@ -4,7 +4,7 @@ use mathlib.Core.Path.{_≡_, refl, sym, ap, subst, _∙_}
 use mathlib.Core.Logic.{_↔_}
 use mathlib.Core.List.{List, map}
 use native.Mathlib.Omega.{arith}
-use lib.ListN.{getD, length, length-map}
+use lib.ListN.{getD, length-map}
 use lib.Ieee.{nan}
 use Rattle.whole.specs.Whole.{_≈_}
 use Rattle.meaning.specs.Field.{twice-f}
@@ -20,7 +20,7 @@ use Rattle.field.specs.Grade.{gradeOf, Weighs}
 use Rattle.field.specs.Reading.{wholeOf}
 use Rattle.field.proofs.Table.{refused-exactly}
 use Rattle.field.proofs.Means.{loose-passes}
-use Rattle.shift.specs.Closing.{keptTo, upFront, closedTo, closed}
+use Rattle.shift.specs.Closing.{upFront, closedTo, closed}
 use Rattle.shift.specs.Call.{Left, left, leaves, shiftCall}
 use Rattle.shift.specs.Shifted.{firstEntries, shifted, WholeIn}
 use Rattle.shift.proofs.Turns.{front-past}

@@ -1,6 +1,6 @@
 -- A shift of whole weights rounds nothing, and keeps the objective at every choice of values. Assumes nothing.
 use Prim.Native.Nat.{ℕ, zero, suc, _+_, _*_, _<_, _≤_, _^_}
-use mathlib.Core.Path.{_≡_, refl, sym, ap, _∙_}
+use mathlib.Core.Path.{_≡_, refl, ap, _∙_}
 use mathlib.Core.Logic.{_≢_}
 use mathlib.Core.Bool.{Bool, true, false, cond}
 use mathlib.Core.List.{List, [], _∷_, _++_}
@@ -22,7 +22,7 @@ use Rattle.field.proofs.Exact.{weighs-read, weighs-under}
 use Rattle.shift.specs.Closing.{onDiagonal, intoLinear, linearTo, keptTo}
 use Rattle.shift.specs.Shifted.{shifted, WholeIn}
 use Rattle.shift.proofs.Turns.{linear-long}
-use Rattle.shift.proofs.Kept.{from, shifted-is, new-variables, new-entries, new-row, new-column, new-quad, kept-off}
+use Rattle.shift.proofs.Kept.{from, shifted-is, new-variables, new-entries, new-row, new-column, new-quad}
 
 -- ---- one sum
 

@@ -1,16 +1,16 @@
 -- The entries that are kept: where they stood, and that the field of them is shaped and in standard form. Assumes nothing.
-use Prim.Native.Nat.{ℕ, zero, suc, _+_, _<_, _≤_}
-use mathlib.Core.Path.{_≡_, refl, sym, ap, ap₂, _∙_}
-use mathlib.Core.Logic.{_≢_, _⊎_, inl, inr, ⊎-elim}
+use Prim.Native.Nat.{ℕ, zero, suc, _+_, _<_}
+use mathlib.Core.Path.{_≡_, refl, sym, ap, _∙_}
+use mathlib.Core.Logic.{inl, inr}
 use mathlib.Core.Bool.{Bool, true, false, cond}
 use mathlib.Core.List.{List, [], _∷_, _++_, map}
 use native.Mathlib.Decide.{ℕ-discrete}
 use native.Mathlib.Numerals.{add-one}
 use native.Mathlib.Omega.{arith}
 use borrow.Author.Tests.{eqb-false}
-use lib.ListN.{length, getD, take, length-append, length-map, List·getD-append, List·getD-map}
+use lib.ListN.{length, getD, take, length-append, length-map, List·getD-append}
 use lib.Seq.{getD-append-seam, take-at}
-use lib.Ieee.{Float, nan}
+use lib.Ieee.{nan}
 use Rattle.field.specs.Field.{Field, fieldOf, variables, entries, rowEnd, columnEnd, quadOf, Before, Shaped, Standard}
 use Rattle.shift.specs.Closing.{onDiagonal, linearTo, keptTo, upFront, closedTo, closed}
 use Rattle.shift.specs.Shifted.{shifted}

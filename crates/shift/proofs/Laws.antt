@@ -1,6 +1,6 @@
 -- From the tests to the answer: what the call leaves where a test fails, and where none does. Assumes nothing.
 use Prim.Native.Nat.{ℕ}
-use mathlib.Core.Path.{_≡_, ap}
+use mathlib.Core.Path.{_≡_}
 use Rattle.field.specs.declared.Counted.the-variants.{Counts, Refuses}
 use Rattle.field.specs.declared.Checked.the-variants.{Passed, Failed}
 use Rattle.field.specs.declared.Grade.{Grade}
@@ -9,7 +9,7 @@ use Rattle.field.specs.Field.{Field}
 use Rattle.field.specs.Table.{tested}
 use Rattle.field.specs.Tests.{looseTests}
 use Rattle.field.specs.Grade.{gradeOf}
-use Rattle.shift.specs.Closing.{Closing, closing, closed}
+use Rattle.shift.specs.Closing.{closing, closed}
 use Rattle.shift.specs.Call.{left, leaves, shiftCall}
 
 module _ (F : Field) where

@@ -1,13 +1,12 @@
 -- The loop over the entries: where it stands after k of them, and how it starts, turns and ends. Assumes nothing.
-use Prim.Native.Nat.{ℕ, suc, _+_, _<_, _≤_}
-use mathlib.Core.Path.{_≡_, refl, sym, ap, _∙_}
+use Prim.Native.Nat.{ℕ, _+_, _<_, _≤_}
+use mathlib.Core.Path.{_≡_, refl, ap, _∙_}
 use mathlib.Core.List.{List, map}
 use native.Mathlib.Nat.{le-antisymm}
 use native.Mathlib.Numerals.{add-one}
 use native.Mathlib.Omega.{arith}
 use lib.ListN.{length, getD, length-map}
-use lib.Ieee.{Float, nan}
-use Rattle.field.specs.Field.{Field, fieldOf, variables, entries, rowEnd, columnEnd, quadOf, Shaped}
+use Rattle.field.specs.Field.{Field, entries, rowEnd, columnEnd, quadOf, Shaped}
 use Rattle.shift.specs.Closing.{Closable, linearTo, keptTo, upFront, Closing, closing, closedTo, closed, closeAt}
 use Rattle.shift.proofs.Turns.{front-long, front-past, kept-few, linear-long, closes-one}
 

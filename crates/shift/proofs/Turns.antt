@@ -13,7 +13,7 @@ use lib.Seq.{getD-append-add, getD-drop, drop-cons, set-at}
 use lib.Ieee.{Float, nan, binary64, add, mul}
 use Rattle.weights.specs.Worth.{half64}
 use Rattle.field.specs.Field.{Field, fieldOf, entries, rowEnd, columnEnd, quadOf}
-use Rattle.shift.specs.Closing.{onDiagonal, intoLinear, linearTo, keptTo, upFront, Closing, closing, closedTo, closeAt}
+use Rattle.shift.specs.Closing.{onDiagonal, intoLinear, linearTo, keptTo, upFront, closing, closedTo, closeAt}
 
 -- ---- a list with its front replaced
 

@@ -1,7 +1,6 @@
 -- How a field's diagonal goes into its linear weights, entry by entry (document 01, `shift_qubo`): "entries close up in place, 0.5q of a
 -- diagonal goes into c, the new m is returned, places past it are unchanged". Assumes nothing.
 use Prim.Native.Nat.{ℕ, zero, suc, _+_, _<_, _≤_}
-use mathlib.Core.Path.{_≡_}
 use mathlib.Core.Bool.{Bool, cond}
 use mathlib.Core.List.{List, [], _∷_, _++_, map}
 use lib.Dec.{eqb}

@@ -47,7 +47,11 @@ same-length : tie.Need-same-length
 same-length c = search needs
 
 returns : tie.Need-returns
-returns c = goes-in _ _ _ _ _ _ (c .before .before .before .before .before .before .wide-short .ensures) (c .before .before .before .before .wide-short2 .ensures) (c .before .before .before .if1 .taken) (c .half .ensures)
+returns c =
+    let at-if1 = c .before .before .before in
+    let at-wide-short2 = at-if1 .before in
+    let at-wide-short = at-wide-short2 .before .before in
+    goes-in _ _ _ _ _ _ (at-wide-short .wide-short .ensures) (at-wide-short2 .wide-short2 .ensures) (at-if1 .if1 .taken) (c .half .ensures)
 
 mul-rows : tie.Need-mul-rows
 mul-rows c = search needs
@@ -98,7 +102,11 @@ same-length-4 : tie.Need-same-length-4
 same-length-4 c = search needs
 
 returns-2 : tie.Need-returns-2
-returns-2 c = moves-up _ _ _ _ _ _ (c .before .before .before .before .before .before .wide-short .ensures) (c .before .before .before .before .wide-short2 .ensures) (c .before .before .before .if1 .left)
+returns-2 c =
+    let at-if1 = c .before .before .before in
+    let at-wide-short2 = at-if1 .before in
+    let at-wide-short = at-wide-short2 .before .before in
+    moves-up _ _ _ _ _ _ (at-wide-short .wide-short .ensures) (at-wide-short2 .wide-short2 .ensures) (at-if1 .if1 .left)
 
 pub close-at-spec : {M : Type 1} → statement M
 close-at-spec =

@@ -17,7 +17,11 @@ loop-holds : tie.Need-loop-holds Inv-loop μ-loop
 loop-holds c = stands-start (c .before .before .before .before .pre .shaped)
 
 close-at-requires : tie.Need-close-at-requires Inv-loop μ-loop
-close-at-requires c κs = stands-ready (c .before .before .before .before .before .before .before .before .before .before .pre .shaped) (c .before .before .before .before .before .loop .inv) (c .before .before .before .before .loop-test .taken)
+close-at-requires c κs =
+    let at-loop-test = c .before .before .before .before in
+    let at-loop = at-loop-test .before in
+    let at-start = at-loop .before .before .before .before .before in
+    stands-ready (at-start .pre .shaped) (at-loop .loop .inv) (at-loop-test .loop-test .taken)
 
 add-k : tie.Need-add-k Inv-loop μ-loop
 add-k c = search needs
@@ -26,7 +30,12 @@ loop-less : tie.Need-loop-less Inv-loop μ-loop
 loop-less c = omega arith
 
 loop-again : tie.Need-loop-again Inv-loop μ-loop
-loop-again c = stands-turn (c .before .before .before .before .before .before .before .before .before .before .before .before .before .before .before .before .before .before .before .pre .shaped) (c .before .before .before .before .before .before .before .before .before .before .before .before .before .before .loop .inv) (c .before .before .before .before .before .before .before .before .before .before .before .before .before .loop-test .taken) (c .before .before .before .before .before .before .before .before .close-at .ensures)
+loop-again c =
+    let at-close-at = c .before .before .before .before .before .before .before .before in
+    let at-loop-test = at-close-at .before .before .before .before .before in
+    let at-loop = at-loop-test .before in
+    let at-start = at-loop .before .before .before .before .before in
+    stands-turn (at-start .pre .shaped) (at-loop .loop .inv) (at-loop-test .loop-test .taken) (at-close-at .close-at .ensures)
 
 same-length : tie.Need-same-length Inv-loop μ-loop
 same-length c = omega arith

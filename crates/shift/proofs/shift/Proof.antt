@@ -31,10 +31,17 @@ enum-told : tie.Need-enum-told
 enum-told c = search needs
 
 graded-requires : tie.Need-graded-requires
-graded-requires c κs = let shaped = loose-passes _ .0 (sym (c .before .before .before .before .before .before .loose .ensures) ∙ c .before .before .before .before .enum-told .given .1) .shaped in shaped .rows-long ∙ sym (shaped .cols-long)
+graded-requires c κs =
+    let at-enum-told = c .before .before .before .before in
+    let at-loose = at-enum-told .before .before in
+    let shaped = loose-passes _ .0 (sym (at-loose .loose .ensures) ∙ at-enum-told .enum-told .given .1) .shaped in
+    shaped .rows-long ∙ sym (shaped .cols-long)
 
 close-up-requires : tie.Need-close-up-requires
-close-up-requires c κs = loose-passes _ .0 (sym (c .before .before .before .before .before .before .before .before .before .before .before .loose .ensures) ∙ c .before .before .before .before .before .before .before .before .before .enum-told .given .1)
+close-up-requires c κs =
+    let at-enum-told = c .before .before .before .before .before .before .before .before .before in
+    let at-loose = at-enum-told .before .before in
+    loose-passes _ .0 (sym (at-loose .loose .ensures) ∙ at-enum-told .enum-told .given .1)
 
 same-length-5 : tie.Need-same-length-5
 same-length-5 c = search needs
@@ -49,7 +56,12 @@ same-length-8 : tie.Need-same-length-8
 same-length-8 c = search needs
 
 returns-2 : tie.Need-returns-2
-returns-2 c = done-call _ (sym (c .before .before .before .before .before .before .before .before .before .before .before .before .before .before .before .before .before .before .before .before .loose .ensures) ∙ c .before .before .before .before .before .before .before .before .before .before .before .before .before .before .before .before .before .before .enum-told .given .1) (c .before .before .before .before .before .before .before .before .before .before .before .before .before .graded .ensures) (c .before .before .before .before .before .before .before .before .close-up .ensures)
+returns-2 c =
+    let at-close-up = c .before .before .before .before .before .before .before .before in
+    let at-graded = at-close-up .before .before .before .before .before in
+    let at-enum-told = at-graded .before .before .before .before .before in
+    let at-loose = at-enum-told .before .before in
+    done-call _ (sym (at-loose .loose .ensures) ∙ at-enum-told .enum-told .given .1) (at-graded .graded .ensures) (at-close-up .close-up .ensures)
 
 pub shift-spec : {M : Type 1} → statement M
 shift-spec =

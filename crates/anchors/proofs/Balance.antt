@@ -1,0 +1,133 @@
+-- On an exact field a variable's error-free sum comes to 0 exactly if its balance, in whole numbers, is 0. Assumes nothing.
+use Prim.Native.Nat.{ℕ, zero, suc, _+_, _*_, _^_, _<_, _≤_}
+use mathlib.Core.Path.{_≡_, refl, sym, ap, _∙_}
+use mathlib.Core.Logic.{_↔_}
+use mathlib.Core.Bool.{Bool, true, false, cond, _||_}
+use mathlib.Core.List.{List, [], _∷_}
+use native.Mathlib.Omega.{arith}
+use borrow.Author.Tests.{eqb-true, ne-eqb}
+use lib.Dec.{eqb}
+use lib.ListN.{length, getD}
+use lib.Ieee.{binary64, mul, ne}
+use Rattle.whole.specs.Whole.{Whole, nothing, _⊕_, _⊙_, only, sum, _≈_, Zero, Under}
+use Rattle.whole.proofs.Sums.{sum-add}
+use Rattle.weights.specs.Worth.{Worth, zero64, four64}
+use Rattle.weights.proofs.Worth.{as-worth, finer-worth, four-worth}
+use Rattle.meaning.specs.Symmetry.{at-ends, balance}
+use Rattle.expansion.specs.Sum.{Expansion, parts, plus}
+use Rattle.expansion.specs.Exact.{Plain, nought, single}
+use Rattle.expansion.proofs.Exact.{zero-test, plus-plain, plain-zero}
+use Rattle.field.specs.Field.{Field, variables, entries, linearOf, rowEnd, columnEnd, quadOf, Shaped}
+use Rattle.field.specs.Grade.{halves, ExactIn}
+use Rattle.field.specs.Reading.{wholeOf}
+use Rattle.field.proofs.Reading.{linear-worth, linear-under, quad-worth, quad-under}
+use Rattle.places.specs.Places.{keep, places}
+use Rattle.places.proofs.Places.{tail, tail-end, tail-step, places-le, places-touch}
+use Rattle.anchors.specs.Sums.{balanceAt, balanceOver, balanceOf, balanced}
+
+-- ---- a sum over the places of i is a sum over the entries that touch it
+
+unfoldable gather : (ℕ → Whole) → List ℕ → Whole
+gather g [] = nothing
+gather g (k ∷ ks) = g k ⊕ gather g ks
+
+-- entry k touches i
+abbrev touches : Field → ℕ → ℕ → Bool
+touches F i k = eqb (rowEnd F k) i || eqb (columnEnd F k) i
+
+gather-keep : (g : ℕ → Whole) (b : Bool) (k : ℕ) (l : List ℕ) → gather g (keep b k l) ≈ only b (g k) ⊕ gather g l
+unfolding gather keep
+gather-keep g true k l = refl
+gather-keep g false k l = omega arith
+
+module _ {F : Field} (S : Shaped F) (g : ℕ → Whole) (i : ℕ) where
+  abbrev term : ℕ → Whole
+  term k = only (touches F i k) (g k)
+
+  -- the entries below k, and the places from k on
+  split-sum : (d k : ℕ) → k + d ≡ entries F → sum k term ⊕ gather g (tail (F .rows) (F .cols) k i) ≈ sum (entries F) term
+  unfolding gather sum
+  split-sum zero k e =
+      let w : k ≡ length (F .rows) = omega (arith, S .rows-long) in
+      let z : tail (F .rows) (F .cols) k i ≡ [] = rw w (tail-end (F .rows) (F .cols) i) in
+      let m : k ≡ entries F = omega arith in
+      rw (z, m) (omega arith)
+  split-sum (suc d) k e =
+      let st : tail (F .rows) (F .cols) k i ≡ keep (touches F i k) k (tail (F .rows) (F .cols) (suc k) i) =
+      ap (λ (f : ℕ → List ℕ). f i) (tail-step (F .rows) (F .cols) k (omega (arith, S .rows-long)) (omega (arith, S .cols-long))) in
+      rw st (omega (arith, gather-keep g (touches F i k) k (tail (F .rows) (F .cols) (suc k) i), split-sum d (suc k) (omega arith)))
+
+  gather-places : gather g (places (F .rows) (F .cols) i) ≈ sum (entries F) term
+  unfolding places sum
+  gather-places = omega (arith, split-sum (entries F) 0 (omega arith))
+
+-- ---- the sum along the places is exact
+
+plain-as : {u : ℕ} {e : Expansion} {a b : Whole} → Plain u e a → a ≈ b → Plain u e b
+plain-as {b = b} (nought z) w = nought {a = b} (omega arith)
+plain-as (single h n) w = single (as-worth h w) n
+
+-- in halves q is 2w
+abbrev twice : Field → ℕ → Whole
+twice F k = wholeOf halves F .weight k ⊙ 2
+
+module _ {F : Field} (S : Shaped F) (x : ExactIn halves F) where
+  quad-halves : (k : ℕ) → k < entries F → Worth halves (quadOf F k) (twice F k)
+  quad-halves k h = finer-worth 1 (quad-worth x k h)
+
+  -- after n entries
+  abbrev Sized : ℕ → Whole → Type 0
+  Sized n a = Under (2 ^ 34 + 2 ^ 32 * n) a
+
+  plain-at : {e : Expansion} {a : Whole} (n k : ℕ) → n < 32768 → k < entries F → Sized n a → Plain halves e a → Plain halves (balanceAt F e k) (a ⊕ twice F k)
+  unfolding balanceAt
+  plain-at {e} {a} n k hn h l p =
+      let off : eqb (rowEnd F k) (columnEnd F k) ≡ false = ne-eqb (rowEnd F k) (columnEnd F k) (x .standard k h) in
+      rw off (go (ne (quadOf F k) zero64) refl)
+    where
+      go : (b : Bool) → ne (quadOf F k) zero64 ≡ b → Plain halves (cond b (plus (quadOf F k) e) e) (a ⊕ twice F k)
+      go true t = plus-plain p (quad-halves k h) (omega arith) (omega (arith, quad-under x k h)) (omega (arith, quad-under x k h))
+      go false t = plain-as p (omega (arith, zero-test (quad-halves k h) .0 t))
+
+  plain-over : {e : Expansion} {a : Whole} (ks : List ℕ) (n : ℕ) → n + length ks ≤ 32768 → ((h : ℕ) → h < length ks → getD ks h 0 < entries F) → Sized n a → Plain halves e a
+      → Plain halves (balanceOver F e ks) (a ⊕ gather (twice F) ks)
+  unfolding balanceOver gather
+  plain-over [] n hn all l p = plain-as p (omega arith)
+  plain-over {e} {a} (k ∷ ks) n hn all l p =
+      let here : k < entries F = all 0 (omega arith) in
+      plain-as (plain-over ks (suc n) (omega arith) (λ h b. all (suc h) (omega arith)) (omega (arith, quad-under x k here)) (plain-at n k (omega arith) here l p)) (omega arith)
+
+  module _ (i : ℕ) (hi : i < variables F) where
+    first-plain : Plain halves (plus (mul binary64 four64 (linearOf F i)) (parts [])) (nothing ⊕ wholeOf halves F .linear i ⊙ 4)
+    first-plain =
+        let a = linear-under x i hi in
+        plus-plain (nought refl) (four-worth (linear-worth x i hi) (omega (arith, a))) (omega arith) (omega (arith, a)) (omega (arith, a))
+
+    balance-plain : Plain halves (balanceOf F i) (nothing ⊕ wholeOf halves F .linear i ⊙ 4 ⊕ gather (twice F) (places (F .rows) (F .cols) i))
+    unfolding balanceOf
+    balance-plain =
+        let a = linear-under x i hi in
+        plain-over (places (F .rows) (F .cols) i) 0 (omega (arith, places-le (F .rows) (F .cols) i, S .rows-long, S .few-entries))
+        (λ h l. omega (arith, places-touch (F .rows) (F .cols) i h l .0, S .rows-long)) (omega (arith, a)) first-plain
+
+    -- an entry has one end at i, or none
+    ends-once : (k : ℕ) → k < entries F → only (touches F i k) (twice F k) ≈ at-ends (wholeOf halves F) i k ⊕ at-ends (wholeOf halves F) i k
+    ends-once k h = go (eqb (rowEnd F k) i) (eqb (columnEnd F k) i) refl refl
+      where
+        w : Whole
+        w = wholeOf halves F .weight k
+
+        go : (a b : Bool) → eqb (rowEnd F k) i ≡ a → eqb (columnEnd F k) i ≡ b → only (a || b) (w ⊙ 2) ≈ only a w ⊕ only b w ⊕ (only a w ⊕ only b w)
+        go true true ea eb = absurd (x .standard k h (eqb-true (rowEnd F k) i ea ∙ sym (eqb-true (columnEnd F k) i eb)))
+        go true false ea eb = omega arith
+        go false true ea eb = omega arith
+        go false false ea eb = omega arith
+
+    -- THE BRIDGE: the sum comes to 0 exactly if the balance is 0
+    pub balanced-is : (balanced F i ≡ true) ↔ Zero (balance (wholeOf halves F) i)
+    unfolding balanced
+    balanced-is =
+        let p = plain-zero balance-plain in
+        let g = gather-places S (twice F) i in
+        let d = sum-add (entries F) (λ k. only (touches F i k) (twice F k)) (at-ends (wholeOf halves F) i) (at-ends (wholeOf halves F) i) ends-once in
+        ((λ e. omega (arith, p .0 e, g, d)), λ z. p .1 (omega (arith, z, g, d)))

@@ -1,0 +1,12 @@
+pub mod Summing
+pub mod Gathering
+pub mod Searching
+pub mod Laws
+pub mod Balance
+pub mod Certain
+pub mod Ranks
+pub mod Choosing
+pub mod Ruling
+pub mod Turning
+pub mod Demands
+pub mod Worked

@@ -1,0 +1,103 @@
+-- `weigh` goes along the places of a variable. Assumes nothing.
+use Prim.Native.Nat.{_-_}
+use native.Mathlib.Omega.{arith}
+use Rattle.field.specs.Field.{fieldOf}
+use Rattle.places.proofs.Walk.{walk-turn}
+use Rattle.anchors.proofs.Summing.{Weighing, weigh-start, weigh-turn, weigh-done}
+use borrow.Author.Needs.{needs}
+use Rattle.anchors.proofs.sums.weigh.Statement.{statement}
+use Rattle.anchors.proofs.sums.weigh.Tie as tie
+
+abbrev Inv-loop : tie.InvT-loop
+Inv-loop c rows cols q i u n start end weight₀ p₀ weight p = Weighing (fieldOf c rows cols q) i end u p weight
+
+abbrev μ-loop : tie.MeasureT-loop
+μ-loop c rows cols q i u n start end weight₀ p₀ weight p = end - p
+
+mul-wide-word : tie.Need-mul-wide-word Inv-loop μ-loop
+mul-wide-word c = search needs
+
+shared-slice-read-wide-word : tie.Need-shared-slice-read-wide-word Inv-loop μ-loop
+shared-slice-read-wide-word c = omega (arith, c .before .before .before .before .before .before .pre .adjacent .room, c .before .before .before .before .before .before .pre .below)
+
+wide-word-requires : tie.Need-wide-word-requires Inv-loop μ-loop
+wide-word-requires c κs = search needs
+
+add-wide-word : tie.Need-add-wide-word Inv-loop μ-loop
+add-wide-word c = search needs
+
+mul-wide-word-2 : tie.Need-mul-wide-word-2 Inv-loop μ-loop
+mul-wide-word-2 c = search needs
+
+shared-slice-read-wide-word-2 : tie.Need-shared-slice-read-wide-word-2 Inv-loop μ-loop
+shared-slice-read-wide-word-2 c =
+    omega (arith, c .before .before .before .before .before .before .before .before .pre .adjacent .room, c .before .before .before .before .before .before .before .before .pre .below)
+
+wide-word-requires-2 : tie.Need-wide-word-requires-2 Inv-loop μ-loop
+wide-word-requires-2 c κs = search needs
+
+loop-holds : tie.Need-loop-holds Inv-loop μ-loop
+loop-holds c = weigh-start (c .before .before .before .before .before .before .before .before .before .pre) (c .before .before .wide-word .ensures) (c .wide-word2 .ensures)
+
+add-wide-word-2 : tie.Need-add-wide-word-2 Inv-loop μ-loop
+add-wide-word-2 c = omega (arith, c .before .before .before .before .before .before .before .before .before .before .before .pre .shaped .few-variables)
+
+add-wide-word-3 : tie.Need-add-wide-word-3 Inv-loop μ-loop
+add-wide-word-3 c = omega (arith, walk-turn (c .before .loop .inv .along .walk) (c .loop-test .taken) .index)
+
+mul-wide-word-3 : tie.Need-mul-wide-word-3 Inv-loop μ-loop
+mul-wide-word-3 c = omega (arith, walk-turn (c .before .loop .inv .along .walk) (c .loop-test .taken) .index)
+
+shared-slice-read-wide-word-3 : tie.Need-shared-slice-read-wide-word-3 Inv-loop μ-loop
+shared-slice-read-wide-word-3 c = walk-turn (c .before .before .loop .inv .along .walk) (c .before .loop-test .taken) .index
+
+wide-word-requires-3 : tie.Need-wide-word-requires-3 Inv-loop μ-loop
+wide-word-requires-3 c κs = search needs
+
+weigh-at-requires : tie.Need-weigh-at-requires Inv-loop μ-loop
+weigh-at-requires c κs = (
+  c .before .before .before .before .before .before .before .before .before .before .before .before .before .pre .shaped,
+  omega (
+    arith,
+    c .wide-word3 .ensures,
+    walk-turn (c .before .before .before .loop .inv .along .walk) (c .before .before .loop-test .taken) .entry,
+    c .before .before .before .before .before .before .before .before .before .before .before .before .before .pre .shaped .rows-long,
+  ),
+)
+
+add-p : tie.Need-add-p Inv-loop μ-loop
+add-p c = search needs
+
+loop-less : tie.Need-loop-less Inv-loop μ-loop
+loop-less c = omega (arith, c .before .before .before .loop-test .taken)
+
+loop-again : tie.Need-loop-again Inv-loop μ-loop
+loop-again c = weigh-turn (c .before .before .before .before .loop .inv) (c .before .before .before .loop-test .taken) (c .before .wide-word3 .ensures) (c .weigh-at .ensures)
+
+returns : tie.Need-returns Inv-loop μ-loop
+returns c = weigh-done (c .before .loop .inv) (c .loop-test .left)
+
+pub weigh-spec : {M : Type 1} → statement M
+weigh-spec =
+    tie.close
+    (tie.spec
+    Inv-loop
+    μ-loop
+    mul-wide-word
+    shared-slice-read-wide-word
+    wide-word-requires
+    add-wide-word
+    mul-wide-word-2
+    shared-slice-read-wide-word-2
+    wide-word-requires-2
+    loop-holds
+    add-wide-word-2
+    add-wide-word-3
+    mul-wide-word-3
+    shared-slice-read-wide-word-3
+    wide-word-requires-3
+    weigh-at-requires
+    add-p
+    loop-less
+    loop-again
+    returns)

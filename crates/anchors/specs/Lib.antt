@@ -1,0 +1,6 @@
+pub mod Sums
+pub mod Model
+pub mod Call
+pub mod Cells
+pub mod Rule
+pub mod Worked

@@ -1,0 +1,66 @@
+-- Complement anchors (document 01, "Anchors"), executable on every field. Assumes nothing.
+use Prim.Native.Nat.{ℕ, zero, suc}
+use mathlib.Core.Bool.{Bool, true, false, cond, _&&_}
+use mathlib.Core.List.{List, [], _∷_, _++_}
+use lib.Dec.{eqb, leb, ltb}
+use lib.ListN.{length, getD}
+use lib.Ieee.{Float, lt, eq}
+use Rattle.field.specs.Field.{Field, variables}
+use Rattle.parts.specs.Walk.{opened, membersFrom, marksFrom}
+use Rattle.anchors.specs.declared.Leader.{Leader}
+use Rattle.anchors.specs.Sums.{balanced, weightOf}
+
+-- ---- one component
+
+abbrev pub leader : ℕ → Float → Leader
+leader i w = record { variable = i; weight = w }
+
+-- "the greatest sum .., then the lowest index": i, of weight w, takes the lead, or not
+unfoldable pub against : Leader → ℕ → Float → Leader
+against a i w = cond (lt (a .weight) w) (leader i w) (cond (eq w (a .weight)) (cond (ltb i (a .variable)) (leader i w) a) a)
+
+unfoldable pub leadOver : Field → Leader → List ℕ → Leader
+leadOver F a [] = a
+leadOver F a (i ∷ is) = leadOver F (against a i (weightOf F i)) is
+
+unfoldable pub leads : Field → ℕ → List ℕ → ℕ
+leads F start members = leadOver F (leader start (weightOf F start)) members .variable
+
+-- without a start value, and symmetric
+unfoldable pub turnable : Field → List ℕ → ℕ → Bool
+turnable F s i = eqb (getD s i 0) 2 && balanced F i
+
+unfoldable pub allTurnable : Field → List ℕ → List ℕ → Bool
+allTurnable F s [] = true
+allTurnable F s (i ∷ is) = turnable F s i && allTurnable F s is
+
+-- "a component with any start value, or smaller than the given least size, has none"
+unfoldable pub anchorIn : Field → List ℕ → ℕ → ℕ → List ℕ → List ℕ
+anchorIn F s least start members = cond (leb least (length members) && allTurnable F s members) (leads F start members ∷ []) []
+
+-- ---- every component, from its lowest variable
+
+-- the marks of the walks so far, and the anchors found
+pub record Found : Type 0 where
+  pub marks : List ℕ
+  pub anchors : List ℕ
+
+abbrev pub found : List ℕ → List ℕ → Found
+found marks anchors = record { marks = marks; anchors = anchors }
+
+-- the walk from start i, if it is not seen yet: the marks that it leaves, "Entries with q = 0 join nothing here", and the anchor of its component
+unfoldable pub marksAt : Field → List ℕ → ℕ → List ℕ
+marksAt F marks i = cond (eqb (getD marks i 0) 2) (marksFrom F false marks i) marks
+
+unfoldable pub newAt : Field → List ℕ → ℕ → List ℕ → ℕ → List ℕ
+newAt F s least marks i = cond (eqb (getD marks i 0) 2) (anchorIn F s least i (membersFrom F false marks i)) []
+
+unfoldable pub anchorAt : Field → List ℕ → ℕ → Found → ℕ → Found
+anchorAt F s least p i = found (marksAt F (p .marks) i) (p .anchors ++ newAt F s least (p .marks) i)
+
+unfoldable pub anchorsTo : Field → List ℕ → ℕ → ℕ → Found
+anchorsTo F s least zero = found (opened true s) []
+anchorsTo F s least (suc i) = anchorAt F s least (anchorsTo F s least i) i
+
+unfoldable pub anchorsOf : Field → List ℕ → ℕ → List ℕ
+anchorsOf F s least = anchorsTo F s least (variables F) .anchors

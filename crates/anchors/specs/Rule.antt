@@ -1,0 +1,51 @@
+-- The rule for anchors (document 01, "Anchors"), over parts of the variables. Assumes nothing.
+use Prim.Native.Nat.{ℕ, _<_, _≤_}
+use mathlib.Core.Path.{_≡_}
+use mathlib.Core.Logic.{_⊎_}
+use mathlib.Core.Bool.{true, cond}
+use mathlib.Core.List.{List, [], _∷_, _++_}
+use lib.ListN.{length, getD}
+use lib.Dec.{T}
+use lib.Ieee.{Float, binary64, mul, lt, eq, ne, fits}
+use Rattle.weights.specs.Worth.{zero64, two64, four64}
+use Rattle.field.specs.Field.{Field, entries, linearOf, quadOf}
+use Rattle.places.specs.Places.{places}
+use Rattle.parts.specs.Part.{has}
+use Rattle.anchors.specs.Sums.{onDiagonal, balanced, weightOf}
+
+-- "the greatest sum of |q| off the diagonal, then the lowest index": a stands before i
+abbrev pub Before : Field → ℕ → ℕ → Type 0
+Before F a i = (lt (weightOf F i) (weightOf F a) ≡ true) ⊎ ((eq (weightOf F i) (weightOf F a) ≡ true) × (a ≤ i))
+
+pub record Leads (F : Field) (K : List ℕ) (a : ℕ) : Type 0 where
+  pub member : has K a ≡ true
+  pub first : (i : ℕ) → has K i ≡ true → Before F a i
+
+-- "a component with any start value, or smaller than the given least size, has none"; "Overflow .. makes it invalid and its component gets no anchor"
+pub record Turns (F : Field) (s : List ℕ) (least : ℕ) (K : List ℕ) : Type 0 where
+  pub large : least ≤ length K
+  pub free : (i : ℕ) → has K i ≡ true → getD s i 0 ≡ 2
+  pub symmetric : (i : ℕ) → has K i ≡ true → balanced F i ≡ true
+
+-- the anchors of parts, in the parts' order
+pub data AnchorsOf (F : Field) (s : List ℕ) (least : ℕ) : List (List ℕ) → List ℕ → Type 0 where
+  no-part : AnchorsOf F s least [] []
+  anchored : {K : List ℕ} {Ks : List (List ℕ)} {a : ℕ} {l : List ℕ} → Turns F s least K → Leads F K a → AnchorsOf F s least Ks l → AnchorsOf F s least (K ∷ Ks) (a ∷ l)
+  passed-over : {K : List ℕ} {Ks : List (List ℕ)} {l : List ℕ} → (Turns F s least K → ⊥) → AnchorsOf F s least Ks l → AnchorsOf F s least (K ∷ Ks) l
+
+-- ---- what is added at a variable
+
+-- "4c, then q of each entry in order (2q on the diagonal)"
+unfoldable pub termsAt : Field → ℕ → List Float
+termsAt F k = cond (onDiagonal F k) (mul binary64 two64 (quadOf F k) ∷ []) (cond (ne (quadOf F k) zero64) (quadOf F k ∷ []) [])
+
+unfoldable pub termsOver : Field → List ℕ → List Float
+termsOver F [] = []
+termsOver F (k ∷ ks) = termsAt F k ++ termsOver F ks
+
+unfoldable pub terms : Field → ℕ → List Float
+terms F i = mul binary64 four64 (linearOf F i) ∷ termsOver F (places (F .rows) (F .cols) i)
+
+-- every entry's weight is an f64
+abbrev pub HeldWeights : Field → Type 0
+HeldWeights F = (k : ℕ) → k < entries F → T (fits binary64 (quadOf F k))

@@ -1,0 +1,56 @@
+-- What one variable comes to (document 01, "Anchors"): its error-free sum, and the weight of its entries. Assumes nothing.
+use Prim.Native.Nat.{ℕ, _+_, _<_, _≤_}
+use mathlib.Core.Path.{_≡_}
+use mathlib.Core.Bool.{Bool, cond}
+use mathlib.Core.List.{List, [], _∷_}
+use lib.Dec.{eqb}
+use lib.Ieee.{Float, binary64, add, mul, ne}
+use Rattle.weights.specs.Worth.{magnitude, zero64, two64, four64}
+use Rattle.expansion.specs.declared.ExactSum.{ExactSum}
+use Rattle.expansion.specs.Sum.{Expansion, parts, plus, comesToZero, sumIn, countOf}
+use Rattle.field.specs.Field.{Field, variables, linearOf, rowEnd, columnEnd, quadOf, Shaped}
+use Rattle.places.specs.Places.{places, Adjacent}
+
+-- entry k is on the diagonal
+abbrev pub onDiagonal : Field → ℕ → Bool
+onDiagonal F k = eqb (rowEnd F k) (columnEnd F k)
+
+-- "q of each entry in order (2q on the diagonal)"; a stored zero off the diagonal is passed over
+unfoldable pub balanceAt : Field → Expansion → ℕ → Expansion
+balanceAt F e k = cond (onDiagonal F k) (plus (mul binary64 two64 (quadOf F k)) e) (cond (ne (quadOf F k) zero64) (plus (quadOf F k) e) e)
+
+unfoldable pub balanceOver : Field → Expansion → List ℕ → Expansion
+balanceOver F e [] = e
+balanceOver F e (k ∷ ks) = balanceOver F (balanceAt F e k) ks
+
+-- "ExactSum of 4c, then q of each entry"
+unfoldable pub balanceOf : Field → ℕ → Expansion
+balanceOf F i = balanceOver F (plus (mul binary64 four64 (linearOf F i)) (parts [])) (places (F .rows) (F .cols) i)
+
+-- the sum is valid, and 0
+unfoldable pub balanced : Field → ℕ → Bool
+balanced F i = comesToZero (balanceOf F i)
+
+-- "sum of |q| off the diagonal"
+unfoldable pub weightAt : Field → Float → ℕ → Float
+weightAt F w k = cond (onDiagonal F k) w (cond (ne (quadOf F k) zero64) (add binary64 w (magnitude (quadOf F k))) w)
+
+unfoldable pub weightOver : Field → Float → List ℕ → Float
+weightOver F w [] = w
+weightOver F w (k ∷ ks) = weightOver F (weightAt F w k) ks
+
+unfoldable pub weightOf : Field → ℕ → Float
+weightOf F i = weightOver F zero64 (places (F .rows) (F .cols) i)
+
+-- ---- the code's view of it
+
+-- entry k goes into the sum
+pub record AddsAt (F : Field) (k : ℕ) (s : ExactSum) (f f′ : List Float) (r : ExactSum) : Type 0 where
+  pub sum : sumIn r f′ ≡ balanceAt F (sumIn s f) k
+  pub grows : countOf r ≤ countOf s + 1
+
+-- what a walk along the places of variable i asks
+pub record Walkable (F : Field) (i : ℕ) (u : List ℕ) : Type 0 where
+  pub shaped : Shaped F
+  pub adjacent : Adjacent (variables F) (F .rows) (F .cols) u
+  pub below : i < variables F

@@ -1,0 +1,6 @@
+pub mod Staging
+pub mod Parted
+pub mod Laws
+pub mod Bridge
+pub mod Demands
+pub mod Worked

@@ -1,0 +1,72 @@
+-- `components` tests, grades, works and clears. Assumes nothing.
+use mathlib.Core.Path.{refl, sym, _∙_}
+use lib.ListN.{length}
+use Rattle.field.proofs.Means.{ready-passes}
+use Rattle.components.proofs.Laws.{refused-call, done-call}
+use borrow.Author.Needs.{needs}
+use Rattle.components.proofs.components.Statement.{statement}
+use Rattle.components.proofs.components.Tie as tie
+
+ready-requires : tie.Need-ready-requires
+ready-requires c κs = search needs
+
+enum-known-checked : tie.Need-enum-known-checked
+enum-known-checked c = search needs
+
+same-length : tie.Need-same-length
+same-length c = search needs
+
+returns : tie.Need-returns
+returns c = refused-call _ _ _ _ (sym (c .before .before .before .ready .ensures) ∙ c .before .checked .given .1)
+
+enum-told : tie.Need-enum-told
+enum-told c = search needs
+
+graded-requires : tie.Need-graded-requires
+graded-requires c κs = let shaped = ready-passes _ _ _ _ .0 (sym (c .before .before .ready .ensures) ∙ c .enum-told .given .1) .sound .shaped in shaped .rows-long ∙ sym (shaped .cols-long)
+
+work-requires : tie.Need-work-requires
+work-requires c κs = ready-passes _ _ _ _ .0 (sym (c .before .before .before .before .before .before .ready .ensures) ∙ c .before .before .before .before .enum-told .given .1)
+
+clear-floats-requires : tie.Need-clear-floats-requires
+clear-floats-requires c κs = search needs
+
+clear-words-requires : tie.Need-clear-words-requires
+clear-words-requires c κs = search needs
+
+same-length-2 : tie.Need-same-length-2
+same-length-2 c = search needs
+
+same-length-3 : tie.Need-same-length-3
+same-length-3 c = search needs
+
+same-length-4 : tie.Need-same-length-4
+same-length-4 c = search needs
+
+returns-2 : tie.Need-returns-2
+returns-2 c =
+    let worked = c .before .before .before .before .before .before .before .before .before .before .before .before .work in
+    let passed =
+    sym (c .before .before .before .before .before .before .before .before .before .before .before .before .before .before .before .before .before .before .before .ready .ensures)
+    ∙ c .before .before .before .before .before .before .before .before .before .before .before .before .before .before .before .before .before .enum-told .given .1 in
+    done-call _ _ _ _ _ (length (worked .last .1 .1 .1 .1 .1 .1 .0)) passed
+    (c .before .before .before .before .before .before .before .before .before .before .before .before .before .before .before .before .graded .ensures) (worked .ensures)
+    (c .before .before .before .before .before .before .clear-floats .ensures) refl (c .before .before .clear-words .ensures) (search needs)
+
+pub components-spec : {M : Type 1} → statement M
+components-spec =
+    tie.close
+    (tie.spec
+    ready-requires
+    enum-known-checked
+    same-length
+    returns
+    enum-told
+    graded-requires
+    work-requires
+    clear-floats-requires
+    clear-words-requires
+    same-length-2
+    same-length-3
+    same-length-4
+    returns-2)

@@ -1,0 +1,12 @@
+pub mod Ends
+pub mod Sought
+pub mod Putting
+pub mod Filling
+pub mod Chosen
+pub mod Sums
+pub mod Fixed
+pub mod Stands
+pub mod Objective
+pub mod Exchange
+pub mod Bits
+pub mod Bridge

@@ -1,0 +1,121 @@
+-- `entry_of` goes through the places of i, rising. Assumes nothing.
+use Prim.Native.Nat.{_-_}
+use mathlib.Core.Path.{sym, _∙_}
+use native.Mathlib.Omega.{arith}
+use Rattle.field.specs.Field.{fieldOf}
+use Rattle.places.proofs.Walk.{walk-turn}
+use Rattle.enumeration.proofs.Sought.{Seeking, seek-start, seek-turn, seek-found, seek-none}
+use borrow.Author.Needs.{needs}
+use Rattle.enumeration.proofs.pairs.entry_of.Statement.{statement}
+use Rattle.enumeration.proofs.pairs.entry_of.Tie as tie
+
+abbrev Inv-loop : tie.InvT-loop
+Inv-loop c rows cols q u i j n start end p₀ p = Seeking (fieldOf c rows cols q) i j u end p
+
+abbrev μ-loop : tie.MeasureT-loop
+μ-loop c rows cols q u i j n start end p₀ p = end - p
+
+mul-wide-word : tie.Need-mul-wide-word Inv-loop μ-loop
+mul-wide-word c = search needs
+
+shared-slice-read-wide-word : tie.Need-shared-slice-read-wide-word Inv-loop μ-loop
+shared-slice-read-wide-word c = omega (arith, c .before .before .before .before .before .before .pre .0 .adjacent .room, c .before .before .before .before .before .before .pre .1)
+
+wide-word-requires : tie.Need-wide-word-requires Inv-loop μ-loop
+wide-word-requires c κs = search needs
+
+add-wide-word : tie.Need-add-wide-word Inv-loop μ-loop
+add-wide-word c = search needs
+
+mul-wide-word-2 : tie.Need-mul-wide-word-2 Inv-loop μ-loop
+mul-wide-word-2 c = search needs
+
+shared-slice-read-wide-word-2 : tie.Need-shared-slice-read-wide-word-2 Inv-loop μ-loop
+shared-slice-read-wide-word-2 c =
+    let start = c .before .before .before .before .before .before .before .before in
+    omega (arith, start .pre .0 .adjacent .room, start .pre .1)
+
+wide-word-requires-2 : tie.Need-wide-word-requires-2 Inv-loop μ-loop
+wide-word-requires-2 c κs = search needs
+
+loop-holds : tie.Need-loop-holds Inv-loop μ-loop
+loop-holds c =
+    let at-wide-word = c .before .before in
+    let start = at-wide-word .before .before .before .before .before .before .before in
+    seek-start _ (start .pre .0) (start .pre .1) (at-wide-word .wide-word .ensures) (c .wide-word2 .ensures)
+
+add-wide-word-2 : tie.Need-add-wide-word-2 Inv-loop μ-loop
+add-wide-word-2 c = search needs
+
+add-wide-word-3 : tie.Need-add-wide-word-3 Inv-loop μ-loop
+add-wide-word-3 c = omega (arith, walk-turn (c .before .loop .inv .along .walk) (c .loop-test .taken) .index)
+
+mul-wide-word-3 : tie.Need-mul-wide-word-3 Inv-loop μ-loop
+mul-wide-word-3 c = omega (arith, walk-turn (c .before .loop .inv .along .walk) (c .loop-test .taken) .index)
+
+shared-slice-read-wide-word-3 : tie.Need-shared-slice-read-wide-word-3 Inv-loop μ-loop
+shared-slice-read-wide-word-3 c = walk-turn (c .before .before .loop .inv .along .walk) (c .before .loop-test .taken) .index
+
+wide-word-requires-3 : tie.Need-wide-word-requires-3 Inv-loop μ-loop
+wide-word-requires-3 c κs = search needs
+
+stands-at-requires : tie.Need-stands-at-requires Inv-loop μ-loop
+stands-at-requires c κs =
+    let at-loop-test = c .before .before in
+    let at-loop = at-loop-test .before in
+    let start = at-loop .before .before .before .before .before .before .before .before .before .before in (
+      omega (arith, c .wide-word3 .ensures, walk-turn (at-loop .loop .inv .along .walk) (at-loop-test .loop-test .taken) .entry),
+      omega
+          (arith, c .wide-word3 .ensures, walk-turn (at-loop .loop .inv .along .walk) (at-loop-test .loop-test .taken) .entry, start .pre .0 .shaped .rows-long, start .pre .0 .shaped .cols-long),
+    )
+
+returns : tie.Need-returns Inv-loop μ-loop
+returns c =
+    let at-stands-at = c .before in
+    let at-wide-word3 = at-stands-at .before in
+    let at-loop-test = at-wide-word3 .before .before in
+    let at-loop = at-loop-test .before in
+    seek-found (at-loop .loop .inv) (at-loop-test .loop-test .taken) (at-wide-word3 .wide-word3 .ensures) (sym (c .if1 .taken) ∙ at-stands-at .stands-at .ensures)
+
+add-p : tie.Need-add-p Inv-loop μ-loop
+add-p c = search needs
+
+loop-less : tie.Need-loop-less Inv-loop μ-loop
+loop-less c = search needs
+
+loop-again : tie.Need-loop-again Inv-loop μ-loop
+loop-again c =
+    let at-stands-at = c .before in
+    let at-wide-word3 = at-stands-at .before in
+    let at-loop-test = at-wide-word3 .before .before in
+    let at-loop = at-loop-test .before in
+    seek-turn (at-loop .loop .inv) (at-loop-test .loop-test .taken) (at-wide-word3 .wide-word3 .ensures) (sym (c .if1 .left) ∙ at-stands-at .stands-at .ensures)
+
+returns-2 : tie.Need-returns-2 Inv-loop μ-loop
+returns-2 c = seek-none (c .before .loop .inv) (c .loop-test .left)
+
+pub entry-of-spec : {M : Type 1} → statement M
+entry-of-spec =
+    tie.close
+    (tie.spec
+    Inv-loop
+    μ-loop
+    mul-wide-word
+    shared-slice-read-wide-word
+    wide-word-requires
+    add-wide-word
+    mul-wide-word-2
+    shared-slice-read-wide-word-2
+    wide-word-requires-2
+    loop-holds
+    add-wide-word-2
+    add-wide-word-3
+    mul-wide-word-3
+    shared-slice-read-wide-word-3
+    wide-word-requires-3
+    stands-at-requires
+    returns
+    add-p
+    loop-less
+    loop-again
+    returns-2)

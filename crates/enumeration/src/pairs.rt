@@ -1,0 +1,121 @@
+// The terms of the entries between members of a part.
+use scratch::wide_short;
+use scratch::wide_word;
+ghost use mathlib.Core.Path.{_≡_};
+ghost use Prim.Native.Nat.{_<_};
+ghost use lib.ListN.{length};
+ghost use Rattle.scratch.specs.Lent.{before, after};
+ghost use Rattle.scratch.specs.Region.{region};
+ghost use Rattle.field.specs.Field.{given, lent, variables, entries};
+ghost use Rattle.masks.specs.Masks.{Added};
+ghost use Rattle.enumeration.specs.Held.{Placed, Small, Sized};
+ghost use Rattle.enumeration.specs.Terms.{stands, entryOf, pairTerm, columnTerms, pairTerms};
+
+// Whether entry k is (i, j).
+fn stands_at(rows: &[u16], cols: &[u16], k: usize, i: usize, j: usize) -> bool
+    requires { ⌜ k < length (now rows) ⌝ }
+    requires { ⌜ k < length (now cols) ⌝ }
+    ensures { λ r. ⌜ r ≡ stands (before rows) (before cols) i j k ⌝ }
+{
+    wide_short(rows[k]) == i && wide_short(cols[k]) == j
+}
+
+// The entry (i, j), found among the places of i, or the number of entries where there is none.
+fn entry_of(
+    c: &[f64],
+    rows: &[u16],
+    cols: &[u16],
+    q: &[f64],
+    u: &[u32],
+    i: usize,
+    j: usize,
+) -> usize
+    requires { ⌜ Placed (lent c rows cols q) (now u) ⌝ }
+    requires { ⌜ i < variables (lent c rows cols q) ⌝ }
+    ensures { λ r. ⌜ r ≡ entryOf (given c rows cols q) i j ⌝ }
+{
+    let n = c.len();
+    let start = wide_word(u[i]);
+    let end = wide_word(u[i + 1]);
+    for p in start..end {
+        let k = wide_word(u[n + 1 + p]);
+        if stands_at(rows, cols, k, i, j) {
+            return k;
+        }
+    }
+    q.len()
+}
+
+// The term of members a and b, in row and column, if such an entry stands.
+fn add_pair(
+    c: &[f64],
+    rows: &[u16],
+    cols: &[u16],
+    q: &[f64],
+    u: &[u32],
+    at: usize,
+    count: usize,
+    b: usize,
+    a: usize,
+    table: &mut [f64],
+)
+    requires { ⌜ Placed (lent c rows cols q) (now u) ⌝ }
+    requires { ⌜ Small (length (now c)) (now u) at count ⌝ }
+    requires { ⌜ Sized count (now table) ⌝ }
+    requires { ⌜ a < count ⌝ }
+    requires { ⌜ b < count ⌝ }
+    ensures { λ _. ⌜ Added (pairTerm (given c rows cols q) (region at count (before u)) b a) (before table) (after table) ⌝ }
+{
+    let i = wide_word(u[at + a]);
+    let j = wide_word(u[at + b]);
+    let k = entry_of(c, rows, cols, q, u, i, j);
+    if k >= q.len() {
+        return;
+    }
+    let weight = q[k];
+    masks::add_term(table, masks::bit(a) | masks::bit(b), weights::half(weight));
+}
+
+// The terms of the column of member b, by rows in pop order.
+fn add_column(
+    c: &[f64],
+    rows: &[u16],
+    cols: &[u16],
+    q: &[f64],
+    u: &[u32],
+    at: usize,
+    count: usize,
+    b: usize,
+    table: &mut [f64],
+)
+    requires { ⌜ Placed (lent c rows cols q) (now u) ⌝ }
+    requires { ⌜ Small (length (now c)) (now u) at count ⌝ }
+    requires { ⌜ Sized count (now table) ⌝ }
+    requires { ⌜ b < count ⌝ }
+    ensures { λ _. ⌜ Added (columnTerms (given c rows cols q) (region at count (before u)) b count) (before table) (after table) ⌝ }
+{
+    for a in 0..count {
+        add_pair(c, rows, cols, q, u, at, count, b, a, table);
+    }
+}
+
+// All of them, by columns in pop order.
+pub fn add_pairs(
+    c: &[f64],
+    rows: &[u16],
+    cols: &[u16],
+    q: &[f64],
+    u: &[u32],
+    at: usize,
+    count: usize,
+    table: &mut [f64],
+)
+    requires { ⌜ Placed (lent c rows cols q) (now u) ⌝ }
+    requires { ⌜ Small (length (now c)) (now u) at count ⌝ }
+    requires { ⌜ Sized count (now table) ⌝ }
+    ensures { λ _. ⌜ Added (pairTerms (given c rows cols q) (region at count (before u)) count) (before table) (after table) ⌝ }
+{
+    for b in 0..count {
+        add_column(c, rows, cols, q, u, at, count, b, table);
+    }
+}

@@ -1,0 +1,20 @@
+-- `two_sum` puts the larger in magnitude first. Assumes nothing.
+use Rattle.expansion.proofs.Carrying.{split-turned, split-straight}
+use borrow.Author.Needs.{needs}
+use Rattle.expansion.proofs.two_sum.Statement.{statement}
+use Rattle.expansion.proofs.two_sum.Tie as tie
+
+magnitude-requires : tie.Need-magnitude-requires
+magnitude-requires c κs = search needs
+
+magnitude-requires-2 : tie.Need-magnitude-requires-2
+magnitude-requires-2 c κs = search needs
+
+returns : tie.Need-returns
+returns c = split-turned _ _ (c .before .before .magnitude .ensures) (c .before .magnitude2 .ensures) (c .if1 .taken)
+
+returns-2 : tie.Need-returns-2
+returns-2 c = split-straight _ _ (c .before .before .magnitude .ensures) (c .before .magnitude2 .ensures) (c .if1 .left)
+
+pub two-sum-spec : {M : Type 1} → statement M
+two-sum-spec = tie.close (tie.spec magnitude-requires magnitude-requires-2 returns returns-2)

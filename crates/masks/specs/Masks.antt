@@ -1,0 +1,71 @@
+-- Masks of at most 10 bits; terms, each of which counts in the masks that have its required bits; the sum of each mask, and the lowest mask of least sum. Assumes nothing.
+use Prim.Native.Nat.{ℕ, zero, suc, _^_, _<_, _≤_}
+use mathlib.Core.Path.{_≡_}
+use mathlib.Core.Bool.{Bool, cond}
+use mathlib.Core.List.{List, [], _∷_}
+use lib.Bits.{bitAnd}
+use lib.Dec.{eqb}
+use lib.ListN.{length, getD}
+use lib.Ieee.{Float, nan, binary64, add, lt, ofBits}
+use Rattle.weights.specs.Worth.{zero64}
+
+-- size is the number of masks of a few bits; "No objective table holds more than 1,024 sums"
+pub record Masks (size : ℕ) : Type 0 where
+  pub bits : ℕ
+  pub few : bits ≤ 10
+  pub all : size ≡ 2 ^ bits
+
+-- a value, and the bits that a mask must have for it to count
+pub record Term : Type 0 where
+  pub required : ℕ
+  pub value : Float
+
+abbrev pub term : ℕ → Float → Term
+term r v = record { required = r; value = v }
+
+-- the mask has every required bit
+unfoldable pub has : ℕ → ℕ → Bool
+has mask required = eqb (bitAnd mask required) required
+
+-- the sum of a mask after one more term
+unfoldable pub plus : ℕ → Float → Term → Float
+plus mask sum t = cond (has mask (t .required)) (add binary64 sum (t .value)) sum
+
+-- and after more of them: "terms are added in the source's order"
+unfoldable pub sumAt : ℕ → Float → List Term → Float
+sumAt mask sum [] = sum
+sumAt mask sum (t ∷ ts) = sumAt mask (plus mask sum t) ts
+
+-- the objective of a mask
+abbrev pub objective : List Term → ℕ → Float
+objective ts mask = sumAt mask zero64 ts
+
+-- the elements of a table by their positions
+abbrev pub element : List Float → ℕ → Float
+element table mask = getD table mask nan
+
+-- the table holds g of every mask
+pub record Sums (g : ℕ → Float) (table : List Float) : Type 0 where
+  pub at : (mask : ℕ) → mask < length table → element table mask ≡ g mask
+
+-- the table t is t₀ with these terms added
+pub record Added (ts : List Term) (t₀ t : List Float) : Type 0 where
+  pub long : length t ≡ length t₀
+  pub sums : Sums (λ mask. sumAt mask (element t₀ mask) ts) t
+
+-- a mask and its sum
+pub record Best : Type 0 where
+  pub sum : Float
+  pub mask : ℕ
+
+-- plus infinity
+abbrev pub top : Float
+top = ofBits binary64 0x7ff0_0000_0000_0000
+
+-- "of equal objectives the lowest mask wins. If all are NaN or plus infinity the mask is 0; minus infinity counts as least": among the masks below n
+unfoldable pub bestOf : (ℕ → Float) → ℕ → Best
+bestOf g zero = record { sum = top; mask = 0 }
+bestOf g (suc n) = cond (lt (g n) (bestOf g n .sum)) (record { sum = g n; mask = n }) (bestOf g n)
+
+abbrev pub lowest : (ℕ → Float) → ℕ → ℕ
+lowest g n = bestOf g n .mask

@@ -1,0 +1,5 @@
+pub mod Chosen
+pub mod Marking
+pub mod Laws
+pub mod Listed
+pub mod Demands

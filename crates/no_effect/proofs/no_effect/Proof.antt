@@ -1,0 +1,90 @@
+-- `no_effect` tests, grades, finds and clears. Assumes nothing.
+use mathlib.Core.Path.{sym, _∙_}
+use native.Mathlib.Omega.{arith}
+use lib.ListN.{length}
+use Rattle.field.specs.Field.{fieldOf}
+use Rattle.no_effect.proofs.Laws.{word-passes, refused-call, done-call, room-call}
+use borrow.Author.Needs.{needs}
+use Rattle.no_effect.proofs.no_effect.Statement.{statement}
+use Rattle.no_effect.proofs.no_effect.Tie as tie
+
+tests-requires : tie.Need-tests-requires
+tests-requires c κs = search needs
+
+enum-known-checked : tie.Need-enum-known-checked
+enum-known-checked c = search needs
+
+returns : tie.Need-returns
+returns c = refused-call _ _ _ (sym (c .before .before .before .tests .ensures) ∙ c .before .checked .given .1)
+
+enum-told : tie.Need-enum-told
+enum-told c = search needs
+
+graded-requires : tie.Need-graded-requires
+graded-requires c κs =
+    let shaped = word-passes _ _ .0 (sym (c .before .before .tests .ensures) ∙ c .enum-told .given .1) .loose .shaped in
+    shaped .rows-long ∙ sym (shaped .cols-long)
+
+find-requires : tie.Need-find-requires
+find-requires c κs =
+    let at-enum-told = c .before .before .before in
+    let at-tests = at-enum-told .before .before in
+    let ready = word-passes _ _ .0 (sym (at-tests .tests .ensures) ∙ at-enum-told .enum-told .given .1) in
+    (ready .loose .shaped, omega (arith, ready .words-room))
+
+clear-words-requires : tie.Need-clear-words-requires
+clear-words-requires c κs = search needs
+
+clear-shorts-requires : tie.Need-clear-shorts-requires
+clear-shorts-requires c κs = search needs
+
+same-length : tie.Need-same-length
+same-length c = search needs
+
+same-length-2 : tie.Need-same-length-2
+same-length-2 c = search needs
+
+returns-2 : tie.Need-returns-2
+returns-2 c =
+    let a = c .before .before .before .before .before .before .before .before .before .before .before .before .before .before .before .before .before .before .before .before .before .before .before .before .before .before .args in
+    let t = c .before .before .before .before .before .before .before .before .before .before .before .before .before .find in
+    room-call (fieldOf (a .c .now) (a .rows .now) (a .cols .now) (a .q .now)) (a .list .now) (a .u .now)
+    (sym (c .before .before .before .before .before .before .before .before .before .before .before .before .before .before .before .before .before .before .before .tests .ensures)
+    ∙ c .before .before .before .before .before .before .before .before .before .before .before .before .before .before .before .before .before .enum-told .given .1)
+    (t .ensures) (length (t .last .1 .1 .1 .1 .0)) (length (t .last .1 .1 .1 .1 .1 .0)) (search needs) (c .before .before .clear-shorts .ensures) (search needs)
+    (c .before .before .before .before .before .before .before .clear-words .ensures) (search needs)
+
+same-length-3 : tie.Need-same-length-3
+same-length-3 c = search needs
+
+same-length-4 : tie.Need-same-length-4
+same-length-4 c = search needs
+
+returns-3 : tie.Need-returns-3
+returns-3 c =
+    let a = c .before .before .before .before .before .before .before .before .before .before .before .before .before .before .before .before .before .before .before .before .before .before .args in
+    let t = c .before .before .before .before .before .before .before .before .before .find in
+    done-call (fieldOf (a .c .now) (a .rows .now) (a .cols .now) (a .q .now)) (a .list .now) (a .u .now)
+    (sym (c .before .before .before .before .before .before .before .before .before .before .before .before .before .before .before .tests .ensures)
+    ∙ c .before .before .before .before .before .before .before .before .before .before .before .before .before .enum-told .given .1)
+    (t .ensures) (length (t .last .1 .1 .1 .1 .1 .0)) (c .before .before .before .before .before .before .before .before .before .before .before .before .graded .ensures) (search needs)
+    (c .before .before .before .clear-words .ensures) (search needs)
+
+pub no-effect-spec : {M : Type 1} → statement M
+no-effect-spec =
+    tie.close
+    (tie.spec
+    tests-requires
+    enum-known-checked
+    returns
+    enum-told
+    graded-requires
+    find-requires
+    clear-words-requires
+    clear-shorts-requires
+    same-length
+    same-length-2
+    returns-2
+    same-length-3
+    same-length-4
+    returns-3)

@@ -1,0 +1,44 @@
+-- The variables of no effect (document 01: "No-effect variables (no entry, c = 0)"). Assumes nothing.
+use Prim.Native.Nat.{ℕ, _<_}
+use mathlib.Core.Path.{_≡_}
+use mathlib.Core.Bool.{Bool, cond, not, _&&_}
+use mathlib.Core.List.{List}
+use lib.Dec.{eqb}
+use lib.ListN.{length, getD, drop}
+use lib.Ieee.{Float, nan, eq}
+use Rattle.weights.specs.Worth.{zero64}
+use Rattle.scratch.specs.All.{allBelow}
+use Rattle.field.specs.Field.{Field, variables, linearOf}
+use Rattle.no_effect.specs.Putting.{chosen, Putting, putAll}
+
+-- neither end of entry k is i
+abbrev pub apartAt : List ℕ → List ℕ → ℕ → ℕ → Bool
+apartAt rows cols i k = not (eqb (getD rows k 0) i) && not (eqb (getD cols k 0) i)
+
+-- "no entry": an entry on the diagonal is an entry, and so is a stored zero
+unfoldable pub untouched : List ℕ → List ℕ → ℕ → Bool
+untouched rows cols i = allBelow (apartAt rows cols i) (length rows)
+
+-- "no entry, c = 0"; the sign of a zero does not matter
+unfoldable pub hasNoEffect : Field → ℕ → Bool
+hasNoEffect F i = untouched (F .rows) (F .cols) i && eq (linearOf F i) zero64
+
+-- all of them, rising
+unfoldable pub noEffect : Field → List ℕ
+noEffect F = chosen (hasNoEffect F) (variables F)
+
+-- ---- what the code goes by
+
+-- what marking leaves of u₀: a word for each variable, 0 where it has no entry and 1 where it has one, and the rest as it was
+pub record Marked (n : ℕ) (rows cols u₀ u : List ℕ) : Type 0 where
+  pub long : length u ≡ length u₀
+  pub at : (i : ℕ) → i < n → getD u i 0 ≡ cond (untouched rows cols i) 0 1
+  pub rest : drop n u ≡ drop n u₀
+
+-- no mark, and c = 0
+abbrev pub idle : List Float → List ℕ → ℕ → Bool
+idle c u i = eqb (getD u i 0) 0 && eq (getD c i nan) zero64
+
+-- they go to a list's front
+unfoldable pub found : Field → List ℕ → Putting
+found F l = putAll (hasNoEffect F) (variables F) l

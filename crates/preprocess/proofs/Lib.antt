@@ -1,0 +1,6 @@
+pub mod Zeros
+pub mod Blind
+pub mod Idle
+pub mod Laws
+pub mod Demands
+pub mod Worked

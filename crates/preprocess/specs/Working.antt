@@ -1,0 +1,35 @@
+-- What the call works out (document 01, "Preprocess and heavy"). Assumes nothing.
+use Prim.Native.Nat.{ℕ, zero, suc}
+use mathlib.Core.Path.{_≡_}
+use mathlib.Core.Bool.{Bool, cond, _&&_}
+use mathlib.Core.List.{List}
+use lib.Dec.{eqb}
+use lib.ListN.{length, getD, set}
+use Rattle.field.specs.Field.{Field, variables}
+use Rattle.places.specs.Places.{Adjacent}
+use Rattle.run.specs.Run.{closure}
+use Rattle.components.specs.Small.{smallParts}
+use Rattle.no_effect.specs.Effect.{hasNoEffect}
+
+-- variable i takes 0 if it is of those meant, and free
+unfoldable pub fixAt : Bool → ℕ → List ℕ → List ℕ
+fixAt b i s = cond (b && eqb (getD s i 0) 2) (set s i 0) s
+
+-- the variables below i
+unfoldable pub fixTo : (ℕ → Bool) → ℕ → List ℕ → List ℕ
+fixTo p zero s = s
+fixTo p (suc i) s = fixAt (p i) i (fixTo p i s)
+
+-- "No-effect variables (no entry, c = 0) count as 0 while working, but a start value of 1 is kept in the answer"
+unfoldable pub withNoEffect : Field → List ℕ → List ℕ
+withNoEffect F s = fixTo (hasNoEffect F) (variables F) s
+
+-- the closure from there, then the small components
+unfoldable pub preprocess : Field → List ℕ → List ℕ
+preprocess F s = smallParts F (closure F (withNoEffect F s))
+
+-- what the run over lent memory leaves: the closure, and the adjacency in its place
+pub record Closes (F : Field) (s u s′ u′ : List ℕ) : Type 0 where
+  pub values : s′ ≡ closure F s
+  pub adjacent : Adjacent (variables F) (F .rows) (F .cols) u′
+  pub words-long : length u′ ≡ length u
