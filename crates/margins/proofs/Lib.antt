@@ -1,0 +1,10 @@
+pub mod MergeLaws
+pub mod Ends
+pub mod Spread
+pub mod Four
+pub mod Tolerance
+pub mod Break
+pub mod Merged
+pub mod Members
+pub mod Verdict
+pub mod Search

@@ -1,0 +1,12 @@
+-- `kept` asks whether x is a zero. Assumes nothing.
+use Rattle.margins.proofs.bounds.kept.Statement.{statement}
+use Rattle.margins.proofs.bounds.kept.Tie as tie
+
+returns : tie.Need-returns
+returns c = simp (c .if1 .taken)
+
+returns-2 : tie.Need-returns-2
+returns-2 c = simp (c .if1 .left)
+
+pub kept-spec : {M : Type 1} → statement M
+kept-spec = tie.close (tie.spec returns returns-2)

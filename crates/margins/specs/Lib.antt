@@ -1,0 +1,4 @@
+pub mod Model
+pub mod Merge
+pub mod Exceeds
+pub mod Exact

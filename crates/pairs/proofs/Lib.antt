@@ -1,0 +1,14 @@
+pub mod PartLaws
+pub mod Push
+pub mod Tails
+pub mod RowLaws
+pub mod PushLaws
+pub mod Made
+pub mod ListLaws
+pub mod FreeLaws
+pub mod PairLaws
+pub mod WalkLaws
+pub mod CallLaws
+pub mod Examined
+pub mod Demands
+pub mod Worked

@@ -1,0 +1,6 @@
+pub mod Parts
+pub mod Rows
+pub mod Listing
+pub mod Walk
+pub mod Call
+pub mod Worked
