@@ -23,13 +23,13 @@ use Rattle.margins.specs.Merge.{Listed}
 use Rattle.constraints.specs.Triple.{room}
 use Rattle.pairs.specs.declared.Paired.the-variants.{Done, Refused}
 use Rattle.pairs.specs.declared.listing.Tally.{Tally}
-use Rattle.pairs.specs.Parts.{Parted}
-use Rattle.pairs.specs.Rows.{endsAt, keysAt, weightsAt, size, Laid, Kept, Merged}
+use Rattle.neighbours.specs.Parts.{Parted}
+use Rattle.neighbours.specs.Rows.{endsAt, keysAt, weightsAt, size, Laid, Kept, Merged}
 use Rattle.pairs.specs.Listing.{found}
 use Rattle.pairs.specs.Walk.{Prepared, freeAt, Freed, Walked}
 use Rattle.pairs.specs.Call.{left, answered, leaves, pairsCall}
 use Rattle.pairs.proofs.ListLaws.{written-filled, length-written}
-use Rattle.pairs.proofs.PushLaws.{laid-after}
+use Rattle.neighbours.proofs.PushLaws.{laid-after}
 
 -- ---- the work
 

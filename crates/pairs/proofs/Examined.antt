@@ -12,7 +12,7 @@ use borrow.Author.Tests.{eqb-true, eq-eqb}
 use Rattle.meaning.specs.Kinds.{Pair, pair}
 use Rattle.meaning.specs.Steps.{Extends}
 use Rattle.meaning.proofs.Values.{free-back}
-use Rattle.pairs.specs.Rows.{isFree}
+use Rattle.neighbours.specs.Rows.{isFree}
 use Rattle.pairs.specs.Listing.{freeTo, freeOf, withEach, pairsOf, freePairs, allowed, examined, pairCount}
 use Rattle.pairs.proofs.FreeLaws.{free-below, free-rises}
 

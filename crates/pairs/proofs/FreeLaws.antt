@@ -9,7 +9,7 @@ use native.Mathlib.Numerals.{add-one}
 use native.Mathlib.Omega.{arith}
 use lib.ListN.{length, getD, set, length-set, length-append, List·getD-append}
 use lib.Seq.{getD-set-same, getD-set-other, take-set-le, getD-append-seam}
-use Rattle.pairs.specs.Rows.{isFree}
+use Rattle.neighbours.specs.Rows.{isFree}
 use Rattle.pairs.specs.Listing.{freeTo, freeOf}
 use Rattle.pairs.specs.Walk.{Freed}
 

@@ -1,9 +1,3 @@
-pub mod PartLaws
-pub mod Push
-pub mod Tails
-pub mod RowLaws
-pub mod PushLaws
-pub mod Made
 pub mod ListLaws
 pub mod FreeLaws
 pub mod PairLaws

@@ -13,7 +13,7 @@ use Rattle.margins.specs.Model.{startFrom, boundsTo, mergedWeight, mass, tolera
 use Rattle.margins.specs.Merge.{rowsOf, Fit, Rises, Looked, Listed, walkAll}
 use Rattle.margins.proofs.Search.{looked-weight}
 use Rattle.margins.proofs.Merged.{walk-is}
-use Rattle.pairs.specs.Rows.{keysAt, weightsAt, endOf, isFree, size}
+use Rattle.neighbours.specs.Rows.{keysAt, weightsAt, endOf, isFree, size}
 use Rattle.pairs.specs.Walk.{Prepared}
 
 -- the part of a list from b on, as the code takes it

@@ -1,5 +1,3 @@
-pub mod Parts
-pub mod Rows
 pub mod Listing
 pub mod Walk
 pub mod Call

@@ -9,7 +9,7 @@ use Rattle.meaning.specs.Kinds.{Kind, at-least-one, exactly-one, no-more-than-o
 use Rattle.field.specs.Field.{Field}
 use Rattle.margins.specs.Model.{pairKinds}
 use Rattle.constraints.specs.Triple.{Triple, triple, room, filled, stored}
-use Rattle.pairs.specs.Rows.{isFree}
+use Rattle.neighbours.specs.Rows.{isFree}
 
 -- ---- the pairs
 

@@ -12,8 +12,8 @@ use Rattle.field.specs.Field.{Field, variables, entries}
 use Rattle.margins.specs.Merge.{Listed}
 use Rattle.pairs.specs.declared.listing.Cursor.{Cursor}
 use Rattle.pairs.specs.declared.listing.Tally.{Tally}
-use Rattle.pairs.specs.Parts.{Parted}
-use Rattle.pairs.specs.Rows.{keysAt, weightsAt, endOf, isFree, size, Laid}
+use Rattle.neighbours.specs.Parts.{Parted}
+use Rattle.neighbours.specs.Rows.{keysAt, weightsAt, endOf, isFree, size, Laid}
 use Rattle.pairs.specs.Listing.{freeTo, freeOf, withEach, pairsOf, freePairs, allowed, examined, foundIn, found, written}
 
 -- what the pairs are worked from: linear parts, masses, and merged rows

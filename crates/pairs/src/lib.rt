@@ -1,7 +1,5 @@
 // Pair dominance: the public call.
 mod listing;
-mod merged;
-mod parts;
 
 use crate::listing::Tally;
 use field::Checked;
@@ -39,8 +37,8 @@ fn work(
     let n = c.len();
     let m = rows.len();
     places::build(u, rows, cols, n);
-    parts::parts(c, rows, cols, q, start, f);
-    merged::merge(c, rows, cols, q, start, f, u);
+    neighbours::parts::parts(c, rows, cols, q, start, f);
+    neighbours::merged::merge(c, rows, cols, q, start, f, u);
     let k = listing::list_free(start, u, n + 1 + 2 * m + n + 2 * m);
     listing::walk_pairs(c, rows, cols, q, start, f, u, k, limit, constraints)
 }
