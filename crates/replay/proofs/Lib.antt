@@ -1,2 +1,3 @@
+pub mod NotNan
 pub mod Taken
 pub mod Parts

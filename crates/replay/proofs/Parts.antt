@@ -1,36 +1,33 @@
--- The parts of the buffers that a case uses are as long as its head says. Assumes nothing.
-use Prim.Native.Nat.{ℕ, _+_, _*_, _≤_}
-use mathlib.Core.Path.{_≡_}
-use mathlib.Core.List.{List}
+-- A case that the buffers hold, and the parts of them that it is lent. Assumes nothing.
+use Prim.Native.Nat.{ℕ, _+_, _≤_}
+use mathlib.Core.Path.{_≡_, sym, subst}
 use native.Mathlib.Omega.{arith}
-use lib.ListN.{length, take}
+use lib.ListN.{length, take, replicate, length-replicate}
 use lib.Seq.{length-take-le}
 use Rattle.replay.specs.declared.head.Head.{Head}
-use Rattle.replay.specs.Heads.{Field}
+use Rattle.replay.specs.declared.Next.{Next}
+use Rattle.replay.specs.declared.Next.the-variants.{Case}
+use Rattle.replay.specs.Heads.{Fits, contentsOf, standing}
+use Rattle.replay.specs.Next.{Ready}
 
--- a, r, k, w and s are the head's lengths
-pub parts-fit : {A B : Type 0} (h : Head) (c : List A) (rows cols : List B) (q : List A) (start : List B) {size a r k w s : ℕ}
-    → Field h (length c) (length rows) (length cols) (length q) (length start) size
-    → a ≡ h .linear → r ≡ h .rows → k ≡ h .columns → w ≡ h .weights → s ≡ h .start
-    → 8 * length (take a c) + 2 * length (take r rows) + 2 * length (take k cols) + 8 * length (take w q) + length (take s start) ≤ size
-parts-fit h c rows cols q start {size} {a} {r} {k} {w} {s} f ea er ek ew es =
-    omega (
-      arith,
-      length-take-le a c (omega (arith, f .linear-fits)),
-      length-take-le r rows (omega (arith, f .rows-fit)),
-      length-take-le k cols (omega (arith, f .columns-fit)),
-      length-take-le w q (omega (arith, f .weights-fit)),
-      length-take-le s start (omega (arith, f .start-fits)),
-      f .contents-fit,
-    )
+-- more bytes hold its contents too
+pub fits-more : {h : Head} {n m : ℕ} → Fits h n → n ≤ m → Fits h m
+fits-more f more = record { lists = f .lists; lent = f .lent; read = omega (arith, f .read) }
 
--- a longer buffer holds the contents too
-pub field-wider : {h : Head} {c rows cols q start size size′ : ℕ} → Field h c rows cols q start size → size ≤ size′ → Field h c rows cols q start size′
-field-wider f more = record {
-  linear-fits = f .linear-fits;
-  rows-fit = f .rows-fit;
-  columns-fit = f .columns-fit;
-  weights-fit = f .weights-fit;
-  start-fits = f .start-fits;
-  contents-fit = omega (arith, f .contents-fit);
-}
+pub ready-case : {x : Next} {h : Head} {n : ℕ} → Ready x n → x ≡ Case h → Fits h n
+ready-case {x} {h} {n} r e = subst (λ y. Ready y n) e r
+
+-- the first n elements of an array of m
+pub part-long : {A : Type 0} (n m : ℕ) (z : A) → n ≤ m → n ≡ length (take n (replicate m z))
+part-long n m z h = sym (length-take-le n (replicate m z) (omega (arith, length-replicate m z)))
+
+-- a field of a case's lengths and its start values stand in its contents
+pub parts-stand : (h : Head) {size a b c d : ℕ} → contentsOf h ≤ size → h .linear ≡ a → h .rows ≡ b → h .columns ≡ c → h .weights ≡ d → standing a b c d + h .start ≤ size
+parts-stand h r ea eb ec ed = omega arith
+
+-- and so does the field alone
+pub field-stands : (h : Head) {size a b c d : ℕ} → contentsOf h ≤ size → h .linear ≡ a → h .rows ≡ b → h .columns ≡ c → h .weights ≡ d → standing a b c d ≤ size
+field-stands h r ea eb ec ed = omega arith
+
+pub values-stand : (at : ℕ) {s s′ size : ℕ} → s ≡ s′ → at + s ≤ size → at + s′ ≤ size
+values-stand at e h = omega arith

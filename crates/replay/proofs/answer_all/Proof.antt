@@ -2,27 +2,32 @@
 use mathlib.Core.Path.{_≡_}
 use native.Mathlib.Omega.{arith}
 use lib.ListN.{length}
+use Rattle.replay.proofs.Parts.{ready-case}
 use borrow.Author.Needs.{needs}
 use Rattle.replay.proofs.answer_all.Statement.{statement}
 use Rattle.replay.proofs.answer_all.Tie as tie
 
 abbrev Inv-loop : tie.InvT-loop
-Inv-loop contents₀ c₀ rows₀ cols₀ q₀ start₀ f₀ u₀ out₀ used₀ turns₀ contents c rows cols q start f u out used turns =
-    (length contents ≡ length contents₀) × (length c ≡ length c₀) × (length rows ≡ length rows₀) × (length cols ≡ length cols₀)
-    × (length q ≡ length q₀) × (length start ≡ length start₀)
-    × (length f ≡ length f₀) × (length u ≡ length u₀) × (length out ≡ length out₀)
+Inv-loop contents₀ list₀ f₀ u₀ out₀ used₀ turns₀ contents list f u out used turns =
+    (length contents ≡ length contents₀) × (length list ≡ length list₀) × (length f ≡ length f₀) × (length u ≡ length u₀) × (length out ≡ length out₀)
 
 abbrev μ-loop : tie.MeasureT-loop
-μ-loop contents₀ c₀ rows₀ cols₀ q₀ start₀ f₀ u₀ out₀ used₀ turns₀ contents c rows cols q start f u out used turns = turns
+μ-loop contents₀ list₀ f₀ u₀ out₀ used₀ turns₀ contents list f u out used turns = turns
 
 loop-holds : tie.Need-loop-holds Inv-loop μ-loop
 loop-holds c = omega arith
 
-answer-next-requires : tie.Need-answer-next-requires Inv-loop μ-loop
-answer-next-requires c κs = search needs
+next-case-requires : tie.Need-next-case-requires Inv-loop μ-loop
+next-case-requires c κs = search needs
 
-enum-known-step : tie.Need-enum-known-step Inv-loop μ-loop
-enum-known-step c = search needs
+enum-known-next : tie.Need-enum-known-next Inv-loop μ-loop
+enum-known-next c = search needs
+
+answer-requires : tie.Need-answer-requires Inv-loop μ-loop
+answer-requires c κs =
+    let a = c .before .before .before .before .before .before in
+    let b = a .before .before .before .before .before .before in
+    (ready-case (b .next-case .ensures) (a .next .given .1), record { list-room = omega arith; floats-room = omega arith; words-room = omega arith })
 
 sub-turns : tie.Need-sub-turns Inv-loop μ-loop
 sub-turns c = omega arith
@@ -51,6 +56,9 @@ same-length-4 c = omega arith
 same-length-5 : tie.Need-same-length-5 Inv-loop μ-loop
 same-length-5 c = omega arith
 
+returns : tie.Need-returns Inv-loop μ-loop
+returns c = search needs
+
 same-length-6 : tie.Need-same-length-6 Inv-loop μ-loop
 same-length-6 c = omega arith
 
@@ -63,35 +71,8 @@ same-length-8 c = omega arith
 same-length-9 : tie.Need-same-length-9 Inv-loop μ-loop
 same-length-9 c = omega arith
 
-returns : tie.Need-returns Inv-loop μ-loop
-returns c = search needs
-
 same-length-10 : tie.Need-same-length-10 Inv-loop μ-loop
 same-length-10 c = omega arith
-
-same-length-11 : tie.Need-same-length-11 Inv-loop μ-loop
-same-length-11 c = omega arith
-
-same-length-12 : tie.Need-same-length-12 Inv-loop μ-loop
-same-length-12 c = omega arith
-
-same-length-13 : tie.Need-same-length-13 Inv-loop μ-loop
-same-length-13 c = omega arith
-
-same-length-14 : tie.Need-same-length-14 Inv-loop μ-loop
-same-length-14 c = omega arith
-
-same-length-15 : tie.Need-same-length-15 Inv-loop μ-loop
-same-length-15 c = omega arith
-
-same-length-16 : tie.Need-same-length-16 Inv-loop μ-loop
-same-length-16 c = omega arith
-
-same-length-17 : tie.Need-same-length-17 Inv-loop μ-loop
-same-length-17 c = omega arith
-
-same-length-18 : tie.Need-same-length-18 Inv-loop μ-loop
-same-length-18 c = omega arith
 
 returns-2 : tie.Need-returns-2 Inv-loop μ-loop
 returns-2 c = search needs
@@ -103,8 +84,9 @@ answer-all-spec =
     Inv-loop
     μ-loop
     loop-holds
-    answer-next-requires
-    enum-known-step
+    next-case-requires
+    enum-known-next
+    answer-requires
     sub-turns
     loop-less
     loop-again
@@ -114,18 +96,10 @@ answer-all-spec =
     same-length-3
     same-length-4
     same-length-5
+    returns
     same-length-6
     same-length-7
     same-length-8
     same-length-9
-    returns
     same-length-10
-    same-length-11
-    same-length-12
-    same-length-13
-    same-length-14
-    same-length-15
-    same-length-16
-    same-length-17
-    same-length-18
     returns-2)

@@ -1,0 +1,5 @@
+pub mod Laws
+pub mod Found
+pub mod Demands
+pub mod Twice
+pub mod Worked

@@ -1,0 +1,127 @@
+-- `probe_one` tests, grades, works, leaves out the start values, and clears. Assumes nothing.
+use mathlib.Core.Path.{refl, sym, ap, _∙_}
+use native.Mathlib.Omega.{arith}
+use lib.ListN.{length}
+use Rattle.probe.specs.Call.{newOnly, probeOne}
+use Rattle.probe.proofs.Laws.{probe-passes, refused-call, room-call, done-call}
+use borrow.Author.Needs.{needs}
+use Rattle.probe.proofs.probe_one.Statement.{statement}
+use Rattle.probe.proofs.probe_one.Tie as tie
+
+ready-to-probe-requires : tie.Need-ready-to-probe-requires
+ready-to-probe-requires c κs = search needs
+
+enum-known-checked : tie.Need-enum-known-checked
+enum-known-checked c = search needs
+
+returns : tie.Need-returns
+returns c = refused-call _ _ _ _ _ _ _ (sym (c .before .before .before .ready-to-probe .ensures) ∙ c .before .checked .given .1)
+
+enum-told : tie.Need-enum-told
+enum-told c = search needs
+
+clear-bytes-requires : tie.Need-clear-bytes-requires
+clear-bytes-requires c κs = search needs
+
+clear-floats-requires : tie.Need-clear-floats-requires
+clear-floats-requires c κs = search needs
+
+clear-words-requires : tie.Need-clear-words-requires
+clear-words-requires c κs = search needs
+
+same-length : tie.Need-same-length
+same-length c = search needs
+
+same-length-2 : tie.Need-same-length-2
+same-length-2 c = search needs
+
+same-length-3 : tie.Need-same-length-3
+same-length-3 c = search needs
+
+returns-2 : tie.Need-returns-2
+returns-2 c =
+    let at-clear-words = c .before .before in
+    let at-clear-floats = at-clear-words .before .before .before .before in
+    let at-clear-bytes = at-clear-floats .before .before .before .before in
+    let at-if1 = at-clear-bytes .before .before in
+    let at-enum-told = at-if1 .before in
+    let at-ready-to-probe = at-enum-told .before .before in
+    let passed = sym (at-ready-to-probe .ready-to-probe .ensures) ∙ at-enum-told .enum-told .given .1 in
+    room-call _ _ _ _ _ _ _ _ _ passed (at-clear-floats .clear-floats .ensures) refl (at-clear-words .clear-words .ensures) refl (at-if1 .if1 .taken) (at-clear-bytes .clear-bytes .ensures)
+
+graded-requires : tie.Need-graded-requires
+graded-requires c κs =
+    let shaped = probe-passes _ _ _ _ _ _ .0 (sym (c .before .before .before .ready-to-probe .ensures) ∙ c .before .enum-told .given .1) .ready .sound .shaped in
+    shaped .rows-long ∙ sym (shaped .cols-long)
+
+work-requires : tie.Need-work-requires
+work-requires c κs =
+    let at-if1 = c .before .before .before .before in
+    let at-enum-told = at-if1 .before in
+    let at-ready-to-probe = at-enum-told .before .before in
+    (probe-passes _ _ _ _ _ _ .0 (sym (at-ready-to-probe .ready-to-probe .ensures) ∙ at-enum-told .enum-told .given .1), at-if1 .if1 .left)
+
+keep-new-requires : tie.Need-keep-new-requires
+keep-new-requires c κs =
+    let at-if1 = c .before .before .before .before .before .before .before .before .before .before .before .before in
+    let at-enum-told = at-if1 .before in
+    let at-ready-to-probe = at-enum-told .before .before in
+    omega (arith, at-if1 .if1 .left, probe-passes _ _ _ _ _ _ .0 (sym (at-ready-to-probe .ready-to-probe .ensures) ∙ at-enum-told .enum-told .given .1) .ready .sound .start .long)
+
+clear-floats-requires-2 : tie.Need-clear-floats-requires-2
+clear-floats-requires-2 c κs = search needs
+
+clear-words-requires-2 : tie.Need-clear-words-requires-2
+clear-words-requires-2 c κs = search needs
+
+same-length-4 : tie.Need-same-length-4
+same-length-4 c = search needs
+
+same-length-5 : tie.Need-same-length-5
+same-length-5 c = search needs
+
+same-length-6 : tie.Need-same-length-6
+same-length-6 c = search needs
+
+returns-3 : tie.Need-returns-3
+unfolding probeOne
+returns-3 c =
+    let at-clear-words2 = c .before .before in
+    let at-clear-floats2 = at-clear-words2 .before .before .before .before in
+    let at-keep-new = at-clear-floats2 .before .before .before .before in
+    let at-work = at-keep-new .before .before .before .before .before .before .before .before in
+    let at-graded = at-work .before .before .before .before in
+    let at-if1 = at-graded .before in
+    let at-enum-told = at-if1 .before in
+    let at-ready-to-probe = at-enum-told .before .before in
+    let worked = at-work .work in
+    let passed = sym (at-ready-to-probe .ready-to-probe .ensures) ∙ at-enum-told .enum-told .given .1 in
+    let given = at-ready-to-probe .before .before .before .before .before .before .before .before .before .args in
+    done-call _ _ _ _ _ (given .f .now) (given .u .now) (length (worked .last .1 .1 .1 .1 .1 .1 .1 .1 .0)) (length (worked .last .1 .1 .1 .1 .1 .1 .1 .1 .1 .0)) passed
+    (at-clear-floats2 .clear-floats2 .ensures) (worked .kept .1 .1 .1 .1 .1 .1 .1 .1 .0) (at-clear-words2 .clear-words2 .ensures) (worked .kept .1 .1 .1 .1 .1 .1 .1 .1 .1 .0)
+    (at-if1 .if1 .left) (at-graded .graded .ensures) (at-keep-new .keep-new .ensures ∙ ap (newOnly _) (worked .ensures))
+
+pub probe-one-spec : {M : Type 1} → statement M
+probe-one-spec =
+    tie.close
+    (tie.spec
+    ready-to-probe-requires
+    enum-known-checked
+    returns
+    enum-told
+    clear-bytes-requires
+    clear-floats-requires
+    clear-words-requires
+    same-length
+    same-length-2
+    same-length-3
+    returns-2
+    graded-requires
+    work-requires
+    keep-new-requires
+    clear-floats-requires-2
+    clear-words-requires-2
+    same-length-4
+    same-length-5
+    same-length-6
+    returns-3)

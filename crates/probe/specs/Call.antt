@@ -1,0 +1,95 @@
+-- What the call `probe_one` answers and leaves, as one function of what it is given, for every input. Assumes nothing.
+use Prim.Native.Nat.{ℕ, _<_, _≤_}
+use mathlib.Core.Path.{_≡_}
+use mathlib.Core.Bool.{Bool, true, false, cond, _&&_}
+use mathlib.Core.List.{List, [], _∷_, _++_}
+use lib.Dec.{eqb, ltb, leb}
+use lib.ListN.{length, getD, set}
+use lib.Ieee.{Float}
+use Rattle.weights.specs.Worth.{zero64}
+use Rattle.scratch.specs.Cleared.{cleared}
+use Rattle.meaning.specs.Field as meaning
+use Rattle.meaning.specs.Probe.{Probed}
+use Rattle.field.specs.declared.Answer.{Answer}
+use Rattle.field.specs.declared.Answer.the-variants.{Done, Refused}
+use Rattle.field.specs.declared.Checked.{Checked}
+use Rattle.field.specs.declared.Checked.the-variants.{Passed, Failed}
+use Rattle.field.specs.declared.Refusal.the-variants.{Argument, Scratch, Room}
+use Rattle.field.specs.Field.{Field, variables, entries}
+use Rattle.field.specs.Table.{Test, test, tested}
+use Rattle.field.specs.Tests.{standardTests, floatsFit, wordsFit, Ready}
+use Rattle.field.specs.Grade.{gradeOf}
+use Rattle.rows.specs.Stored.{upTo}
+use Rattle.run.specs.Run.{closure}
+
+-- ---- the tests
+
+-- 7: "probed variable not below n or not free, or probed value above 1"
+unfoldable pub mayProbe : ℕ → List ℕ → ℕ → ℕ → Bool
+mayProbe n s i v = ltb i n && (eqb (getD s i 0) 2 && leb v 1)
+
+-- 1 to 8
+unfoldable pub probeTests : Field → List ℕ → ℕ → ℕ → ℕ → ℕ → List Test
+probeTests F s i v floats words =
+    standardTests F s
+    ++ test Argument (mayProbe (variables F) s i v)
+    ∷ test Scratch (floatsFit (variables F) (entries F) floats)
+    ∷ test Scratch (wordsFit (variables F) (entries F) words)
+    ∷ []
+
+-- 1 to 8, and 9: "the probe value list is not n long"
+unfoldable pub probeTable : Field → List ℕ → ℕ → ℕ → List ℕ → ℕ → ℕ → List Test
+probeTable F s i v t floats words = probeTests F s i v floats words ++ test Room (eqb (length t) (variables F)) ∷ []
+
+-- what passing 1 to 8 leaves
+pub record Probable (F : Field) (s : List ℕ) (i v floats words : ℕ) : Type 0 where
+  pub ready : Ready F s floats words
+  pub below : i < variables F
+  pub free : getD s i 0 ≡ 2
+  pub small : v ≤ 1
+
+-- ---- the values
+
+-- what is found where the start value is s: "2 where no value is found", and nothing where it is not free
+unfoldable pub newAt : ℕ → ℕ → ℕ
+newAt s v = cond (eqb s 2) v 2
+
+-- "without the start values"
+unfoldable pub newOnly : List ℕ → List ℕ → List ℕ
+newOnly s t = upTo (λ j. newAt (getD s j 0) (getD t j 0)) (length s)
+
+-- "a single probe gives the closure of the start values with its one value added, without the start values"
+unfoldable pub probeOne : Field → List ℕ → ℕ → ℕ → List ℕ
+probeOne F s i v = newOnly s (closure F (set s i v))
+
+-- "On exact fields": t is the whole-number closure of the start values with the one value added, without the start values
+pub record Gives (G : meaning.Field) (s : List ℕ) (i v : ℕ) (t : List ℕ) : Type 0 where
+  pub closed : List ℕ
+  pub is-closure : Probed G s i v closed
+  pub without : t ≡ newOnly s closed
+
+-- ---- the call
+
+-- the answer, and the three lent lists afterwards
+pub record Left : Type 0 where
+  pub answer : Answer
+  pub values : List ℕ
+  pub floats : List Float
+  pub words : List ℕ
+
+abbrev pub left : Answer → List ℕ → List Float → List ℕ → Left
+left r t f u = record { answer = r; values = t; floats = f; words = u }
+
+-- "9 is given exactly if .. the probe value list is not n long; then each answer list is all zeros"
+unfoldable pub filled : Bool → Field → List ℕ → ℕ → ℕ → List ℕ → List Float → List ℕ → Left
+filled true F s i v t f u = left (Done (gradeOf F)) (probeOne F s i v) (cleared zero64 f) (cleared 0 u)
+filled false F s i v t f u = left (Refused Room) (cleared 0 t) (cleared zero64 f) (cleared 0 u)
+
+-- "After passing 8, scratch ends as all zeros"; "1 to 8 change nothing lent"
+unfoldable pub leaves : Checked → Field → List ℕ → ℕ → ℕ → List ℕ → List Float → List ℕ → Left
+leaves Passed F s i v t f u = filled (eqb (length t) (variables F)) F s i v t f u
+leaves (Failed r) F s i v t f u = left (Refused r) t f u
+
+-- tests 1 to 8, then 9, then the probe of i at v; t is the list that the values go into
+unfoldable pub probeOneCall : Field → List ℕ → ℕ → ℕ → List ℕ → List Float → List ℕ → Left
+probeOneCall F s i v t f u = leaves (tested (probeTests F s i v (length f) (length u))) F s i v t f u
