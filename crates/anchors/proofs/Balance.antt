@@ -1,29 +1,32 @@
--- On an exact field a variable's error-free sum comes to 0 exactly if its balance, in whole numbers, is 0. Assumes nothing.
+-- On an exact field a variable's error-free sum comes to 0 exactly if its balance, in whole numbers, is 0, and exactly if its plain sum is 0. Assumes nothing.
 use Prim.Native.Nat.{ℕ, zero, suc, _+_, _*_, _^_, _<_, _≤_}
 use mathlib.Core.Path.{_≡_, refl, sym, ap, _∙_}
 use mathlib.Core.Logic.{_↔_}
 use mathlib.Core.Bool.{Bool, true, false, cond, _||_}
 use mathlib.Core.List.{List, [], _∷_}
 use native.Mathlib.Omega.{arith}
-use borrow.Author.Tests.{eqb-true, ne-eqb}
+use borrow.Author.Tests.{eqb-true, eq-eqb, ne-eqb}
 use lib.Dec.{eqb}
 use lib.ListN.{length, getD}
-use lib.Ieee.{binary64, mul, ne}
+use lib.Ieee.{Float, binary64, add, mul, eq, ne}
 use Rattle.whole.specs.Whole.{Whole, nothing, _⊕_, _⊙_, only, sum, _≈_, Zero, Under}
 use Rattle.whole.proofs.Sums.{sum-add}
 use Rattle.weights.specs.Worth.{Worth, zero64, four64}
-use Rattle.weights.proofs.Worth.{as-worth, finer-worth, four-worth}
+use Rattle.weights.proofs.Worth.{as-worth, add-worth, finer-worth, four-worth, eq-worth, zero-worth}
 use Rattle.meaning.specs.Symmetry.{at-ends, balance}
 use Rattle.expansion.specs.Sum.{Expansion, parts, plus}
 use Rattle.expansion.specs.Exact.{Plain, nought, single}
 use Rattle.expansion.proofs.Exact.{zero-test, plus-plain, plain-zero}
 use Rattle.field.specs.Field.{Field, variables, entries, linearOf, rowEnd, columnEnd, quadOf, Shaped}
-use Rattle.field.specs.Grade.{halves, ExactIn}
+use Rattle.field.specs.declared.Grade.{Grade}
+use Rattle.field.specs.declared.Grade.the-variants.{Exact}
+use Rattle.field.specs.Grade.{halves, gradeOf, ExactIn}
 use Rattle.field.specs.Reading.{wholeOf}
+use Rattle.field.proofs.Exact.{exact-means}
 use Rattle.field.proofs.Reading.{linear-worth, linear-under, quad-worth, quad-under}
 use Rattle.places.specs.Places.{keep, places}
 use Rattle.places.proofs.Places.{tail, tail-end, tail-step, places-le, places-touch}
-use Rattle.anchors.specs.Sums.{balanceAt, balanceOver, balanceOf, balanced}
+use Rattle.anchors.specs.Sums.{balanceAt, balanceOver, balanceOf, balanced, plainOver, plainSum}
 
 -- ---- a sum over the places of i is a sum over the entries that touch it
 
@@ -61,6 +64,13 @@ module _ {F : Field} (S : Shaped F) (g : ℕ → Whole) (i : ℕ) where
   unfolding places sum
   gather-places = omega (arith, split-sum (entries F) 0 (omega arith))
 
+-- two tests of one thing
+same-test : {A : Type 0} (a b : Bool) → ((a ≡ true) ↔ A) → ((b ≡ true) ↔ A) → a ≡ b
+same-test true true p q = refl
+same-test true false p q = sym (q .1 (p .0 refl))
+same-test false true p q = p .1 (q .0 refl)
+same-test false false p q = refl
+
 -- ---- the sum along the places is exact
 
 plain-as : {u : ℕ} {e : Expansion} {a b : Whole} → Plain u e a → a ≈ b → Plain u e b
@@ -97,18 +107,53 @@ module _ {F : Field} (S : Shaped F) (x : ExactIn halves F) where
       let here : k < entries F = all 0 (omega arith) in
       plain-as (plain-over ks (suc n) (omega arith) (λ h b. all (suc h) (omega arith)) (omega (arith, quad-under x k here)) (plain-at n k (omega arith) here l p)) (omega arith)
 
+  -- every sum of a plain sum is whole, and below 2^53
+  worth-over : {y : Float} {a : Whole} (ks : List ℕ) (n : ℕ) → n + length ks ≤ 32768 → ((h : ℕ) → h < length ks → getD ks h 0 < entries F) → Sized n a → Worth halves y a
+      → Worth halves (plainOver F y ks) (a ⊕ gather (twice F) ks)
+  unfolding plainOver gather
+  worth-over [] n hn all l w = as-worth w (omega arith)
+  worth-over {y} {a} (k ∷ ks) n hn all l w =
+      let here : k < entries F = all 0 (omega arith) in
+      let under = quad-under x k here in
+      as-worth (worth-over ks (suc n) (omega arith) (λ h b. all (suc h) (omega arith)) (omega (arith, under)) (add-worth w (quad-halves k here) (omega (arith, under)))) (omega arith)
+
   module _ (i : ℕ) (hi : i < variables F) where
+    -- 4c and the entries, in halves
+    abbrev allOf : Whole
+    allOf = nothing ⊕ wholeOf halves F .linear i ⊙ 4 ⊕ gather (twice F) (places (F .rows) (F .cols) i)
+
+    -- there are at most 32,768 places, and each is an entry
+    few : 0 + length (places (F .rows) (F .cols) i) ≤ 32768
+    few = omega (arith, places-le (F .rows) (F .cols) i, S .rows-long, S .few-entries)
+
+    within : (h : ℕ) → h < length (places (F .rows) (F .cols) i) → getD (places (F .rows) (F .cols) i) h 0 < entries F
+    within h l = omega (arith, places-touch (F .rows) (F .cols) i h l .0, S .rows-long)
+
     first-plain : Plain halves (plus (mul binary64 four64 (linearOf F i)) (parts [])) (nothing ⊕ wholeOf halves F .linear i ⊙ 4)
     first-plain =
         let a = linear-under x i hi in
         plus-plain (nought refl) (four-worth (linear-worth x i hi) (omega (arith, a))) (omega arith) (omega (arith, a)) (omega (arith, a))
 
-    balance-plain : Plain halves (balanceOf F i) (nothing ⊕ wholeOf halves F .linear i ⊙ 4 ⊕ gather (twice F) (places (F .rows) (F .cols) i))
+    balance-plain : Plain halves (balanceOf F i) allOf
     unfolding balanceOf
-    balance-plain =
+    balance-plain = let a = linear-under x i hi in plain-over (places (F .rows) (F .cols) i) 0 few within (omega (arith, a)) first-plain
+
+    plain-sum-worth : Worth halves (plainSum F i) allOf
+    unfolding plainSum
+    plain-sum-worth =
         let a = linear-under x i hi in
-        plain-over (places (F .rows) (F .cols) i) 0 (omega (arith, places-le (F .rows) (F .cols) i, S .rows-long, S .few-entries))
-        (λ h l. omega (arith, places-touch (F .rows) (F .cols) i h l .0, S .rows-long)) (omega (arith, a)) first-plain
+        worth-over (places (F .rows) (F .cols) i) 0 few within (omega (arith, a)) (as-worth (four-worth (linear-worth x i hi) (omega (arith, a))) (omega arith))
+
+    -- the plain sum is 0 exactly if the error-free sum comes to 0
+    pub plain-sum-tells : eq (plainSum F i) zero64 ≡ balanced F i
+    unfolding balanced
+    plain-sum-tells = same-test _ _ zero-is (plain-zero balance-plain)
+      where
+        is : eq (plainSum F i) zero64 ≡ eqb (allOf .plus + 0) (0 + allOf .less)
+        is = eq-worth plain-sum-worth (zero-worth (plain-sum-worth .unit))
+
+        zero-is : (eq (plainSum F i) zero64 ≡ true) ↔ Zero allOf
+        zero-is = ((λ e. omega (arith, eqb-true (allOf .plus + 0) (0 + allOf .less) (sym is ∙ e))), λ z. is ∙ eq-eqb (allOf .plus + 0) (0 + allOf .less) (omega arith))
 
     -- an entry has one end at i, or none
     ends-once : (k : ℕ) → k < entries F → only (touches F i k) (twice F k) ≈ at-ends (wholeOf halves F) i k ⊕ at-ends (wholeOf halves F) i k
@@ -131,3 +176,8 @@ module _ {F : Field} (S : Shaped F) (x : ExactIn halves F) where
         let g = gather-places S (twice F) i in
         let d = sum-add (entries F) (λ k. only (touches F i k) (twice F k)) (at-ends (wholeOf halves F) i) (at-ends (wholeOf halves F) i) ends-once in
         ((λ e. omega (arith, p .0 e, g, d)), λ z. p .1 (omega (arith, z, g, d)))
+
+-- where the grade is exact a plain sum tells whether a variable is balanced
+pub exact-tells : {F : Field} {i : ℕ} {g : Grade} {y : Float} → Shaped F → i < variables F → g ≡ gradeOf F → g ≡ Exact → y ≡ plainSum F i
+    → eq y zero64 ≡ balanced F i
+exact-tells {F} {i} S h eg ex ey = rw ey (plain-sum-tells S (exact-means F (S .rows-long) .0 (sym eg ∙ ex)) i h)

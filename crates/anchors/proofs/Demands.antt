@@ -9,7 +9,7 @@ use borrow.Author.Tests.{leb-true, leb-false, le-leb, lt-leb}
 use lib.Dec.{leb}
 use lib.ListN.{length, getD, set, take, drop}
 use lib.Seq.{take-append-seam, getD-take}
-use lib.Ieee.{Float}
+use lib.Ieee.{Float, eq}
 use Rattle.weights.specs.Worth.{zero64}
 use Rattle.scratch.specs.Cleared.{cleared}
 use Rattle.whole.specs.Whole.{Zero}
@@ -32,14 +32,14 @@ use Rattle.field.specs.Reading.{wholeOf}
 use Rattle.field.proofs.Table.{refused-exactly}
 use Rattle.field.proofs.Exact.{exact-means}
 use Rattle.parts.specs.Walk.{opened, components}
-use Rattle.anchors.specs.Sums.{balanceOf, balanced}
+use Rattle.anchors.specs.Sums.{balanceOf, balanced, plainSum}
 use Rattle.anchors.specs.Model.{anchorsOf}
 use Rattle.anchors.specs.Call.{anchorTests, Admitted, over, Left, left, listed, leaves, anchorsCall}
 use Rattle.anchors.specs.Rule.{AnchorsOf, terms, HeldWeights}
 use Rattle.anchors.proofs.Laws.{admitted-passes}
 use Rattle.anchors.proofs.Ruling.{anchors-ruled, rule-one}
 use Rattle.anchors.proofs.Turning.{either-stands}
-use Rattle.anchors.proofs.Balance.{balanced-is}
+use Rattle.anchors.proofs.Balance.{balanced-is, plain-sum-tells}
 use Rattle.anchors.proofs.Certain.{balance-certain, balance-exactly}
 
 -- any two results that the promise permits are equal
@@ -201,3 +201,7 @@ module _ {F : Field} (S : Shaped F) (h : HeldWeights F) (i : ℕ) where
 -- On an exact field it is document 01's balance, in whole numbers.
 pub symmetric-exact-field : {F : Field} → Shaped F → ExactIn halves F → (i : ℕ) → i < variables F → (balanced F i ≡ true) ↔ Zero (balance (wholeOf halves F) i)
 symmetric-exact-field S x i = balanced-is S x i
+
+-- There a plain sum, 4c and then each q, is exact, and tells the same.
+pub plain-exact-field : {F : Field} → Shaped F → ExactIn halves F → (i : ℕ) → i < variables F → eq (plainSum F i) zero64 ≡ balanced F i
+plain-exact-field S x i = plain-sum-tells S x i

@@ -9,4 +9,3 @@ pub mod Choosing
 pub mod Ruling
 pub mod Turning
 pub mod Demands
-pub mod Worked

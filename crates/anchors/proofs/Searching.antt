@@ -101,7 +101,7 @@ over-sets (a ∷ new) items list =
 
 -- ---- the loop
 
-new-few : (F : Field) (s : List ℕ) (least : ℕ) (marks : List ℕ) (i : ℕ) → length (newAt F s least marks i) ≤ 1
+pub new-few : (F : Field) (s : List ℕ) (least : ℕ) (marks : List ℕ) (i : ℕ) → length (newAt F s least marks i) ≤ 1
 unfolding newAt anchorIn
 new-few F s least marks i = go (eqb (getD marks i 0) 2) (leb least (length (membersFrom F false marks i)) && allTurnable F s (membersFrom F false marks i))
   where

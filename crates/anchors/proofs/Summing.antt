@@ -15,8 +15,8 @@ use Rattle.expansion.proofs.Carrying.{zero-is}
 use Rattle.field.specs.Field.{Field, variables, entries, linearOf, rowEnd, columnEnd, quadOf}
 use Rattle.places.specs.Places.{places}
 use Rattle.places.proofs.Places.{places-le}
-use Rattle.places.proofs.Walk.{Along, along-start, along-turn, along-end, part-long}
-use Rattle.anchors.specs.Sums.{balanceAt, balanceOver, balanceOf, balanced, weightAt, weightOver, weightOf, AddsAt, Walkable}
+use Rattle.places.proofs.Walk.{walk-turn, Along, along-start, along-turn, along-end, part-long}
+use Rattle.anchors.specs.Sums.{balanceAt, balanceOver, balanceOf, balanced, plainOver, plainSum, weightAt, weightOver, weightOf, AddsAt, Walkable}
 
 -- ---- one entry
 
@@ -118,6 +118,32 @@ module _ {F : Field} {i start end : ℕ} {u : List ℕ} where
     pub balance-done : {z : Bool} → end ≤ p → z ≡ isZero sum → z ≡ balanced F i
     unfolding balanced balanceOf balanceOver
     balance-done l e = e ∙ zero-is sum f (omega (arith, most, B .long, B .room)) ∙ ap comesToZero (along-end (B .along) l)
+
+-- ---- the plain sum
+
+abbrev pub firstFloat : Field → ℕ → Float
+firstFloat F i = mul binary64 four64 (linearOf F i)
+
+pub record Adding (F : Field) (i end : ℕ) (u : List ℕ) (p : ℕ) (x : Float) : Type 0 where
+  pub walkable : Walkable F i u
+  pub along : Along (plainOver F) (variables F) (F .rows) (F .cols) u u i end p (firstFloat F i) x
+
+module _ {F : Field} {i end : ℕ} {u : List ℕ} where
+  pub adding-start : {start : ℕ} → Walkable F i u → start ≡ getD u i 0 → end ≡ getD u (i + 1) 0 → Adding F i end u start (firstFloat F i)
+  adding-start W ea eb = record { walkable = W; along = along-start (plainOver F) (firstFloat F i) (W .adjacent) (W .below) ea eb }
+
+  module _ {p : ℕ} {x : Float} (L : Adding F i end u p x) where
+    -- the place that a turn reads is an entry
+    pub adding-entry : {k : ℕ} → p < end → k ≡ getD u (variables F + 1 + p) 0 → k < entries F
+    adding-entry l e = omega (arith, walk-turn (L .along .walk) l .entry, L .walkable .shaped .rows-long)
+
+    pub adding-turn : {k : ℕ} → p < end → k ≡ getD u (variables F + 1 + p) 0 → Adding F i end u (p + 1) (add binary64 x (quadOf F k))
+    unfolding plainOver
+    adding-turn l e = record { walkable = L .walkable; along = along-turn (L .along) l e (λ ks. refl) }
+
+    pub adding-done : end ≤ p → x ≡ plainSum F i
+    unfolding plainSum plainOver
+    adding-done l = along-end (L .along) l
 
 -- ---- the weight
 

@@ -3,4 +3,3 @@ pub mod Model
 pub mod Call
 pub mod Cells
 pub mod Rule
-pub mod Worked

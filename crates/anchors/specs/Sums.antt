@@ -31,6 +31,14 @@ balanceOf F i = balanceOver F (plus (mul binary64 four64 (linearOf F i)) (parts 
 unfoldable pub balanced : Field → ℕ → Bool
 balanced F i = comesToZero (balanceOf F i)
 
+-- the same, rounded: what the code adds up on an exact field, where no sum is
+unfoldable pub plainOver : Field → Float → List ℕ → Float
+plainOver F x [] = x
+plainOver F x (k ∷ ks) = plainOver F (add binary64 x (quadOf F k)) ks
+
+unfoldable pub plainSum : Field → ℕ → Float
+plainSum F i = plainOver F (mul binary64 four64 (linearOf F i)) (places (F .rows) (F .cols) i)
+
 -- "sum of |q| off the diagonal"
 unfoldable pub weightAt : Field → Float → ℕ → Float
 weightAt F w k = cond (onDiagonal F k) w (cond (ne (quadOf F k) zero64) (add binary64 w (magnitude (quadOf F k))) w)

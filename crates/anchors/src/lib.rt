@@ -6,11 +6,13 @@ mod tests;
 
 use field::Checked;
 use field::Counted;
+use field::Grade;
 use field::Refusal;
 ghost use mathlib.Core.Path.{_≡_};
 ghost use lib.ListN.{length};
 ghost use Rattle.scratch.specs.Lent.{before, after};
 ghost use Rattle.field.specs.Field.{given, lent};
+ghost use Rattle.field.specs.Grade.{gradeOf};
 ghost use Rattle.anchors.specs.Model as model;
 ghost use Rattle.anchors.specs.Cells.{Lists};
 ghost use Rattle.anchors.specs.Call.{Admitted, left, anchorsCall};
@@ -44,6 +46,7 @@ fn work(
     rows: &[u16],
     cols: &[u16],
     q: &[f64],
+    grade: Grade,
     start: &[u8],
     least: usize,
     list: &mut [u16],
@@ -51,11 +54,12 @@ fn work(
     u: &mut [u32],
 ) -> usize
     requires { ⌜ Admitted (lent c rows cols q) (now start) (length (now f)) (length (now u)) ⌝ }
+    requires { ⌜ grade ≡ gradeOf (lent c rows cols q) ⌝ }
     ensures { λ r. ⌜ Lists (given c rows cols q) (before start) least (before list) (after list) r ⌝ }
 {
     places::build(u, rows, cols, c.len());
     parts::begin(c, rows, cols, q, start, true, u);
-    search::search(c, rows, cols, q, start, least, list, f, u)
+    search::search(c, rows, cols, q, grade, start, least, list, f, u)
 }
 
 // The anchors go into the list, in the order of their components' lowest variables; how many there are.
@@ -77,7 +81,7 @@ pub fn anchors(
         return Counted::Refuses(refusal);
     }
     let grade = field::grading::graded(c, rows, cols, q);
-    let found = work(c, rows, cols, q, start, least, list, f, u);
+    let found = work(c, rows, cols, q, grade, start, least, list, f, u);
     scratch::clear_floats(f);
     scratch::clear_words(u);
     if list.len() < found {

@@ -2,12 +2,14 @@
 use crate::Leader;
 use crate::sums::is_balanced;
 use crate::sums::weigh;
+use field::Grade;
 use scratch::wide_word;
 ghost use mathlib.Core.Path.{_≡_};
 ghost use Prim.Native.Nat.{_<_};
 ghost use lib.ListN.{length};
 ghost use Rattle.scratch.specs.Lent.{before};
 ghost use Rattle.field.specs.Field.{given, lent, variables, entries};
+ghost use Rattle.field.specs.Grade.{gradeOf};
 ghost use Rattle.anchors.specs.Model as model;
 ghost use Rattle.anchors.specs.Cells.{Members, membersIn};
 
@@ -17,6 +19,7 @@ pub fn all_turnable(
     rows: &[u16],
     cols: &[u16],
     q: &[f64],
+    grade: Grade,
     start: &[u8],
     count: usize,
     f: &mut [f64],
@@ -25,6 +28,7 @@ pub fn all_turnable(
     requires { ⌜ Members (lent c rows cols q) count (now u) ⌝ }
     requires { ⌜ length (now start) ≡ variables (lent c rows cols q) ⌝ }
     requires { ⌜ entries (lent c rows cols q) < length (now f) ⌝ }
+    requires { ⌜ grade ≡ gradeOf (lent c rows cols q) ⌝ }
     ensures { λ r. ⌜ r ≡ model.allTurnable (given c rows cols q) (before start) (membersIn (given c rows cols q) count (before u)) ⌝ }
 {
     let n = c.len();
@@ -34,7 +38,7 @@ pub fn all_turnable(
         if start[i] != 2 {
             return false;
         }
-        if !is_balanced(c, rows, cols, q, i, f, u) {
+        if !is_balanced(c, rows, cols, q, grade, i, f, u) {
             return false;
         }
     }

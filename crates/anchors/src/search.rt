@@ -1,12 +1,14 @@
 // From start to start: each component's anchor goes into the list.
 use crate::members::all_turnable;
 use crate::members::find_leader;
+use field::Grade;
 ghost use mathlib.Core.Path.{_≡_};
 ghost use mathlib.Core.Bool.{true};
 ghost use Prim.Native.Nat.{_<_, _≤_};
 ghost use lib.ListN.{set};
 ghost use Rattle.scratch.specs.Lent.{before, after};
 ghost use Rattle.field.specs.Field.{given, lent, variables};
+ghost use Rattle.field.specs.Grade.{gradeOf};
 ghost use Rattle.parts.specs.Walk.{opened};
 ghost use Rattle.parts.specs.Cells.{marksIn};
 ghost use Rattle.anchors.specs.Cells.{Standing, Visits, Lists};
@@ -26,6 +28,7 @@ fn visit(
     rows: &[u16],
     cols: &[u16],
     q: &[f64],
+    grade: Grade,
     start: &[u8],
     least: usize,
     i: usize,
@@ -37,6 +40,7 @@ fn visit(
     requires { ⌜ Standing (lent c rows cols q) (now start) (now f) (now u) ⌝ }
     requires { ⌜ i < variables (lent c rows cols q) ⌝ }
     requires { ⌜ found ≤ i ⌝ }
+    requires { ⌜ grade ≡ gradeOf (lent c rows cols q) ⌝ }
     ensures { λ r. ⌜ Visits (given c rows cols q) (before start) least i (before u) (before list) found (after u) (after list) r ⌝ }
 {
     let n = c.len();
@@ -47,7 +51,7 @@ fn visit(
     if count < least {
         return found;
     }
-    if !all_turnable(c, rows, cols, q, start, count, f, u) {
+    if !all_turnable(c, rows, cols, q, grade, start, count, f, u) {
         return found;
     }
     let anchor = find_leader(c, rows, cols, q, i, count, u);
@@ -61,6 +65,7 @@ pub fn search(
     rows: &[u16],
     cols: &[u16],
     q: &[f64],
+    grade: Grade,
     start: &[u8],
     least: usize,
     list: &mut [u16],
@@ -69,12 +74,13 @@ pub fn search(
 ) -> usize
     requires { ⌜ Standing (lent c rows cols q) (now start) (now f) (now u) ⌝ }
     requires { ⌜ marksIn (lent c rows cols q) (now u) ≡ opened true (now start) ⌝ }
+    requires { ⌜ grade ≡ gradeOf (lent c rows cols q) ⌝ }
     ensures { λ r. ⌜ Lists (given c rows cols q) (before start) least (before list) (after list) r ⌝ }
 {
     let n = c.len();
     let mut found = 0;
     for i in 0..n {
-        found = visit(c, rows, cols, q, start, least, i, found, list, f, u);
+        found = visit(c, rows, cols, q, grade, start, least, i, found, list, f, u);
     }
     found
 }

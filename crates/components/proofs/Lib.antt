@@ -3,4 +3,3 @@ pub mod Parted
 pub mod Laws
 pub mod Bridge
 pub mod Demands
-pub mod Worked

@@ -30,7 +30,7 @@ pub lists-mean : (rows cols : List ℕ) (q : List Float)
 unfolding listsMatch
 lists-mean rows cols q = both-is _ _ (eq-is _ _) (both-is _ _ (eq-is _ _) (le-is _ _))
 
-below-means : (n : ℕ) (ends : List ℕ) → (endsBelow n ends ≡ true) ↔ ((k : ℕ) → k < length ends → getD ends k 0 < n)
+pub below-means : (n : ℕ) (ends : List ℕ) → (endsBelow n ends ≡ true) ↔ ((k : ℕ) → k < length ends → getD ends k 0 < n)
 unfolding endsBelow
 below-means n ends = every-is _ (λ k. getD ends k 0 < n) _ (λ k. lt-is _ _)
 

@@ -8,14 +8,11 @@ ghost use Rattle.field.specs.Grade.{weighs as weighsIn, allWeigh};
 pub fn all_finite(w: &[f64]) -> bool
     ensures { λ r. ⌜ r ≡ allFinite (before w) ⌝ }
 {
-    let mut k: usize = 0;
-    while k < w.len() {
-        if !weights::is_finite(w[k]) {
-            return false;
-        }
-        k += 1;
+    let mut fine = true;
+    for k in 0..w.len() {
+        fine = fine & weights::is_finite(w[k]);
     }
-    true
+    fine
 }
 
 // Whether x is a whole number of the unit, and at most 2^31 either way.

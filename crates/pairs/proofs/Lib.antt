@@ -5,4 +5,3 @@ pub mod WalkLaws
 pub mod CallLaws
 pub mod Examined
 pub mod Demands
-pub mod Worked

@@ -1,4 +1,3 @@
 pub mod Listing
 pub mod Walk
 pub mod Call
-pub mod Worked

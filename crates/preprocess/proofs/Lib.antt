@@ -3,4 +3,3 @@ pub mod Blind
 pub mod Idle
 pub mod Laws
 pub mod Demands
-pub mod Worked

@@ -43,7 +43,7 @@ fn close(
 }
 
 // Variables of no effect first, then the closure, then the small components.
-fn work(
+pub fn work(
     c: &[f64],
     rows: &[u16],
     cols: &[u16],

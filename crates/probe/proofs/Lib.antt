@@ -2,4 +2,3 @@ pub mod Laws
 pub mod Found
 pub mod Demands
 pub mod Twice
-pub mod Worked

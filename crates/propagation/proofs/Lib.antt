@@ -2,4 +2,3 @@ pub mod Means
 pub mod Copies
 pub mod Laws
 pub mod Demands
-pub mod Worked

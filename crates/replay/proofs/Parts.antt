@@ -4,10 +4,10 @@ use mathlib.Core.Path.{_≡_, sym, subst}
 use native.Mathlib.Omega.{arith}
 use lib.ListN.{length, take, replicate, length-replicate}
 use lib.Seq.{length-take-le}
-use Rattle.replay.specs.declared.head.Head.{Head}
+use Rattle.stream.specs.declared.head.Head.{Head}
 use Rattle.replay.specs.declared.Next.{Next}
 use Rattle.replay.specs.declared.Next.the-variants.{Case}
-use Rattle.replay.specs.Heads.{Fits, contentsOf, standing}
+use Rattle.stream.specs.Heads.{Fits, contentsOf, standing}
 use Rattle.replay.specs.Next.{Ready}
 
 -- more bytes hold its contents too

@@ -2,7 +2,7 @@
 use Prim.Native.Nat.{ℕ}
 use Rattle.replay.specs.declared.Next.{Next}
 use Rattle.replay.specs.declared.Next.the-variants.{Case, Stop}
-use Rattle.replay.specs.Heads.{Fits}
+use Rattle.stream.specs.Heads.{Fits}
 
 -- the buffers hold a case, and its contents are among the bytes
 abbrev pub Ready : Next → ℕ → Type 0

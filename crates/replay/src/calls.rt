@@ -1,41 +1,43 @@
 // A case whose lists are taken: the call is made and its line put.
-use crate::head::Head;
-use crate::lines::ABSENT;
-use crate::lines::ANCHORS;
-use crate::lines::BYTE;
-use crate::lines::CLOSURE;
-use crate::lines::COLD_PROBE;
-use crate::lines::COMPONENTS;
-use crate::lines::HEAVY;
-use crate::lines::NO_EFFECT;
-use crate::lines::Outcome;
-use crate::lines::PAIRS;
-use crate::lines::PREPROCESS;
-use crate::lines::PROPAGATION;
-use crate::lines::SHIFT;
-use crate::lines::put_constraints;
-use crate::lines::put_found;
-use crate::lines::put_outcome;
-use crate::lines::put_pairs;
-use crate::lines::put_scratch;
-use crate::lines::put_values;
-use crate::lines::put_variables;
-use crate::lists::fill_bytes;
-use crate::lists::take_bytes;
-use crate::lists::take_floats;
-use crate::lists::take_shorts;
-use crate::output::put;
-use crate::shifted::put_field;
 use field::Answer;
 use field::Checked;
 use field::Counted;
 use field::Grade;
+use lines::ABSENT;
+use lines::ANCHORS;
+use lines::BYTE;
+use lines::CLOSURE;
+use lines::COLD_PROBE;
+use lines::COMPONENTS;
+use lines::HEAVY;
+use lines::LIMITED_PROBE;
+use lines::NO_EFFECT;
+use lines::Outcome;
+use lines::PAIRS;
+use lines::PREPROCESS;
+use lines::PROBE;
+use lines::PROPAGATION;
+use lines::SHIFT;
+use lines::put_constraints;
+use lines::put_found;
+use lines::put_outcome;
+use lines::put_pairs;
+use lines::put_scratch;
+use lines::put_values;
+use lines::put_variables;
+use lines::shifted::put_field;
 use pairs::Paired;
+use stream::head::Head;
+use stream::lists::fill_bytes;
+use stream::lists::take_bytes;
+use stream::lists::take_floats;
+use stream::lists::take_shorts;
+use stream::output::put;
 ghost use mathlib.Core.Path.{_≡_};
 ghost use Prim.Native.Nat.{_+_, _*_, _≤_};
 ghost use lib.ListN.{length};
 ghost use Rattle.scratch.specs.Lent.{before, after};
-ghost use Rattle.replay.specs.Heads.{standing};
+ghost use Rattle.stream.specs.Heads.{standing};
 
 fn is_exact(grade: Grade) -> bool {
     match grade {
@@ -120,7 +122,29 @@ fn in_start(
     if code == PREPROCESS {
         return answered(preprocess::preprocess(c, rows, cols, q, start, f, u));
     }
+    if code == HEAVY {
+        return answered(heavy::heavy(c, rows, cols, q, start, f, u));
+    }
     refused(ABSENT)
+}
+
+// The probes of all or of the first candidates, which answer in found values and in a list of constraints.
+fn in_both(
+    head: Head,
+    c: &[f64],
+    rows: &[u16],
+    cols: &[u16],
+    q: &[f64],
+    start: &[u8],
+    found: &mut [u8],
+    list: &mut [u16],
+    f: &mut [f64],
+    u: &mut [u32],
+) -> Outcome {
+    if head.code == PROBE {
+        return counted(probes::probe(c, rows, cols, q, start, found, list, f, u));
+    }
+    counted(probes::probe_limited(c, rows, cols, q, start, head.limit, found, list, f, u))
 }
 
 // The calls that answer in a list of constraints or of variables.
@@ -177,6 +201,9 @@ fn make(
             f,
             u,
         ));
+    }
+    if code <= LIMITED_PROBE {
+        return in_both(head, c, rows, cols, q, start, found, list, f, u);
     }
     if code == PROPAGATION {
         return checked(propagation::propagate(start, list, u));

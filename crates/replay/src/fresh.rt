@@ -2,21 +2,21 @@
 use crate::calls::answer_call;
 use crate::calls::answer_shift;
 use crate::calls::take_field;
-use crate::head::ENTRIES;
-use crate::head::Head;
-use crate::head::VARIABLES;
-use crate::lines::FLOAT;
-use crate::lines::SHIFT;
-use crate::lines::SHORT;
-use crate::lines::WORD;
-use crate::lists::fill_floats;
-use crate::lists::fill_shorts;
-use crate::lists::fill_words;
-use crate::lists::take_shorts;
+use lines::FLOAT;
+use lines::SHIFT;
+use lines::SHORT;
+use lines::WORD;
+use stream::head::ENTRIES;
+use stream::head::Head;
+use stream::head::VARIABLES;
+use stream::lists::fill_floats;
+use stream::lists::fill_shorts;
+use stream::lists::fill_words;
+use stream::lists::take_shorts;
 ghost use Prim.Native.Nat.{_+_, _*_, _≤_};
 ghost use lib.ListN.{length};
 ghost use Rattle.scratch.specs.Lent.{after};
-ghost use Rattle.replay.specs.Heads.{Fits, Buffers, standing};
+ghost use Rattle.stream.specs.Heads.{Fits, Buffers, standing};
 
 // With start values and found values of its own.
 fn with_values(
@@ -165,7 +165,7 @@ fn answer_in_parts(
     requires { ⌜ Fits head (length (now contents)) ⌝ }
     ensures { λ r. ⌜ r ≤ length (after out) ⌝ }
 {
-    let at = crate::head::constraints_at(head);
+    let at = stream::head::constraints_at(head);
     take_constraints(contents, at, head.constraints, list);
     fill_floats(f, FLOAT);
     fill_words(u, WORD);
@@ -189,7 +189,7 @@ pub fn answer(
     if head.code == SHIFT {
         return shift_anew(head, contents, out, used);
     }
-    let listed = crate::head::list(head);
+    let listed = stream::head::list(head);
     let floats = head.floats;
     let words = head.words;
     answer_in_parts(

@@ -3,21 +3,16 @@
 // `side-by-side/record crates/replay/stdin crates/replay/stdout CALLS` writes the recorded cases, and the Rust's answers to them.
 mod calls;
 mod fresh;
-mod head;
-mod lines;
-mod lists;
-mod output;
-mod shifted;
 
-use crate::head::FLOATS;
-use crate::head::Head;
-use crate::head::LISTED;
-use crate::head::WORDS;
 use libc::STDIN_FILENO;
+use stream::head::FLOATS;
+use stream::head::Head;
+use stream::head::LISTED;
+use stream::head::WORDS;
 ghost use Prim.Native.Nat.{_≤_};
 ghost use lib.ListN.{length};
 ghost use Rattle.scratch.specs.Lent.{after};
-ghost use Rattle.replay.specs.Heads.{Fits, Buffers};
+ghost use Rattle.stream.specs.Heads.{Fits, Buffers};
 ghost use Rattle.replay.specs.Next.{Ready};
 
 // A field's lists and its start values as bytes, 9 a variable and 12 an entry; constraints with start values take less.
@@ -40,8 +35,8 @@ enum Next {
 
 // Says why there is no further case, and writes what output there is.
 fn stop(out: &mut [u8], used: usize, why: &[u8]) {
-    let at = output::put_text(out, used, why);
-    output::flush(out, at);
+    let at = stream::output::put_text(out, used, why);
+    stream::output::flush(out, at);
 }
 
 // The next case's head, if the buffers hold the case.
@@ -58,8 +53,8 @@ fn next_head(out: &mut [u8], used: usize, size: usize) -> Next
         stop(out, used, b"cut\n");
         return Next::Stop;
     }
-    let head = head::parse(&bytes);
-    if head::fits(head, size) {
+    let head = stream::head::parse(&bytes);
+    if stream::head::fits(head, size) {
         return Next::Case(head);
     }
     stop(out, used, b"too long\n");
@@ -71,7 +66,7 @@ fn read_case(head: Head, contents: &mut [u8], out: &mut [u8], used: usize) -> Ne
     requires { ⌜ Fits head (length (now contents)) ⌝ }
     ensures { λ r. ⌜ Ready r (length (after contents)) ⌝ }
 {
-    if read(contents, head::contents(head)) {
+    if read(contents, stream::head::contents(head)) {
         return Next::Case(head);
     }
     stop(out, used, b"cut\n");

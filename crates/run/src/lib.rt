@@ -1,6 +1,6 @@
 // The gradient run over lent memory: variables are scanned upward, then a first-in queue is served.
 pub mod queue;
-mod steps;
+pub mod steps;
 
 ghost use Rattle.scratch.specs.Lent.{before, after};
 ghost use Rattle.field.specs.Field.{given, lent};

@@ -6,7 +6,7 @@ use mathlib.Core.Logic.{⊎-elim, _↔_}
 use native.Mathlib.Nat.{le-of-suc-le-suc, eq-or-lt-of-le, le-antisymm}
 use native.Mathlib.Numerals.{add-one}
 use native.Mathlib.Omega.{arith}
-use Rattle.scratch.specs.All.{allBelow, Passing}
+use Rattle.scratch.specs.All.{allBelow, Passing, Testing}
 
 -- ---- two tests, one after the other
 
@@ -23,6 +23,12 @@ and-no b e = rw e
 false-and : (a b : Bool) → b ≡ false → (a && b) ≡ false
 false-and true b e = e
 false-and false b e = refl
+
+and-swap : (a b : Bool) → (a && b) ≡ (b && a)
+and-swap true true = refl
+and-swap true false = refl
+and-swap false true = refl
+and-swap false false = refl
 
 -- ---- a test at every number
 
@@ -65,3 +71,17 @@ module _ (p : ℕ → Bool) where
 
   pub all-done : {n k : ℕ} → Passing p n k → n ≤ k → true ≡ allBelow p n
   all-done now l = sym (now .so-far) ∙ ap (allBelow p) (le-antisymm (now .within) l)
+
+  -- ---- the loop that tests every number: it starts, takes a turn, and comes to the end
+
+  pub testing-start : (n : ℕ) → Testing p n 0 true
+  unfolding allBelow
+  testing-start n = record { within = omega arith; so-far = refl }
+
+  pub testing-turn : {n k : ℕ} {all passes : Bool} → Testing p n k all → k < n → passes ≡ p k → Testing p n (k + 1) (all && passes)
+  unfolding allBelow
+  testing-turn {k = k} {all = all} {passes = passes} now l e =
+      record { within = omega arith; so-far = rw add-one (and-swap all passes ∙ ap (λ b. b && all) e ∙ ap (λ b. p k && b) (now .so-far)) }
+
+  pub testing-done : {n k : ℕ} {all : Bool} → Testing p n k all → n ≤ k → all ≡ allBelow p n
+  testing-done now l = now .so-far ∙ ap (allBelow p) (le-antisymm (now .within) l)

@@ -11,3 +11,8 @@ allBelow p (suc n) = p n && allBelow p n
 pub record Passing (p : ℕ → Bool) (n k : ℕ) : Type 0 where
   pub within : k ≤ n
   pub so-far : allBelow p k ≡ true
+
+-- where a loop stands that tests all of 0, 1 and so on up to n: `all` says whether the first k pass
+pub record Testing (p : ℕ → Bool) (n k : ℕ) (all : Bool) : Type 0 where
+  pub within : k ≤ n
+  pub so-far : all ≡ allBelow p k

@@ -34,7 +34,7 @@ pub fn is_finite(x: f64) -> bool
 {
     let top = f64::from_bits(0x7ff0_0000_0000_0000);
     let bottom = f64::from_bits(0xfff0_0000_0000_0000);
-    bottom < x && x < top
+    (bottom < x) & (x < top)
 }
 
 // The largest unit of which x is a whole number, and 0 where x is not finite.

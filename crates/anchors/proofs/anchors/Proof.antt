@@ -23,7 +23,7 @@ graded-requires : tie.Need-graded-requires
 graded-requires c κs = let shaped = admitted-passes _ _ _ _ .0 (sym (c .before .before .admitted .ensures) ∙ c .enum-told .given .1) .shaped in shaped .rows-long ∙ sym (shaped .cols-long)
 
 work-requires : tie.Need-work-requires
-work-requires c κs = admitted-passes _ _ _ _ .0 (sym (c .before .before .before .before .before .before .admitted .ensures) ∙ c .before .before .before .before .enum-told .given .1)
+work-requires c κs = (admitted-passes _ _ _ _ .0 (sym (c .before .before .before .before .before .before .admitted .ensures) ∙ c .before .before .before .before .enum-told .given .1), c .before .before .before .graded .ensures)
 
 clear-floats-requires : tie.Need-clear-floats-requires
 clear-floats-requires c κs = search needs
@@ -47,27 +47,27 @@ returns-2 : tie.Need-returns-2
 returns-2 c =
     full-call _ _ _ _ _ _
     (length
-    (c .before .before .before .before .before .before .before .before .before .before .before .before .before .before .before .before .before .before .before .work .last .1 .1 .1 .1 .1 .1 .1 .0))
-    (length
     (c .before .before .before .before .before .before .before .before .before .before .before .before .before .before .before .before .before .before .before .work .last .1 .1 .1 .1 .1 .1 .1 .1 .0))
+    (length
+    (c .before .before .before .before .before .before .before .before .before .before .before .before .before .before .before .before .before .before .before .work .last .1 .1 .1 .1 .1 .1 .1 .1 .1 .0))
     (sym
     (c .before .before .before .before .before .before .before .before .before .before .before .before .before .before .before .before .before .before .before .before .before .before .before .before .before .before .admitted .ensures)
     ∙
     c .before .before .before .before .before .before .before .before .before .before .before .before .before .before .before .before .before .before .before .before .before .before .before .before .enum-told .given .1)
     (c .before .before .before .before .before .before .before .before .before .before .before .before .before .before .before .before .before .before .before .work .ensures)
     (length
-    (c .before .before .before .before .before .before .before .before .before .before .before .before .before .before .before .before .before .before .before .work .last .1 .1 .1 .1 .1 .1 .0))
+    (c .before .before .before .before .before .before .before .before .before .before .before .before .before .before .before .before .before .before .before .work .last .1 .1 .1 .1 .1 .1 .1 .0))
     (omega (
       arith,
       c .before .before .before .before .if1 .taken,
-      c .before .before .before .before .before .before .before .before .before .before .before .before .before .before .before .before .before .before .before .work .kept .1 .1 .1 .1 .1 .1 .0,
+      c .before .before .before .before .before .before .before .before .before .before .before .before .before .before .before .before .before .before .before .work .kept .1 .1 .1 .1 .1 .1 .1 .0,
     ))
     (c .before .before .clear-shorts .ensures)
-    (c .before .before .before .before .before .before .before .before .before .before .before .before .before .before .before .before .before .before .before .work .kept .1 .1 .1 .1 .1 .1 .0)
-    (c .before .before .before .before .before .before .before .before .before .before .before .clear-floats .ensures)
     (c .before .before .before .before .before .before .before .before .before .before .before .before .before .before .before .before .before .before .before .work .kept .1 .1 .1 .1 .1 .1 .1 .0)
-    (c .before .before .before .before .before .before .before .clear-words .ensures)
+    (c .before .before .before .before .before .before .before .before .before .before .before .clear-floats .ensures)
     (c .before .before .before .before .before .before .before .before .before .before .before .before .before .before .before .before .before .before .before .work .kept .1 .1 .1 .1 .1 .1 .1 .1 .0)
+    (c .before .before .before .before .before .before .before .clear-words .ensures)
+    (c .before .before .before .before .before .before .before .before .before .before .before .before .before .before .before .before .before .before .before .work .kept .1 .1 .1 .1 .1 .1 .1 .1 .1 .0)
 
 same-length-4 : tie.Need-same-length-4
 same-length-4 c = search needs
@@ -81,18 +81,18 @@ same-length-6 c = search needs
 returns-3 : tie.Need-returns-3
 returns-3 c =
     counted-call _ _ _ _ _ _
-    (length (c .before .before .before .before .before .before .before .before .before .before .before .before .before .before .before .work .last .1 .1 .1 .1 .1 .1 .1 .0))
     (length (c .before .before .before .before .before .before .before .before .before .before .before .before .before .before .before .work .last .1 .1 .1 .1 .1 .1 .1 .1 .0))
+    (length (c .before .before .before .before .before .before .before .before .before .before .before .before .before .before .before .work .last .1 .1 .1 .1 .1 .1 .1 .1 .1 .0))
     (sym
     (c .before .before .before .before .before .before .before .before .before .before .before .before .before .before .before .before .before .before .before .before .before .before .admitted .ensures)
     ∙ c .before .before .before .before .before .before .before .before .before .before .before .before .before .before .before .before .before .before .before .before .enum-told .given .1)
     (c .before .before .before .before .before .before .before .before .before .before .before .before .before .before .before .work .ensures)
     (c .before .before .before .before .before .before .before .before .before .before .before .before .before .before .before .before .before .before .before .graded .ensures)
-    (omega (arith, c .if1 .left, c .before .before .before .before .before .before .before .before .before .before .before .before .before .before .before .work .kept .1 .1 .1 .1 .1 .1 .0))
+    (omega (arith, c .if1 .left, c .before .before .before .before .before .before .before .before .before .before .before .before .before .before .before .work .kept .1 .1 .1 .1 .1 .1 .1 .0))
     (c .before .before .before .before .before .before .before .clear-floats .ensures)
-    (c .before .before .before .before .before .before .before .before .before .before .before .before .before .before .before .work .kept .1 .1 .1 .1 .1 .1 .1 .0)
-    (c .before .before .before .clear-words .ensures)
     (c .before .before .before .before .before .before .before .before .before .before .before .before .before .before .before .work .kept .1 .1 .1 .1 .1 .1 .1 .1 .0)
+    (c .before .before .before .clear-words .ensures)
+    (c .before .before .before .before .before .before .before .before .before .before .before .before .before .before .before .work .kept .1 .1 .1 .1 .1 .1 .1 .1 .1 .0)
 
 pub anchors-spec : {M : Type 1} → statement M
 anchors-spec =

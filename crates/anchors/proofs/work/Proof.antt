@@ -8,23 +8,23 @@ use Rattle.anchors.proofs.work.Tie as tie
 
 build-requires : tie.Need-build-requires
 build-requires c κs = (
-  ends-below (c .before .before .before .before .before .before .before .before .before .pre .shaped),
+  ends-below (c .before .before .before .before .before .before .before .before .before .pre .0 .shaped),
   omega (
     arith,
-    c .before .before .before .before .before .before .before .before .before .pre .words-room,
-    c .before .before .before .before .before .before .before .before .before .pre .shaped .rows-long,
+    c .before .before .before .before .before .before .before .before .before .pre .0 .words-room,
+    c .before .before .before .before .before .before .before .before .before .pre .0 .shaped .rows-long,
   ),
 )
 
 begin-requires : tie.Need-begin-requires
 begin-requires c κs = (
-  c .before .before .before .before .before .before .before .before .before .before .before .before .before .pre .shaped,
+  c .before .before .before .before .before .before .before .before .before .before .before .before .before .pre .0 .shaped,
   (
-    c .before .before .before .before .before .before .before .before .before .before .before .before .before .pre .start .long,
+    c .before .before .before .before .before .before .before .before .before .before .before .before .before .pre .0 .start .long,
     omega (
       arith,
-      c .before .before .before .before .before .before .before .before .before .before .before .before .before .pre .words-room,
-      c .before .before .before .before .before .before .before .before .before .before .before .before .before .pre .shaped .rows-long,
+      c .before .before .before .before .before .before .before .before .before .before .before .before .before .pre .0 .words-room,
+      c .before .before .before .before .before .before .before .before .before .before .before .before .before .pre .0 .shaped .rows-long,
       c .before .before .before .build .ensures .long,
     ),
   ),
@@ -32,7 +32,7 @@ begin-requires c κs = (
 
 search-requires : tie.Need-search-requires
 search-requires c κs =
-    let admitted = c .before .before .before .before .before .before .before .before .before .before .before .before .before .before .before .before .before .before .before .pre in
+    let admitted = c .before .before .before .before .before .before .before .before .before .before .before .before .before .before .before .before .before .before .before .pre .0 in
     let built = c .before .before .before .before .before .before .before .before .before .build .ensures in
     let begun = c .before .before .before .before .before .begin .ensures in (
       record {
@@ -40,14 +40,14 @@ search-requires c κs =
         start-long = admitted .start .long;
         floats-room = omega (arith, admitted .floats-room);
       },
-      begun .marks,
+      (begun .marks, c .before .before .before .before .before .before .before .before .before .before .before .before .before .before .before .before .before .before .before .pre .1),
     )
 
 same-length : tie.Need-same-length
-same-length c = c .before .before .before .before .before .before .search .kept .1 .1 .1 .1 .1 .1 .0
+same-length c = c .before .before .before .before .before .before .search .kept .1 .1 .1 .1 .1 .1 .1 .0
 
 same-length-2 : tie.Need-same-length-2
-same-length-2 c = c .before .before .before .before .before .before .search .kept .1 .1 .1 .1 .1 .1 .1 .0
+same-length-2 c = c .before .before .before .before .before .before .search .kept .1 .1 .1 .1 .1 .1 .1 .1 .0
 
 same-length-3 : tie.Need-same-length-3
 same-length-3 c = search needs

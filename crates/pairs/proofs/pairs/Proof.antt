@@ -44,7 +44,25 @@ same-length-3 : tie.Need-same-length-3
 same-length-3 c = search needs
 
 returns-2 : tie.Need-returns-2
-returns-2 c = let w = c .before .before .before .before .before .before .before .before .before .before .before .before .before .before .before .before .before .before .before .work in full-call _ _ _ _ _ _ (length (w .last .1 .1 .1 .1 .1 .1 .1 .0)) (length (w .last .1 .1 .1 .1 .1 .1 .1 .1 .0)) (sym (c .before .before .before .before .before .before .before .before .before .before .before .before .before .before .before .before .before .before .before .before .before .before .before .before .before .before .ready .ensures) ∙ c .before .before .before .before .before .before .before .before .before .before .before .before .before .before .before .before .before .before .before .before .before .before .before .before .enum-told .given .1) (w .ensures)
+returns-2 c =
+    let
+    w
+    =
+    c .before .before .before .before .before .before .before .before .before .before .before .before .before .before .before .before .before .before .before .work
+    in
+    full-call
+    _
+    _
+    _
+    _
+    _
+    _
+    (length (w .last .1 .1 .1 .1 .1 .1 .1 .0))
+    (length (w .last .1 .1 .1 .1 .1 .1 .1 .1 .0))
+    (sym
+    (c .before .before .before .before .before .before .before .before .before .before .before .before .before .before .before .before .before .before .before .before .before .before .before .before .before .before .ready .ensures)
+    ∙ c .before .before .before .before .before .before .before .before .before .before .before .before .before .before .before .before .before .before .before .before .before .before .before .before .enum-told .given .1)
+    (w .ensures)
     (c .before .before .before .before .before .before .before .before .before .before .before .clear-floats .ensures) (search needs) (c .before .before .before .before .before .before .before .clear-words .ensures) (search needs) (length (w .last .1 .1 .1 .1 .1 .1 .0)) (c .before .before .before .before .if1 .taken) (c .before .before .clear-shorts .ensures) (search needs)
 
 same-length-4 : tie.Need-same-length-4
@@ -57,7 +75,25 @@ same-length-6 : tie.Need-same-length-6
 same-length-6 c = search needs
 
 returns-3 : tie.Need-returns-3
-returns-3 c = let w = c .before .before .before .before .before .before .before .before .before .before .before .before .before .before .before .work in done-call _ _ _ _ _ _ (length (w .last .1 .1 .1 .1 .1 .1 .1 .0)) (length (w .last .1 .1 .1 .1 .1 .1 .1 .1 .0)) (sym (c .before .before .before .before .before .before .before .before .before .before .before .before .before .before .before .before .before .before .before .before .before .before .ready .ensures) ∙ c .before .before .before .before .before .before .before .before .before .before .before .before .before .before .before .before .before .before .before .before .enum-told .given .1) (w .ensures)
+returns-3 c =
+    let
+    w
+    =
+    c .before .before .before .before .before .before .before .before .before .before .before .before .before .before .before .work
+    in
+    done-call
+    _
+    _
+    _
+    _
+    _
+    _
+    (length (w .last .1 .1 .1 .1 .1 .1 .1 .0))
+    (length (w .last .1 .1 .1 .1 .1 .1 .1 .1 .0))
+    (sym
+    (c .before .before .before .before .before .before .before .before .before .before .before .before .before .before .before .before .before .before .before .before .before .before .ready .ensures)
+    ∙ c .before .before .before .before .before .before .before .before .before .before .before .before .before .before .before .before .before .before .before .before .enum-told .given .1)
+    (w .ensures)
     (c .before .before .before .before .before .before .before .clear-floats .ensures) (search needs) (c .before .before .before .clear-words .ensures) (search needs) (c .before .before .before .before .before .before .before .before .before .before .before .before .before .before .before .before .before .before .before .graded .ensures) (c .if1 .left)
 
 pub pairs-spec : {M : Type 1} → statement M

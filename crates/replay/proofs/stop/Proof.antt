@@ -3,8 +3,8 @@ use Rattle.replay.proofs.stop.Statement.{statement}
 use Rattle.replay.proofs.stop.Tie as tie
 use Rattle.replay.proofs.stop.Reads as reads
 use Rattle.replay.proofs.stop.Lts as lts
-use Rattle.replay.proofs.output.flush.Reads as flush-reads
-use Rattle.replay.proofs.output.put_text.Reads as put-text-reads
+use Rattle.stream.proofs.output.flush.Reads as flush-reads
+use Rattle.stream.proofs.output.put_text.Reads as put-text-reads
 
 -- src/main.rt:46:9
 put-text-requires : tie.Need-put-text-requires

@@ -25,6 +25,35 @@ impl<'a> CsVecView<'a> {
     }
 }
 
+/// Stands in for `sprs::CsIter`: one walk over the stored places, in which the outer line moves on at its end.
+#[derive(Clone)]
+pub struct CsIter<'a> {
+    matrix: &'a CsMat<f64>,
+    outer: usize,
+    at: usize,
+}
+
+impl<'a> Iterator for CsIter<'a> {
+    type Item = (&'a f64, (usize, usize));
+
+    #[inline]
+    fn next(&mut self) -> Option<Self::Item> {
+        let matrix = self.matrix;
+        let &inner = matrix.inner.get(self.at)?;
+        while self.at == matrix.offsets[self.outer + 1] {
+            self.outer += 1;
+        }
+        let value = &matrix.data[self.at];
+        self.at += 1;
+        Some((value, matrix.place(self.outer, inner)))
+    }
+
+    fn size_hint(&self) -> (usize, Option<usize>) {
+        let left = self.matrix.inner.len() - self.at;
+        (left, Some(left))
+    }
+}
+
 impl CsMat<f64> {
     /// Takes a matrix by columns and panics, as sprs does, where the structure is broken.
     pub fn new_csc(
@@ -63,6 +92,7 @@ impl CsMat<f64> {
         self.data.len()
     }
 
+    #[inline]
     fn place(&self, outer: usize, inner: usize) -> (usize, usize) {
         if self.by_columns {
             (inner, outer)
@@ -72,13 +102,16 @@ impl CsMat<f64> {
     }
 
     /// Walks the stored values with their (row, column), outer line by outer line.
-    pub fn iter(&self) -> Box<dyn Iterator<Item = (&f64, (usize, usize))> + '_> {
-        Box::new((0..self.offsets.len() - 1).flat_map(move |outer| {
-            (self.offsets[outer]..self.offsets[outer + 1])
-                .map(move |at| (&self.data[at], self.place(outer, self.inner[at])))
-        }))
+    #[inline]
+    pub fn iter(&self) -> CsIter<'_> {
+        CsIter {
+            matrix: self,
+            outer: 0,
+            at: 0,
+        }
     }
 
+    #[inline]
     pub fn get(&self, row: usize, column: usize) -> Option<&f64> {
         let (outer, inner) = if self.by_columns {
             (column, row)
@@ -113,7 +146,8 @@ impl CsMat<f64> {
 
 impl<'a> IntoIterator for &'a CsMat<f64> {
     type Item = (&'a f64, (usize, usize));
-    type IntoIter = Box<dyn Iterator<Item = Self::Item> + 'a>;
+    type IntoIter = CsIter<'a>;
+    #[inline]
     fn into_iter(self) -> Self::IntoIter {
         self.iter()
     }
@@ -155,6 +189,7 @@ impl TriMat<f64> {
         }
     }
 
+    #[inline]
     pub fn add_triplet(&mut self, row: usize, column: usize, value: f64) {
         assert!(row < self.shape.0 && column < self.shape.1);
         self.triplets.push((row, column, value));

@@ -11,10 +11,10 @@ use Rattle.anchors.proofs.members.all_turnable.Statement.{statement}
 use Rattle.anchors.proofs.members.all_turnable.Tie as tie
 
 abbrev Inv-loop : tie.InvT-loop
-Inv-loop c rows cols q start count f₀ u n members h₀ f h = Turning (fieldOf c rows cols q) start count u h × (length f ≡ length f₀)
+Inv-loop c rows cols q grade start count f₀ u n members h₀ f h = Turning (fieldOf c rows cols q) start count u h × (length f ≡ length f₀)
 
 abbrev μ-loop : tie.MeasureT-loop
-μ-loop c rows cols q start count f₀ u n members h₀ f h = count - h
+μ-loop c rows cols q grade start count f₀ u n members h₀ f h = count - h
 
 add-members : tie.Need-add-members Inv-loop μ-loop
 add-members c = search needs
@@ -66,15 +66,18 @@ is-balanced-requires : tie.Need-is-balanced-requires Inv-loop μ-loop
 is-balanced-requires c κs = (
   member-walkable (c .before .before .before .before .before .before .before .before .before .before .before .before .before .before .pre .0)
       (c .before .before .before .before .before .before .loop .h) (c .before .before .before .before .before .loop-test .taken) (c .before .before .before .wide-word .ensures),
-  omega (
-    arith,
-    c .before .before .before .before .before .before .before .before .before .before .before .before .before .before .pre .1 .1,
-    c .before .before .before .before .before .before .loop .inv .1,
+  (
+    omega (
+      arith,
+      c .before .before .before .before .before .before .before .before .before .before .before .before .before .before .pre .1 .1 .0,
+      c .before .before .before .before .before .before .loop .inv .1,
+    ),
+    c .before .before .before .before .before .before .before .before .before .before .before .before .before .before .pre .1 .1 .1,
   ),
 )
 
 same-length-2 : tie.Need-same-length-2 Inv-loop μ-loop
-same-length-2 c = c .before .before .before .is-balanced .kept .1 .1 .1 .1 .1 .0 ∙ c .before .before .before .before .before .before .before .before .before .before .loop .inv .1
+same-length-2 c = c .before .before .before .is-balanced .kept .1 .1 .1 .1 .1 .1 .0 ∙ c .before .before .before .before .before .before .before .before .before .before .loop .inv .1
 
 returns-2 : tie.Need-returns-2 Inv-loop μ-loop
 returns-2 c =
@@ -93,7 +96,7 @@ loop-again c = (
   turning-next (c .before .before .before .before .before .before .before .before .before .before .loop .inv .0)
       (c .before .before .before .before .before .before .before .before .before .loop-test .taken) (c .before .before .before .before .before .before .before .wide-word .ensures)
       (c .before .before .before .before .before .if1 .left) (c .before .before .before .is-balanced .ensures) (not-false _ (c .if2 .left)),
-  c .before .before .before .is-balanced .kept .1 .1 .1 .1 .1 .0 ∙ c .before .before .before .before .before .before .before .before .before .before .loop .inv .1,
+  c .before .before .before .is-balanced .kept .1 .1 .1 .1 .1 .1 .0 ∙ c .before .before .before .before .before .before .before .before .before .before .loop .inv .1,
 )
 
 same-length-3 : tie.Need-same-length-3 Inv-loop μ-loop

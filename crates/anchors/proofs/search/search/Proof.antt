@@ -8,16 +8,16 @@ use Rattle.anchors.proofs.search.search.Statement.{statement}
 use Rattle.anchors.proofs.search.search.Tie as tie
 
 abbrev Inv-loop : tie.InvT-loop
-Inv-loop c rows cols q start least list₀ f₀ u₀ n found₀ i₀ list f u found i = Searching (fieldOf c rows cols q) start least list₀ f₀ u₀ i list f u found
+Inv-loop c rows cols q grade start least list₀ f₀ u₀ n found₀ i₀ list f u found i = Searching (fieldOf c rows cols q) start least list₀ f₀ u₀ i list f u found
 
 abbrev μ-loop : tie.MeasureT-loop
-μ-loop c rows cols q start least list₀ f₀ u₀ n found₀ i₀ list f u found i = n - i
+μ-loop c rows cols q grade start least list₀ f₀ u₀ n found₀ i₀ list f u found i = n - i
 
 loop-holds : tie.Need-loop-holds Inv-loop μ-loop
-loop-holds c = search-start _ (c .before .before .before .before .before .before .before .before .pre .0) (c .before .before .before .before .before .before .before .before .pre .1)
+loop-holds c = search-start _ (c .before .before .before .before .before .before .before .before .pre .0) (c .before .before .before .before .before .before .before .before .pre .1 .0)
 
 visit-requires : tie.Need-visit-requires Inv-loop μ-loop
-visit-requires c κs = (c .before .before .before .before .loop .inv .standing, (c .before .before .before .loop-test .taken, c .before .before .before .before .loop .inv .few))
+visit-requires c κs = (c .before .before .before .before .loop .inv .standing, (c .before .before .before .loop-test .taken, (c .before .before .before .before .loop .inv .few, c .before .before .before .before .before .before .before .before .before .before .before .before .before .pre .1 .1)))
 
 add-i : tie.Need-add-i Inv-loop μ-loop
 add-i c = search needs
@@ -29,8 +29,8 @@ loop-again : tie.Need-loop-again Inv-loop μ-loop
 loop-again c =
     search-turn (c .before .before .before .before .before .before .before .before .before .before .before .loop .inv)
     (c .before .before .before .before .before .before .before .before .before .before .loop-test .taken) (c .before .before .before .before .before .before .visit .ensures)
-    (c .before .before .before .before .before .before .visit .kept .1 .1 .1 .1 .1 .1 .1 .1 .0) (c .before .before .before .before .before .before .visit .kept .1 .1 .1 .1 .1 .1 .1 .1 .1 .0)
-    (c .before .before .before .before .before .before .visit .kept .1 .1 .1 .1 .1 .1 .1 .1 .1 .1 .0)
+    (c .before .before .before .before .before .before .visit .kept .1 .1 .1 .1 .1 .1 .1 .1 .1 .0) (c .before .before .before .before .before .before .visit .kept .1 .1 .1 .1 .1 .1 .1 .1 .1 .1 .0)
+    (c .before .before .before .before .before .before .visit .kept .1 .1 .1 .1 .1 .1 .1 .1 .1 .1 .1 .0)
 
 same-length : tie.Need-same-length Inv-loop μ-loop
 same-length c = c .before .loop .inv .list-long

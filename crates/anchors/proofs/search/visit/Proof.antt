@@ -57,14 +57,11 @@ all-turnable-requires c κs = (
   walked-members (c .before .before .before .before .before .before .before .before .before .before .before .before .before .before .before .before .before .pre .0 .placed)
       (c .before .before .before .before .before .before .before .before .before .before .before .before .before .before .before .before .before .pre .1 .0)
       (c .before .before .before .before .before .before .before .if1 .left) (c .before .before .before .before .before .walk .ensures),
-  (
-    c .before .before .before .before .before .before .before .before .before .before .before .before .before .before .before .before .before .pre .0 .start-long,
-    c .before .before .before .before .before .before .before .before .before .before .before .before .before .before .before .before .before .pre .0 .floats-room,
-  ),
+  (c .before .before .before .before .before .before .before .before .before .before .before .before .before .before .before .before .before .pre .0 .start-long, (c .before .before .before .before .before .before .before .before .before .before .before .before .before .before .before .before .before .pre .0 .floats-room, c .before .before .before .before .before .before .before .before .before .before .before .before .before .before .before .before .before .pre .1 .1 .1)),
 )
 
 same-length-2 : tie.Need-same-length-2
-same-length-2 c = c .before .before .before .all-turnable .kept .1 .1 .1 .1 .1 .1 .0
+same-length-2 c = c .before .before .before .all-turnable .kept .1 .1 .1 .1 .1 .1 .1 .0
 
 same-length-3 : tie.Need-same-length-3
 same-length-3 c = c .before .before .before .before .before .before .before .before .before .walk .kept .1 .1 .1 .1 .1 .1 .0
@@ -110,7 +107,7 @@ add-result : tie.Need-add-result
 add-result c =
     omega (
       arith,
-      c .before .before .before .before .before .before .before .before .before .before .before .before .before .before .before .before .before .before .before .before .before .before .before .before .before .before .before .pre .1 .1,
+      c .before .before .before .before .before .before .before .before .before .before .before .before .before .before .before .before .before .before .before .before .before .before .before .before .before .before .before .pre .1 .1 .0,
       c .before .before .before .before .before .before .before .before .before .before .before .before .before .before .before .before .before .before .before .before .before .before .before .before .before .before .before .pre .1 .0,
       c .before .before .before .before .before .before .before .before .before .before .before .before .before .before .before .before .before .before .before .before .before .before .before .before .before .before .before .pre .0 .placed .shaped .few-variables,
     )
@@ -119,7 +116,7 @@ same-length-4 : tie.Need-same-length-4
 same-length-4 c = c .before .before .store .kept .0
 
 same-length-5 : tie.Need-same-length-5
-same-length-5 c = c .before .before .before .before .before .before .before .before .before .all-turnable .kept .1 .1 .1 .1 .1 .1 .0
+same-length-5 c = c .before .before .before .before .before .before .before .before .before .all-turnable .kept .1 .1 .1 .1 .1 .1 .1 .0
 
 same-length-6 : tie.Need-same-length-6
 same-length-6 c = c .before .before .before .before .before .before .before .before .before .before .before .before .before .before .before .walk .kept .1 .1 .1 .1 .1 .1 .0

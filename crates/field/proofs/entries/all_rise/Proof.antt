@@ -1,23 +1,21 @@
 -- `all_rise` tests one entry against the next a turn. Assumes nothing.
 use Prim.Native.Nat.{_-_}
 use lib.ListN.{length}
-use mathlib.Core.Path.{sym, _∙_}
-use borrow.Author.Tests.{not-true, not-false}
 use Rattle.field.specs.Tests.{risesAt, allRise}
-use Rattle.scratch.specs.All.{Passing}
-use Rattle.scratch.proofs.All.{all-start, all-turn, all-stop, all-done}
+use Rattle.scratch.specs.All.{Testing}
+use Rattle.scratch.proofs.All.{testing-start, testing-turn, testing-done}
 use borrow.Author.Needs.{needs}
 use Rattle.field.proofs.entries.all_rise.Statement.{statement}
 use Rattle.field.proofs.entries.all_rise.Tie as tie
 
 abbrev Inv-loop : tie.InvT-loop
-Inv-loop rows cols k₀ k = Passing (risesAt rows cols) (length rows - 1) k
+Inv-loop rows cols rise₀ k₀ rise k = Testing (risesAt rows cols) (length rows - 1) k rise
 
 abbrev μ-loop : tie.MeasureT-loop
-μ-loop rows cols k₀ k = length rows - k
+μ-loop rows cols rise₀ k₀ rise k = length rows - k
 
 loop-holds : tie.Need-loop-holds Inv-loop μ-loop
-loop-holds c = all-start _ _
+loop-holds c = testing-start _ _
 
 add-loop : tie.Need-add-loop Inv-loop μ-loop
 add-loop c = search needs
@@ -52,19 +50,15 @@ shared-slice-read-stands-before-4 c = search needs
 stands-before-requires : tie.Need-stands-before-requires Inv-loop μ-loop
 stands-before-requires c κs = search needs
 
-returns : tie.Need-returns Inv-loop μ-loop
-unfolding allRise
-returns c = all-stop _ _ (search needs) (sym (c .before .stands-before .ensures) ∙ not-true _ (c .if1 .taken))
-
 loop-less : tie.Need-loop-less Inv-loop μ-loop
 loop-less c = search needs
 
 loop-again : tie.Need-loop-again Inv-loop μ-loop
-loop-again c = all-turn _ (c .before .before .before .before .before .before .before .loop .inv) (search needs) (sym (c .before .stands-before .ensures) ∙ not-false _ (c .if1 .left))
+loop-again c = testing-turn _ (c .before .before .before .before .before .before .loop .inv) (search needs) (c .stands-before .ensures)
 
-returns-2 : tie.Need-returns-2 Inv-loop μ-loop
+returns : tie.Need-returns Inv-loop μ-loop
 unfolding allRise
-returns-2 c = all-done _ (c .before .loop .inv) (search needs)
+returns c = testing-done _ (c .before .loop .inv) (search needs)
 
 pub all-rise-spec : {M : Type 1} → statement M
 all-rise-spec =
@@ -84,7 +78,6 @@ all-rise-spec =
     mul-stands-before-4
     shared-slice-read-stands-before-4
     stands-before-requires
-    returns
     loop-less
     loop-again
-    returns-2)
+    returns)

@@ -1,30 +1,26 @@
 -- `bytes_small` tests one byte a turn. Assumes nothing.
 use Prim.Native.Nat.{_-_}
-use lib.ListN.{length, getD}
+use mathlib.Core.Path.{refl}
 use lib.Dec.{leb}
-use borrow.Author.Tests.{lt-leb, le-leb}
+use lib.ListN.{length, getD}
 use Rattle.field.specs.Tests.{bytesSmall}
-use Rattle.scratch.specs.All.{Passing}
-use Rattle.scratch.proofs.All.{all-start, all-turn, all-stop, all-done}
+use Rattle.scratch.specs.All.{Testing}
+use Rattle.scratch.proofs.All.{testing-start, testing-turn, testing-done}
 use borrow.Author.Needs.{needs}
 use Rattle.field.proofs.entries.bytes_small.Statement.{statement}
 use Rattle.field.proofs.entries.bytes_small.Tie as tie
 
 abbrev Inv-loop : tie.InvT-loop
-Inv-loop s i₀ i = Passing (λ j. leb (getD s j 0) 2) (length s) i
+Inv-loop s small₀ i₀ i-end small i = Testing (λ j. leb (getD s j 0) 2) (length s) i small
 
 abbrev μ-loop : tie.MeasureT-loop
-μ-loop s i₀ i = length s - i
+μ-loop s small₀ i₀ i-end small i = i-end - i
 
 loop-holds : tie.Need-loop-holds Inv-loop μ-loop
-loop-holds c = all-start _ _
+loop-holds c = testing-start _ _
 
-shared-slice-read-if1 : tie.Need-shared-slice-read-if1 Inv-loop μ-loop
-shared-slice-read-if1 c = search needs
-
-returns : tie.Need-returns Inv-loop μ-loop
-unfolding bytesSmall
-returns c = all-stop _ _ (search needs) (lt-leb _ _ (c .if1 .taken))
+shared-slice-read-small : tie.Need-shared-slice-read-small Inv-loop μ-loop
+shared-slice-read-small c = search needs
 
 add-i : tie.Need-add-i Inv-loop μ-loop
 add-i c = search needs
@@ -33,11 +29,11 @@ loop-less : tie.Need-loop-less Inv-loop μ-loop
 loop-less c = search needs
 
 loop-again : tie.Need-loop-again Inv-loop μ-loop
-loop-again c = all-turn _ (c .before .before .before .loop .inv) (search needs) (le-leb _ _ (c .if1 .left))
+loop-again c = testing-turn _ (c .before .before .loop .inv) (search needs) refl
 
-returns-2 : tie.Need-returns-2 Inv-loop μ-loop
+returns : tie.Need-returns Inv-loop μ-loop
 unfolding bytesSmall
-returns-2 c = all-done _ (c .before .loop .inv) (search needs)
+returns c = testing-done _ (c .before .loop .inv) (search needs)
 
 pub bytes-small-spec : {M : Type 1} → statement M
 bytes-small-spec =
@@ -46,9 +42,8 @@ bytes-small-spec =
     Inv-loop
     μ-loop
     loop-holds
-    shared-slice-read-if1
-    returns
+    shared-slice-read-small
     add-i
     loop-less
     loop-again
-    returns-2)
+    returns)

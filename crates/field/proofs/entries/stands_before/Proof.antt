@@ -1,16 +1,10 @@
--- `stands_before` compares columns, then rows. Assumes nothing.
-use borrow.Author.Tests.{lt-ltb, le-ltb, eq-eqb, ne-eqb}
+-- `stands_before` compares columns, then rows, without a branch. Assumes nothing.
+use mathlib.Core.Path.{refl}
 use Rattle.field.proofs.entries.stands_before.Statement.{statement}
 use Rattle.field.proofs.entries.stands_before.Tie as tie
 
 returns : tie.Need-returns
-returns c = simp (lt-ltb _ _ (c .if1 .taken))
-
-returns-2 : tie.Need-returns-2
-returns-2 c = simp (le-ltb _ _ (c .before .if1 .left), eq-eqb _ _ (c .if2 .taken))
-
-returns-3 : tie.Need-returns-3
-returns-3 c = simp (le-ltb _ _ (c .before .if1 .left), ne-eqb _ _ (c .if2 .left))
+returns c = refl
 
 pub stands-before-spec : {M : Type 1} → statement M
-stands-before-spec = tie.close (tie.spec returns returns-2 returns-3)
+stands-before-spec = tie.close (tie.spec returns)

@@ -1,0 +1,106 @@
+-- `plain_sum` goes along the places of a variable. Assumes nothing.
+use Prim.Native.Nat.{_-_}
+use native.Mathlib.Omega.{arith}
+use Rattle.field.specs.Field.{fieldOf}
+use Rattle.places.proofs.Walk.{walk-turn}
+use Rattle.anchors.proofs.Summing.{Adding, adding-start, adding-entry, adding-turn, adding-done}
+use borrow.Author.Needs.{needs}
+use Rattle.anchors.proofs.sums.plain_sum.Statement.{statement}
+use Rattle.anchors.proofs.sums.plain_sum.Tie as tie
+
+abbrev Inv-loop : tie.InvT-loop
+Inv-loop c rows cols q i u n start end sum₀ p₀ sum p = Adding (fieldOf c rows cols q) i end u p sum
+
+abbrev μ-loop : tie.MeasureT-loop
+μ-loop c rows cols q i u n start end sum₀ p₀ sum p = end - p
+
+mul-wide-word : tie.Need-mul-wide-word Inv-loop μ-loop
+mul-wide-word c = search needs
+
+shared-slice-read-wide-word : tie.Need-shared-slice-read-wide-word Inv-loop μ-loop
+shared-slice-read-wide-word c = omega (arith, c .before .before .before .before .before .before .pre .adjacent .room, c .before .before .before .before .before .before .pre .below)
+
+wide-word-requires : tie.Need-wide-word-requires Inv-loop μ-loop
+wide-word-requires c κs = search needs
+
+add-wide-word : tie.Need-add-wide-word Inv-loop μ-loop
+add-wide-word c = search needs
+
+mul-wide-word-2 : tie.Need-mul-wide-word-2 Inv-loop μ-loop
+mul-wide-word-2 c = search needs
+
+shared-slice-read-wide-word-2 : tie.Need-shared-slice-read-wide-word-2 Inv-loop μ-loop
+shared-slice-read-wide-word-2 c = omega (arith, c .before .before .before .before .before .before .before .before .pre .adjacent .room, c .before .before .before .before .before .before .before .before .pre .below)
+
+wide-word-requires-2 : tie.Need-wide-word-requires-2 Inv-loop μ-loop
+wide-word-requires-2 c κs = search needs
+
+mul-sum : tie.Need-mul-sum Inv-loop μ-loop
+mul-sum c = search needs
+
+shared-slice-read-sum : tie.Need-shared-slice-read-sum Inv-loop μ-loop
+shared-slice-read-sum c = omega (arith, c .before .before .before .before .before .before .before .before .before .before .pre .below)
+
+loop-holds : tie.Need-loop-holds Inv-loop μ-loop
+loop-holds c = adding-start (c .before .before .before .before .before .before .before .before .before .before .pre) (c .before .before .before .wide-word .ensures) (c .before .wide-word2 .ensures)
+
+add-wide-word-2 : tie.Need-add-wide-word-2 Inv-loop μ-loop
+add-wide-word-2 c = omega (arith, c .before .before .before .before .before .before .before .before .before .before .before .before .pre .shaped .few-variables)
+
+add-wide-word-3 : tie.Need-add-wide-word-3 Inv-loop μ-loop
+add-wide-word-3 c = omega (arith, walk-turn (c .before .loop .inv .along .walk) (c .loop-test .taken) .index)
+
+mul-wide-word-3 : tie.Need-mul-wide-word-3 Inv-loop μ-loop
+mul-wide-word-3 c = omega (arith, walk-turn (c .before .loop .inv .along .walk) (c .loop-test .taken) .index)
+
+shared-slice-read-wide-word-3 : tie.Need-shared-slice-read-wide-word-3 Inv-loop μ-loop
+shared-slice-read-wide-word-3 c = walk-turn (c .before .before .loop .inv .along .walk) (c .before .loop-test .taken) .index
+
+wide-word-requires-3 : tie.Need-wide-word-requires-3 Inv-loop μ-loop
+wide-word-requires-3 c κs = search needs
+
+mul-sum-2 : tie.Need-mul-sum-2 Inv-loop μ-loop
+mul-sum-2 c = omega (arith, adding-entry (c .before .before .before .loop .inv) (c .before .before .loop-test .taken) (c .wide-word3 .ensures), c .before .before .before .before .before .before .before .before .before .before .before .before .before .before .pre .shaped .few-entries)
+
+shared-slice-read-sum-2 : tie.Need-shared-slice-read-sum-2 Inv-loop μ-loop
+shared-slice-read-sum-2 c = adding-entry (c .before .before .before .before .loop .inv) (c .before .before .before .loop-test .taken) (c .before .wide-word3 .ensures)
+
+add-p : tie.Need-add-p Inv-loop μ-loop
+add-p c = search needs
+
+loop-less : tie.Need-loop-less Inv-loop μ-loop
+loop-less c = omega (arith, c .before .before .before .loop-test .taken)
+
+loop-again : tie.Need-loop-again Inv-loop μ-loop
+loop-again c = adding-turn (c .before .before .before .before .loop .inv) (c .before .before .before .loop-test .taken) (c .before .wide-word3 .ensures)
+
+returns : tie.Need-returns Inv-loop μ-loop
+returns c = adding-done (c .before .loop .inv) (c .loop-test .left)
+
+pub plain-sum-spec : {M : Type 1} → statement M
+plain-sum-spec =
+    tie.close
+    (tie.spec
+    Inv-loop
+    μ-loop
+    mul-wide-word
+    shared-slice-read-wide-word
+    wide-word-requires
+    add-wide-word
+    mul-wide-word-2
+    shared-slice-read-wide-word-2
+    wide-word-requires-2
+    mul-sum
+    shared-slice-read-sum
+    loop-holds
+    add-wide-word-2
+    add-wide-word-3
+    mul-wide-word-3
+    shared-slice-read-wide-word-3
+    wide-word-requires-3
+    mul-sum-2
+    shared-slice-read-sum-2
+    add-p
+    loop-less
+    loop-again
+    returns)

@@ -1,0 +1,33 @@
+-- What a flush answers and leaves, as one function of what it is given. Assumes nothing.
+use Prim.Native.Nat.{ℕ}
+use mathlib.Core.Bool.{Bool, true, false}
+use mathlib.Core.List.{List}
+use lib.Dec.{leb}
+use lib.ListN.{length}
+use Rattle.constraints.specs.Triple.{Triple, room, filled}
+use Rattle.sorting.specs.Numbers.{distinctAt}
+use Rattle.found.specs.declared.Merged.{Merged}
+use Rattle.found.specs.declared.Merged.the-variants.{Holds, Full}
+use Rattle.found.specs.Joint.{joint}
+
+-- the answer, and the two lent lists afterwards
+pub record Left : Type 0 where
+  pub answer : Merged
+  pub list : List ℕ
+  pub words : List ℕ
+
+abbrev pub left : Merged → List ℕ → List ℕ → Left
+left r list u = record { answer = r; list = list; words = u }
+
+-- "elements past an answer list's last item are unchanged"; where the items do not fit nothing is written
+unfoldable pub settledIf : Bool → List Triple → List ℕ → List ℕ → Left
+settledIf true items list u = left (Holds (length items)) (filled items list) u
+settledIf false items list u = left Full list u
+
+-- "9 is given exactly if a full answer has more items than its list has room for"
+unfoldable pub settled : List Triple → List ℕ → List ℕ → Left
+settled items list u = settledIf (leb (length items) (room list)) items list u
+
+-- the list takes in what the words from lo to hi stand for, each once; they are left sorted, each once
+unfoldable pub flushed : List ℕ → ℕ → List ℕ → ℕ → ℕ → Left
+flushed list held u lo hi = settled (joint held lo hi list u) list (distinctAt lo hi u)

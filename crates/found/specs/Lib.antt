@@ -1,0 +1,3 @@
+pub mod Joint
+pub mod Flush
+pub mod Holding

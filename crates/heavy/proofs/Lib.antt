@@ -1,0 +1,6 @@
+pub mod Counted
+pub mod Values
+pub mod Added
+pub mod Standing
+pub mod Going
+pub mod Demands

@@ -1,0 +1,41 @@
+-- `probe_values` copies the start values, makes the workspace, and walks. Assumes nothing.
+use Rattle.heavy.proofs.Standing.{walk-room}
+use borrow.Author.Needs.{needs}
+use Rattle.heavy.proofs.full.probe_values.Statement.{statement}
+use Rattle.heavy.proofs.full.probe_values.Tie as tie
+
+copy-requires : tie.Need-copy-requires
+copy-requires c κs = search needs
+
+remember-requires : tie.Need-remember-requires
+remember-requires c κs = search needs
+
+walk-free-requires : tie.Need-walk-free-requires
+walk-free-requires c κs =
+    let at-remember = c .before .before .before .before .before .before .before .before .before in
+    let at-start = at-remember .before .before .before .before .before .before .before .before .before .before .before .before .before .before .before .before in
+    (at-remember .remember .ensures .1, (at-remember .remember .ensures .0, walk-room (at-start .pre .0) (search needs)))
+
+same-length : tie.Need-same-length
+same-length c = search needs
+
+same-length-2 : tie.Need-same-length-2
+same-length-2 c = search needs
+
+same-length-3 : tie.Need-same-length-3
+same-length-3 c = search needs
+
+returns : tie.Need-returns
+returns c = search needs
+
+pub probe-values-spec : {M : Type 1} → statement M
+probe-values-spec =
+    tie.close
+    (tie.spec
+    copy-requires
+    remember-requires
+    walk-free-requires
+    same-length
+    same-length-2
+    same-length-3
+    returns)

@@ -1,0 +1,77 @@
+-- `round` preprocesses, probes, and lays the probe values over. Assumes nothing.
+use Rattle.heavy.proofs.Going.{ready-probe, lay-room, round-is}
+use borrow.Author.Needs.{needs}
+use Rattle.heavy.proofs.round.Statement.{statement}
+use Rattle.heavy.proofs.round.Tie as tie
+
+add-at : tie.Need-add-at
+add-at c = search needs
+
+mul-at : tie.Need-mul-at
+mul-at c = search needs
+
+add-at-2 : tie.Need-add-at-2
+add-at-2 c = search needs
+
+add-at-3 : tie.Need-add-at-3
+add-at-3 c = search needs
+
+add-at-4 : tie.Need-add-at-4
+add-at-4 c = search needs
+
+add-at-5 : tie.Need-add-at-5
+add-at-5 c = search needs
+
+work-requires : tie.Need-work-requires
+work-requires c κs = search needs
+
+probe-values-requires : tie.Need-probe-values-requires
+probe-values-requires c κs =
+    let at-work = c .before .before .before .before .before .before .before .before .before .before in
+    let at-start = at-work .before .before .before .before .before .before .before .before .before .before .before .before in
+    (ready-probe (at-start .pre .0) (at-work .work .ensures) (search needs) (search needs), search needs)
+
+lay-requires : tie.Need-lay-requires
+lay-requires c κs =
+    let at-work = c .before .before .before .before .before .before .before .before .before .before .before .before .before .before .before .before .before .before .before in
+    let at-start = at-work .before .before .before .before .before .before .before .before .before .before .before .before in
+    lay-room (at-start .pre .0) (at-work .work .ensures) (search needs) (search needs)
+
+same-length : tie.Need-same-length
+same-length c = search needs
+
+same-length-2 : tie.Need-same-length-2
+same-length-2 c = search needs
+
+same-length-3 : tie.Need-same-length-3
+same-length-3 c = search needs
+
+same-length-4 : tie.Need-same-length-4
+same-length-4 c = search needs
+
+returns : tie.Need-returns
+returns c =
+    let at-lay = c .before .before in
+    let at-probe-values = at-lay .before .before .before .before .before .before .before .before .before in
+    let at-work = at-probe-values .before .before .before .before .before .before .before .before .before .before .before in
+    let at-start = at-work .before .before .before .before .before .before .before .before .before .before .before .before in
+    round-is (at-start .pre .0) (at-work .work .ensures) _ (search needs) (at-probe-values .probe-values .ensures) (at-lay .lay .ensures)
+
+pub round-spec : {M : Type 1} → statement M
+round-spec =
+    tie.close
+    (tie.spec
+    add-at
+    mul-at
+    add-at-2
+    add-at-3
+    add-at-4
+    add-at-5
+    work-requires
+    probe-values-requires
+    lay-requires
+    same-length
+    same-length-2
+    same-length-3
+    same-length-4
+    returns)

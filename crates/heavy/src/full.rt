@@ -1,0 +1,59 @@
+// The values of a full probe, left in the words.
+use crate::bytes::copy;
+use probes::listing::list_free;
+use probes::listing::set_none;
+use walking::walk_values;
+use workspace::remembering::remember;
+ghost use mathlib.Core.Path.{_≡_};
+ghost use Prim.Native.Nat.{_+_, _≤_};
+ghost use lib.ListN.{length};
+ghost use Rattle.scratch.specs.Lent.{before, after};
+ghost use Rattle.field.specs.Field.{lent, given, variables};
+ghost use Rattle.field.specs.Tests.{Ready};
+ghost use Rattle.probing.specs.Remembered.{Remembers};
+ghost use Rattle.walking.specs.Walk.{gatherAt, valuesLeft};
+ghost use Rattle.heavy.specs.Rounds.{probeValues};
+
+// Every free variable is a candidate, every probe value is 2 at first, and the candidates are walked.
+fn walk_free(
+    c: &[f64],
+    rows: &[u16],
+    cols: &[u16],
+    q: &[f64],
+    start: &[u8],
+    values: &mut [u8],
+    f: &mut [f64],
+    u: &mut [u32],
+    many: usize,
+)
+    requires { ⌜ Remembers (lent c rows cols q) (now start) (now f) (now u) many ⌝ }
+    requires { ⌜ now values ≡ now start ⌝ }
+    requires { ⌜ gatherAt (lent c rows cols q) + variables (lent c rows cols q) ≤ length (now u) ⌝ }
+    ensures { λ _. ⌜ valuesLeft (given c rows cols q) (after u) ≡ probeValues (given c rows cols q) (before start) ⌝ }
+{
+    let n = c.len();
+    let first = n + 1 + 2 * rows.len() + n + n;
+    let count = list_free(start, u, first + n + n);
+    set_none(u, first, n + n);
+    walk_values(c, rows, cols, q, start, values, f, u, many, count);
+}
+
+// Both probes of every free variable; the values, n bytes, are what they work in.
+pub fn probe_values(
+    c: &[f64],
+    rows: &[u16],
+    cols: &[u16],
+    q: &[f64],
+    start: &[u8],
+    values: &mut [u8],
+    f: &mut [f64],
+    u: &mut [u32],
+)
+    requires { ⌜ Ready (lent c rows cols q) (now start) (length (now f)) (length (now u)) ⌝ }
+    requires { ⌜ length (now values) ≡ variables (lent c rows cols q) ⌝ }
+    ensures { λ _. ⌜ valuesLeft (given c rows cols q) (after u) ≡ probeValues (given c rows cols q) (before start) ⌝ }
+{
+    copy(start, values);
+    let many = remember(c, rows, cols, q, start, values, f, u);
+    walk_free(c, rows, cols, q, start, values, f, u, many);
+}

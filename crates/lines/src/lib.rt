@@ -1,0 +1,296 @@
+// The words of an answer's line, in the order of docs/CASES.md, and which call has which.
+pub mod shifted;
+
+use stream::lists::all_bytes;
+use stream::lists::all_floats;
+use stream::lists::all_shorts;
+use stream::lists::all_words;
+use stream::lists::same_bytes;
+use stream::output::least;
+use stream::output::put;
+use stream::output::put_digits;
+use stream::output::put_list;
+use stream::output::put_number;
+use stream::output::put_promise;
+use stream::output::put_text;
+ghost use Prim.Native.Nat.{_+_, _≤_};
+ghost use lib.ListN.{length};
+ghost use Rattle.scratch.specs.Lent.{after};
+
+// The codes of the calls.
+pub const CLOSURE: u8 = 1;
+
+pub const COMPONENTS: u8 = 2;
+
+pub const PREPROCESS: u8 = 3;
+
+pub const HEAVY: u8 = 4;
+
+pub const SINGLE_PROBE: u8 = 5;
+
+pub const COLD_PROBE: u8 = 6;
+
+pub const PROBE: u8 = 7;
+
+pub const LIMITED_PROBE: u8 = 8;
+
+pub const PAIRS: u8 = 9;
+
+pub const PROPAGATION: u8 = 10;
+
+pub const ANCHORS: u8 = 11;
+
+pub const NO_EFFECT: u8 = 12;
+
+pub const SHIFT: u8 = 13;
+
+// The number of a call that is not here.
+pub const ABSENT: u32 = 11;
+
+// What lent slices hold before a call; none can be part of an answer.
+pub const FLOAT: f64 = 165.5;
+
+pub const WORD: u32 = 165;
+
+pub const BYTE: u8 = 165;
+
+pub const SHORT: u16 = 42_405;
+
+// What a call answered: the number, and on 0 the grade, the count of items and the count of pairs.
+pub struct Outcome {
+    pub number: u32,
+    pub is_exact: bool,
+    pub count: usize,
+    pub pairs: usize,
+}
+
+// 1 to 8 change nothing lent.
+fn is_early(number: u32) -> bool {
+    if number == 0 {
+        return false;
+    }
+    number < 9
+}
+
+// Whether the call is one of these, whose codes follow each other.
+fn is_among(code: u8, first: u8, last: u8) -> bool {
+    if code < first {
+        return false;
+    }
+    code <= last
+}
+
+// The number and, where there is a field, its grade.
+pub fn put_outcome(out: &mut [u8], used: usize, code: u8, outcome: Outcome) -> usize
+    ensures { λ r. ⌜ r ≤ length (after out) ⌝ }
+{
+    if outcome.number == ABSENT {
+        return put_text(out, used, b"absent");
+    }
+    let numbered = put_number(out, used, scratch::wide_word(outcome.number));
+    if outcome.number > 0 {
+        return numbered;
+    }
+    if code == PROPAGATION {
+        return numbered;
+    }
+    if outcome.is_exact {
+        return put_text(out, numbered, b" exact");
+    }
+    put_text(out, numbered, b" inexact")
+}
+
+fn has_values(code: u8) -> bool {
+    if code == PROPAGATION {
+        return true;
+    }
+    code <= HEAVY
+}
+
+// The start values, which stood in the contents from `at` on.
+pub fn put_values(
+    out: &mut [u8],
+    used: usize,
+    code: u8,
+    number: u32,
+    contents: &[u8],
+    at: usize,
+    start: &[u8],
+) -> usize
+    requires { ⌜ at + length (now start) ≤ length (now contents) ⌝ }
+    ensures { λ r. ⌜ r ≤ length (after out) ⌝ }
+{
+    if !has_values(code) {
+        return least(used, out.len());
+    }
+    let named = put_text(out, used, b" values=");
+    if number == 0 {
+        return put_digits(out, named, start);
+    }
+    let is_kept = same_bytes(contents, at, start);
+    put_promise(out, named, b"kept", is_kept)
+}
+
+pub fn put_pairs(out: &mut [u8], used: usize, code: u8, outcome: Outcome) -> usize
+    ensures { λ r. ⌜ r ≤ length (after out) ⌝ }
+{
+    if code != PAIRS {
+        return least(used, out.len());
+    }
+    if outcome.number > 0 {
+        return least(used, out.len());
+    }
+    let named = put_text(out, used, b" pairs=");
+    put_number(out, named, outcome.pairs)
+}
+
+// Where the last item of an answer list ends, as far as the list goes.
+fn end_of(count: usize, in_triples: bool, long: usize) -> usize
+    ensures { λ r. ⌜ r ≤ long ⌝ }
+{
+    if !in_triples {
+        return least(count, long);
+    }
+    if count > long / 3 {
+        return long;
+    }
+    3 * count
+}
+
+// An answer list that a refusal left.
+fn put_left(out: &mut [u8], used: usize, number: u32, list: &[u16]) -> usize
+    ensures { λ r. ⌜ r ≤ length (after out) ⌝ }
+{
+    if is_early(number) {
+        let is_kept = all_shorts(list, SHORT);
+        return put_promise(out, used, b"kept", is_kept);
+    }
+    let is_zeros = all_shorts(list, 0);
+    put_promise(out, used, b"zeros", is_zeros)
+}
+
+// The items of an answer list up to `end`, and what is past them.
+fn put_items(out: &mut [u8], used: usize, list: &[u16], end: usize, in_triples: bool) -> usize
+    requires { ⌜ end ≤ length (now list) ⌝ }
+    ensures { λ r. ⌜ r ≤ length (after out) ⌝ }
+{
+    let listed = put_list(out, used, &list[..end], in_triples);
+    let named = put_text(out, listed, b" past=");
+    let is_kept = all_shorts(&list[end..], SHORT);
+    put_promise(out, named, b"kept", is_kept)
+}
+
+// An answer list under its name.
+fn put_answer_list(
+    out: &mut [u8],
+    used: usize,
+    name: &[u8],
+    outcome: Outcome,
+    list: &[u16],
+    in_triples: bool,
+) -> usize
+    ensures { λ r. ⌜ r ≤ length (after out) ⌝ }
+{
+    if outcome.number > 0 {
+        let named = put_text(out, used, name);
+        return put_left(out, named, outcome.number, list);
+    }
+    let counting = put_text(out, used, b" count=");
+    let counted = put_number(out, counting, outcome.count);
+    let named = put_text(out, counted, name);
+    let end = end_of(outcome.count, in_triples, list.len());
+    put_items(out, named, list, end, in_triples)
+}
+
+pub fn put_constraints(
+    out: &mut [u8],
+    used: usize,
+    code: u8,
+    outcome: Outcome,
+    list: &[u16],
+) -> usize
+    ensures { λ r. ⌜ r ≤ length (after out) ⌝ }
+{
+    if !is_among(code, PROBE, PAIRS) {
+        return least(used, out.len());
+    }
+    put_answer_list(out, used, b" constraints=", outcome, list, true)
+}
+
+pub fn put_variables(out: &mut [u8], used: usize, code: u8, outcome: Outcome, list: &[u16]) -> usize
+    ensures { λ r. ⌜ r ≤ length (after out) ⌝ }
+{
+    if !is_among(code, ANCHORS, NO_EFFECT) {
+        return least(used, out.len());
+    }
+    put_answer_list(out, used, b" variables=", outcome, list, false)
+}
+
+// The found values.
+pub fn put_found(out: &mut [u8], used: usize, code: u8, number: u32, found: &[u8]) -> usize
+    ensures { λ r. ⌜ r ≤ length (after out) ⌝ }
+{
+    if !is_among(code, SINGLE_PROBE, LIMITED_PROBE) {
+        return least(used, out.len());
+    }
+    let named = put_text(out, used, b" found=");
+    if number == 0 {
+        return put_digits(out, named, found);
+    }
+    if number < 9 {
+        let is_kept = all_bytes(found, BYTE);
+        return put_promise(out, named, b"kept", is_kept);
+    }
+    let is_zeros = all_bytes(found, 0);
+    put_promise(out, named, b"zeros", is_zeros)
+}
+
+fn has_floats(code: u8) -> bool {
+    if code == PROPAGATION {
+        return false;
+    }
+    code < NO_EFFECT
+}
+
+fn put_floats(out: &mut [u8], used: usize, code: u8, number: u32, f: &[f64]) -> usize
+    ensures { λ r. ⌜ r ≤ length (after out) ⌝ }
+{
+    if !has_floats(code) {
+        return least(used, out.len());
+    }
+    let named = put_text(out, used, b" floats=");
+    if is_early(number) {
+        let is_kept = all_floats(f, FLOAT);
+        return put_promise(out, named, b"kept", is_kept);
+    }
+    let is_zeros = all_floats(f, 0.0);
+    put_promise(out, named, b"zeros", is_zeros)
+}
+
+fn put_words(out: &mut [u8], used: usize, number: u32, u: &[u32]) -> usize
+    ensures { λ r. ⌜ r ≤ length (after out) ⌝ }
+{
+    let named = put_text(out, used, b" words=");
+    if is_early(number) {
+        let is_kept = all_words(u, WORD);
+        return put_promise(out, named, b"kept", is_kept);
+    }
+    let is_zeros = all_words(u, 0);
+    put_promise(out, named, b"zeros", is_zeros)
+}
+
+// The scratch, and the line's end.
+pub fn put_scratch(
+    out: &mut [u8],
+    used: usize,
+    code: u8,
+    number: u32,
+    f: &[f64],
+    u: &[u32],
+) -> usize
+    ensures { λ r. ⌜ r ≤ length (after out) ⌝ }
+{
+    let floats = put_floats(out, used, code, number, f);
+    let words = put_words(out, floats, number, u);
+    put(out, words, b'\n')
+}

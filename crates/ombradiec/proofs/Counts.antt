@@ -1,0 +1,137 @@
+-- Every count that a call answers has room in its number. Assumes nothing.
+use Prim.Native.Nat.{ℕ, zero, suc, _≤_, _<_}
+use mathlib.Core.Path.{_≡_, refl, ap}
+use mathlib.Core.Bool.{Bool, true, false, cond}
+use mathlib.Core.List.{List, _∷_}
+use native.Mathlib.Omega.{arith}
+use lib.Dec.{leb}
+use lib.ListN.{length, length-append, length-take}
+use lib.Ieee.{Float}
+use Rattle.field.specs.declared.Checked.{Checked}
+use Rattle.field.specs.declared.Checked.the-variants.{Passed, Failed}
+use Rattle.field.specs.declared.Counted.{Counted}
+use Rattle.field.specs.declared.Refusal.{Refusal}
+use Rattle.field.specs.declared.Refusal.the-variants.{Room}
+use Rattle.field.specs.Field.{Field, variables, entries}
+use Rattle.field.specs.Table.{tested}
+use Rattle.field.specs.Tests.{looseTests, readyTests}
+use Rattle.field.proofs.Means.{loose-passes}
+use Rattle.no_effect.specs.Putting.{chosenFrom}
+use Rattle.no_effect.specs.Effect.{hasNoEffect, noEffect}
+use Rattle.no_effect.specs.Call as effectless
+use Rattle.no_effect.proofs.Laws.{word-passes}
+use Rattle.shift.specs.Closing.{closed, closedTo}
+use Rattle.shift.specs.Call as shifting
+use Rattle.shift.proofs.Turns.{kept-few}
+use Rattle.anchors.specs.Model.{newAt, anchorAt, anchorsTo, anchorsOf}
+use Rattle.anchors.specs.Call as anchoring
+use Rattle.anchors.proofs.Laws.{admitted-passes}
+use Rattle.anchors.proofs.Searching.{new-few}
+use Rattle.constraints.specs.Triple.{room}
+use Rattle.pairs.specs.declared.Paired.{Paired}
+use Rattle.pairs.specs.declared.Paired.the-variants.{Refused}
+use Rattle.pairs.specs.Listing.{examined, freePairs, allowed, found}
+use Rattle.pairs.specs.Call as pairing
+use Rattle.pairs.proofs.ListLaws.{few-found}
+use Rattle.packing.specs.Layout.{countOf, pairedCount, pairsExamined}
+
+-- ---- no_effect: at most n
+
+chosen-few : (p : ℕ → Bool) (i k : ℕ) → length (chosenFrom p i k) ≤ k
+unfolding chosenFrom
+chosen-few p i zero = omega arith
+chosen-few p i (suc k) = go (p i) (chosen-few p (suc i) k)
+  where
+    go : (b : Bool) → length (chosenFrom p (suc i) k) ≤ k → length (cond b (i ∷ chosenFrom p (suc i) k) (chosenFrom p (suc i) k)) ≤ suc k
+    go true h = omega (arith, h)
+    go false h = omega (arith, h)
+
+pub no-effect-fits : (F : Field) (l u : List ℕ) → countOf (effectless.noEffectCall F l u .answer) < 0x1000_0000
+unfolding effectless.noEffectCall effectless.leaves effectless.answered noEffect
+no-effect-fits F l u = go (tested (effectless.wordTests F (length u))) refl
+  where
+    put : (b : Bool) → variables F ≤ 4096 → countOf (effectless.answered b F l u .answer) < 0x1000_0000
+    put true few = omega (arith, few, chosen-few (hasNoEffect F) 0 (variables F))
+    put false few = omega arith
+
+    go : (x : Checked) → tested (effectless.wordTests F (length u)) ≡ x → countOf (effectless.leaves x F l u .answer) < 0x1000_0000
+    go Passed e = put (effectless.fits F l) (word-passes F (length u) .0 e .loose .shaped .few-variables)
+    go (Failed r) e = omega arith
+
+-- the answer of a call is the one in what it leaves
+pub no-effect-few : (F : Field) (l u : List ℕ) {a : Counted} {l′ u′ : List ℕ} → effectless.left a l′ u′ ≡ effectless.noEffectCall F l u → countOf a < 0x1000_0000
+no-effect-few F l u e = omega (arith, no-effect-fits F l u, ap (λ (x : effectless.Left). countOf (x .answer)) e)
+
+-- ---- shift: at most m
+
+pub shift-fits : (F : Field) → countOf (shifting.shiftCall F .answer) < 0x1000_0000
+unfolding shifting.shiftCall shifting.leaves closed closedTo
+shift-fits F = go (tested (looseTests F)) refl
+  where
+    go : (x : Checked) → tested (looseTests F) ≡ x → countOf (shifting.leaves x F .answer) < 0x1000_0000
+    go Passed e = omega (arith, kept-few F (entries F), loose-passes F .0 e .shaped .few-entries)
+    go (Failed r) e = omega arith
+
+pub shift-few : (F : Field) {a : Counted} {G : Field} → shifting.left a G ≡ shifting.shiftCall F → countOf a < 0x1000_0000
+shift-few F e = omega (arith, shift-fits F, ap (λ (x : shifting.Left). countOf (x .answer)) e)
+
+-- ---- anchors: at most one from each start
+
+anchors-within : (F : Field) (s : List ℕ) (least i : ℕ) → length (anchorsTo F s least i .anchors) ≤ i
+unfolding anchorsTo anchorAt
+anchors-within F s least zero = omega arith
+anchors-within F s least (suc i) =
+    let p = anchorsTo F s least i in
+    omega (arith, anchors-within F s least i, length-append (p .anchors) (newAt F s least (p .marks) i), new-few F s least (p .marks) i)
+
+module _ (F : Field) (s : List ℕ) (least : ℕ) (list : List ℕ) (f : List Float) (u : List ℕ) where
+  pub anchors-fit : countOf (anchoring.anchorsCall F s least list f u .answer) < 0x1000_0000
+  unfolding anchoring.anchorsCall anchoring.leaves anchoring.listed anchorsOf
+  anchors-fit = go (tested (anchoring.anchorTests F s (length f) (length u))) refl
+    where
+      put : (b : Bool) → variables F ≤ 4096 → countOf (anchoring.listed b F (anchorsOf F s least) list f u .answer) < 0x1000_0000
+      put true few = omega (arith, few, anchors-within F s least (variables F))
+      put false few = omega arith
+
+      go : (x : Checked) → tested (anchoring.anchorTests F s (length f) (length u)) ≡ x → countOf (anchoring.leaves x F s least list f u .answer) < 0x1000_0000
+      go Passed e = put (leb (length (anchorsOf F s least)) (length list)) (admitted-passes F s (length f) (length u) .0 e .shaped .few-variables)
+      go (Failed r) e = omega arith
+
+  pub anchors-few : {a : Counted} {l′ : List ℕ} {f′ : List Float} {u′ : List ℕ} → anchoring.left a l′ f′ u′ ≡ anchoring.anchorsCall F s least list f u → countOf a < 0x1000_0000
+  anchors-few e = omega (arith, anchors-fit, ap (λ (x : anchoring.Left). countOf (x .answer)) e)
+
+-- ---- pairs: at most 250,000, and two constraints of each
+
+examined-few : (limit : ℕ) (s : List ℕ) → length (examined limit s) ≤ 250000
+examined-few limit s = omega (arith, length-take (allowed limit) (freePairs s))
+
+found-few : (F : Field) (s : List ℕ) (limit : ℕ) → length (found F s limit) ≤ 500000
+unfolding found
+found-few F s limit = omega (arith, few-found F s (examined limit s), examined-few limit s)
+
+-- both counts of an answer have room
+pub record Few (a : Paired) : Type 0 where
+  pub count : pairedCount a < 0x1000_0000
+  pub pairs : pairsExamined a < 0x10_0000
+
+module _ (F : Field) (s : List ℕ) (limit : ℕ) (l : List ℕ) (f : List Float) (u : List ℕ) where
+  pub pairs-fit : Few (pairing.pairsCall F s limit l f u .answer)
+  unfolding pairing.pairsCall pairing.leaves pairing.answered
+  pairs-fit = go (tested (readyTests F s (length f) (length u)))
+    where
+      either : (b : Bool) (x y : pairing.Left) → Few (x .answer) → Few (y .answer) → Few (cond b x y .answer)
+      either true x y p q = p
+      either false x y p q = q
+
+      refused : (r : Refusal) → Few (Refused r)
+      refused r = record { count = omega arith; pairs = omega arith }
+
+      go : (x : Checked) → Few (pairing.leaves x F s limit l f u .answer)
+      go Passed = either (leb (length (found F s limit)) (room l)) _ _ record { count = omega (arith, found-few F s limit); pairs = omega (arith, examined-few limit s) } (refused Room)
+      go (Failed r) = refused r
+
+  pub pairs-few : {a : Paired} {l′ : List ℕ} {f′ : List Float} {u′ : List ℕ} → pairing.left a l′ f′ u′ ≡ pairing.pairsCall F s limit l f u → Few a
+  pairs-few e = record {
+    count = omega (arith, pairs-fit .count, ap (λ (x : pairing.Left). pairedCount (x .answer)) e);
+    pairs = omega (arith, pairs-fit .pairs, ap (λ (x : pairing.Left). pairsExamined (x .answer)) e);
+  }

@@ -1,0 +1,115 @@
+-- What probes count has room in its number: at most n constraints of each of at most n candidates. Assumes nothing.
+use Prim.Native.Nat.{ℕ, zero, suc, _+_, _*_, _≤_, _<_}
+use mathlib.Core.Path.{_≡_, refl, ap}
+use mathlib.Core.Bool.{Bool, true, false, cond}
+use mathlib.Core.List.{List, [], _∷_, _++_}
+use native.Mathlib.Nat.{suc-mul, mul-comm, mul-le-mul-right}
+use native.Mathlib.Omega.{arith}
+use lib.Dec.{eqb}
+use lib.ListN.{length, getD, take, length-append, length-take}
+use lib.Ieee.{Float}
+use Rattle.constraints.specs.Triple.{Triple}
+use Rattle.field.specs.declared.Checked.{Checked}
+use Rattle.field.specs.declared.Checked.the-variants.{Passed, Failed}
+use Rattle.field.specs.declared.Counted.{Counted}
+use Rattle.field.specs.Field.{Field, variables}
+use Rattle.field.specs.Table.{tested}
+use Rattle.field.specs.Tests.{readyTests}
+use Rattle.field.proofs.Means.{ready-passes}
+use Rattle.probe.specs.Found.{Finding, nothing, value, constraint}
+use Rattle.sorting.proofs.Numbers.{set-length}
+use Rattle.ranking.specs.Ranking.{freeIn, insert, ordered, freeBelow, ranks, ahead, massOf}
+use Rattle.twin.specs.Finds.{added, finding, constraintsTo, constraintsOf}
+use Rattle.probes.specs.Call.{freeTo, allConstraints, Left, left, fits, given, leaves, candidatesCall, probeCall, probeLimitedCall}
+use Rattle.packing.specs.Layout.{countOf}
+
+-- ---- the constraints of some candidates
+
+added-few : (x : Finding) (l : List Triple) → length (added x l) ≤ suc (length l)
+unfolding added
+added-few nothing l = omega arith
+added-few (value w) l = omega arith
+added-few (constraint c) l = omega arith
+
+of-one : (g : ℕ → Finding) (l : List Triple) (k : ℕ) → length (constraintsTo g l k) ≤ length l + k
+unfolding constraintsTo
+of-one g l zero = omega arith
+of-one g l (suc k) = omega (arith, of-one g l k, added-few (g k) (constraintsTo g l k))
+
+of-all : (F : Field) (s cands : List ℕ) (k : ℕ) → length (constraintsOf F s cands k) ≤ k * variables F
+unfolding constraintsOf
+of-all F s cands zero = omega arith
+of-all F s cands (suc k) =
+    omega (arith, of-all F s cands k, of-one (finding F s (getD cands k 0)) (constraintsOf F s cands k) (variables F), suc-mul k (variables F))
+
+few-by-few : (k n : ℕ) → k ≤ n → n ≤ 4096 → k * n ≤ 16777216
+few-by-few k n a b =
+    omega (arith, mul-le-mul-right {m = k} {n = 4096} n (omega arith), mul-le-mul-right {m = n} {n = 4096} 4096 (omega arith), mul-comm 4096 n)
+
+-- ---- the candidates
+
+one-more : (l : List ℕ) (n : ℕ) (b : Bool) → length l ≤ n → length (l ++ cond b (n ∷ []) []) ≤ suc n
+one-more l n true h = omega (arith, h, length-append l (n ∷ []))
+one-more l n false h = omega (arith, h, length-append l [])
+
+free-few : (s : List ℕ) (n : ℕ) → length (freeTo s n) ≤ n
+unfolding freeTo
+free-few s zero = omega arith
+free-few s (suc n) = one-more (freeTo s n) n (eqb (getD s n 0) 2) (free-few s n)
+
+below-few : (s : List ℕ) (n : ℕ) → length (freeBelow s n) ≤ n
+unfolding freeBelow
+below-few s zero = omega arith
+below-few s (suc n) = one-more (freeBelow s n) n (freeIn s n) (below-few s n)
+
+module _ (first : ℕ → ℕ → Bool) where
+  insert-length : (x : ℕ) (l : List ℕ) → length (insert first x l) ≡ suc (length l)
+  unfolding insert
+  insert-length x [] = refl
+  insert-length x (y ∷ l) = go (first y x) (insert-length x l)
+    where
+      go : (b : Bool) → length (insert first x l) ≡ suc (length l) → length (cond b (y ∷ insert first x l) (x ∷ y ∷ l)) ≡ suc (suc (length l))
+      go true h = ap suc h
+      go false h = refl
+
+  ordered-length : (l : List ℕ) → length (ordered first l) ≡ length l
+  unfolding ordered
+  ordered-length [] = refl
+  ordered-length (x ∷ l) = omega (arith, insert-length x (ordered first l), ordered-length l)
+
+ranks-few : (F : Field) (s : List ℕ) (limit : ℕ) → length (take limit (ranks F s)) ≤ variables F
+unfolding ranks
+ranks-few F s limit =
+    omega (arith, length-take limit (ranks F s), ordered-length (ahead (massOf F s)) (freeBelow s (variables F)), below-few s (variables F))
+
+-- ---- the calls
+
+module _ (F : Field) (s cands t k : List ℕ) (f : List Float) (u : List ℕ) (few : length cands ≤ variables F) where
+  candidates-fit : countOf (candidatesCall F s cands t k f u .answer) < 0x1000_0000
+  unfolding candidatesCall leaves given allConstraints
+  candidates-fit = go (tested (readyTests F s (length f) (length u))) refl
+    where
+      put : (b : Bool) → variables F ≤ 4096 → countOf (given b F s cands t k f u .answer) < 0x1000_0000
+      put true small =
+          omega (arith, set-length (constraintsOf F s cands (length cands)), of-all F s cands (length cands), few-by-few (length cands) (variables F) few small)
+      put false small = omega arith
+
+      go : (x : Checked) → tested (readyTests F s (length f) (length u)) ≡ x → countOf (leaves x F s cands t k f u .answer) < 0x1000_0000
+      go Passed e = put (fits F s cands t k) (ready-passes F s (length f) (length u) .0 e .sound .shaped .few-variables)
+      go (Failed r) e = omega arith
+
+module _ (F : Field) (s t k : List ℕ) (f : List Float) (u : List ℕ) where
+  pub probe-fits : countOf (probeCall F s t k f u .answer) < 0x1000_0000
+  unfolding probeCall
+  probe-fits = candidates-fit F s (freeTo s (variables F)) t k f u (free-few s (variables F))
+
+  pub probe-limited-fits : (limit : ℕ) → countOf (probeLimitedCall F s limit t k f u .answer) < 0x1000_0000
+  unfolding probeLimitedCall
+  probe-limited-fits limit = candidates-fit F s (take limit (ranks F s)) t k f u (ranks-few F s limit)
+
+  module _ {a : Counted} {t′ k′ : List ℕ} {f′ : List Float} {u′ : List ℕ} where
+    pub probe-few : left a t′ k′ f′ u′ ≡ probeCall F s t k f u → countOf a < 0x1000_0000
+    probe-few e = omega (arith, probe-fits, ap (λ (x : Left). countOf (x .answer)) e)
+
+    pub probe-limited-few : (limit : ℕ) → left a t′ k′ f′ u′ ≡ probeLimitedCall F s limit t k f u → countOf a < 0x1000_0000
+    probe-limited-few limit e = omega (arith, probe-limited-fits limit, ap (λ (x : Left). countOf (x .answer)) e)

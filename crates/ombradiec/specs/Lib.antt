@@ -1,0 +1,2 @@
+-- What an exported call promises. Assumes nothing.
+pub mod Exported

@@ -1,0 +1,224 @@
+// The public calls for programs in C and Rust: each exported function is the call of its crate, and answers with one number.
+use packing::pack_answer;
+use packing::pack_checked;
+use packing::pack_counted;
+use packing::pack_paired;
+ghost use Rattle.scratch.specs.Lent.{before, after};
+ghost use Rattle.field.specs.Field.{given};
+ghost use Rattle.closure.specs.Call as closing;
+ghost use Rattle.components.specs.Call as components;
+ghost use Rattle.preprocess.specs.Call as preprocess;
+ghost use Rattle.heavy.specs.Call as heavy;
+ghost use Rattle.no_effect.specs.Call as effectless;
+ghost use Rattle.shift.specs.Closing.{leftBehind};
+ghost use Rattle.shift.specs.Call as shifting;
+ghost use Rattle.anchors.specs.Call as anchoring;
+ghost use Rattle.pairs.specs.Call as pairing;
+ghost use Rattle.probe.specs.Call as probing;
+ghost use Rattle.probes.specs.Call as searching;
+ghost use Rattle.propagation.specs.Call as propagating;
+ghost use Rattle.packing.specs.Layout.{packedChecked, packedAnswer, packedCounted, packedPaired};
+ghost use Rattle.ombradiec.specs.Exported.{Exported};
+
+// The gradient closure.
+#[no_mangle]
+pub extern "C" fn ombradiec_closure(
+    c: &[f64],
+    rows: &[u16],
+    cols: &[u16],
+    q: &[f64],
+    start: &mut [u8],
+    f: &mut [f64],
+    u: &mut [u32],
+) -> u64
+    ensures { λ r. ⌜ Exported packedAnswer (λ a. closing.left a (after start) (after f) (after u)) r (closing.closureCall (given c rows cols q) (before start) (before f) (before u)) ⌝ }
+{
+    pack_answer(closure::closure(c, rows, cols, q, start, f, u))
+}
+
+// The values of all small components.
+#[no_mangle]
+pub extern "C" fn ombradiec_components(
+    c: &[f64],
+    rows: &[u16],
+    cols: &[u16],
+    q: &[f64],
+    start: &mut [u8],
+    f: &mut [f64],
+    u: &mut [u32],
+) -> u64
+    ensures { λ r. ⌜ Exported packedAnswer (λ a. closing.left a (after start) (after f) (after u)) r (components.componentsCall (given c rows cols q) (before start) (before f) (before u)) ⌝ }
+{
+    pack_answer(components::components(c, rows, cols, q, start, f, u))
+}
+
+// The closure, the small components and the variables of no effect.
+#[no_mangle]
+pub extern "C" fn ombradiec_preprocess(
+    c: &[f64],
+    rows: &[u16],
+    cols: &[u16],
+    q: &[f64],
+    start: &mut [u8],
+    f: &mut [f64],
+    u: &mut [u32],
+) -> u64
+    ensures { λ r. ⌜ Exported packedAnswer (λ a. closing.left a (after start) (after f) (after u)) r (preprocess.preprocessCall (given c rows cols q) (before start) (before f) (before u)) ⌝ }
+{
+    pack_answer(preprocess::preprocess(c, rows, cols, q, start, f, u))
+}
+
+// Preprocess and probes, round after round.
+#[no_mangle]
+pub extern "C" fn ombradiec_heavy(
+    c: &[f64],
+    rows: &[u16],
+    cols: &[u16],
+    q: &[f64],
+    start: &mut [u8],
+    f: &mut [f64],
+    u: &mut [u32],
+) -> u64
+    ensures { λ r. ⌜ Exported packedAnswer (λ a. closing.left a (after start) (after f) (after u)) r (heavy.heavyCall (given c rows cols q) (before start) (before f) (before u)) ⌝ }
+{
+    pack_answer(heavy::heavy(c, rows, cols, q, start, f, u))
+}
+
+// The variables of no effect.
+#[no_mangle]
+pub extern "C" fn ombradiec_no_effect(
+    c: &[f64],
+    rows: &[u16],
+    cols: &[u16],
+    q: &[f64],
+    list: &mut [u16],
+    u: &mut [u32],
+) -> u64
+    ensures { λ r. ⌜ Exported packedCounted (λ a. effectless.left a (after list) (after u)) r (effectless.noEffectCall (given c rows cols q) (before list) (before u)) ⌝ }
+{
+    pack_counted(no_effect::no_effect(c, rows, cols, q, list, u))
+}
+
+// The diagonal into the linear weights.
+#[no_mangle]
+pub extern "C" fn ombradiec_shift(
+    c: &mut [f64],
+    rows: &mut [u16],
+    cols: &mut [u16],
+    q: &mut [f64],
+) -> u64
+    ensures { λ r. ⌜ Exported packedCounted (λ a. shifting.left a (leftBehind c rows cols q)) r (shifting.shiftCall (given c rows cols q)) ⌝ }
+{
+    pack_counted(shift::shift(c, rows, cols, q))
+}
+
+// The anchors of components of at least `least` variables.
+#[no_mangle]
+pub extern "C" fn ombradiec_anchors(
+    c: &[f64],
+    rows: &[u16],
+    cols: &[u16],
+    q: &[f64],
+    start: &[u8],
+    least: usize,
+    list: &mut [u16],
+    f: &mut [f64],
+    u: &mut [u32],
+) -> u64
+    ensures { λ r. ⌜ Exported packedCounted (λ a. anchoring.left a (after list) (after f) (after u)) r (anchoring.anchorsCall (given c rows cols q) (before start) least (before list) (before f) (before u)) ⌝ }
+{
+    pack_counted(anchors::anchors(c, rows, cols, q, start, least, list, f, u))
+}
+
+// The constraints of the first `limit` free pairs.
+#[no_mangle]
+pub extern "C" fn ombradiec_pairs(
+    c: &[f64],
+    rows: &[u16],
+    cols: &[u16],
+    q: &[f64],
+    start: &[u8],
+    limit: usize,
+    constraints: &mut [u16],
+    f: &mut [f64],
+    u: &mut [u32],
+) -> u64
+    ensures { λ r. ⌜ Exported packedPaired (λ a. pairing.left a (after constraints) (after f) (after u)) r (pairing.pairsCall (given c rows cols q) (before start) limit (before constraints) (before f) (before u)) ⌝ }
+{
+    pack_paired(pairs::pairs(c, rows, cols, q, start, limit, constraints, f, u))
+}
+
+// What one value forces.
+#[no_mangle]
+pub extern "C" fn ombradiec_probe_one(
+    c: &[f64],
+    rows: &[u16],
+    cols: &[u16],
+    q: &[f64],
+    start: &[u8],
+    variable: usize,
+    value: u8,
+    values: &mut [u8],
+    f: &mut [f64],
+    u: &mut [u32],
+) -> u64
+    ensures { λ r. ⌜ Exported packedAnswer (λ a. probing.left a (after values) (after f) (after u)) r (probing.probeOneCall (given c rows cols q) (before start) variable value (before values) (before f) (before u)) ⌝ }
+{
+    pack_answer(probe::probe_one(c, rows, cols, q, start, variable, value, values, f, u))
+}
+
+// What both probes of every free variable find.
+#[no_mangle]
+pub extern "C" fn ombradiec_probe(
+    c: &[f64],
+    rows: &[u16],
+    cols: &[u16],
+    q: &[f64],
+    start: &[u8],
+    values: &mut [u8],
+    constraints: &mut [u16],
+    f: &mut [f64],
+    u: &mut [u32],
+) -> u64
+    ensures { λ r. ⌜ Exported packedCounted (λ a. searching.left a (after values) (after constraints) (after f) (after u)) r (searching.probeCall (given c rows cols q) (before start) (before values) (before constraints) (before f) (before u)) ⌝ }
+{
+    pack_counted(probes::probe(c, rows, cols, q, start, values, constraints, f, u))
+}
+
+// The same of up to `candidates` free variables, those of the greatest edge mass.
+#[no_mangle]
+pub extern "C" fn ombradiec_probe_limited(
+    c: &[f64],
+    rows: &[u16],
+    cols: &[u16],
+    q: &[f64],
+    start: &[u8],
+    candidates: usize,
+    values: &mut [u8],
+    constraints: &mut [u16],
+    f: &mut [f64],
+    u: &mut [u32],
+) -> u64
+    ensures { λ r. ⌜ Exported packedCounted (λ a. searching.left a (after values) (after constraints) (after f) (after u)) r (searching.probeLimitedCall (given c rows cols q) (before start) candidates (before values) (before constraints) (before f) (before u)) ⌝ }
+{
+    pack_counted(probes::probe_limited(
+        c,
+        rows,
+        cols,
+        q,
+        start,
+        candidates,
+        values,
+        constraints,
+        f,
+        u,
+    ))
+}
+
+// What constraints imply.
+#[no_mangle]
+pub extern "C" fn ombradiec_propagate(start: &mut [u8], constraints: &[u16], u: &mut [u32]) -> u64
+    ensures { λ r. ⌜ Exported packedChecked (λ a. propagating.left a (after start) (after u)) r (propagating.propagateCall (before start) (before constraints) (before u)) ⌝ }
+{
+    pack_checked(propagation::propagate(start, constraints, u))
+}

@@ -1,0 +1,66 @@
+-- Refusal, grade and counts are read back from the number of an answer. Assumes nothing.
+use Prim.Native.Nat.{ℕ, _≤_, _<_}
+use native.Mathlib.Omega.{arith}
+use Rattle.field.specs.declared.Grade.{Grade}
+use Rattle.field.specs.declared.Grade.the-variants.{Exact, Inexact}
+use Rattle.field.specs.declared.Refusal.{Refusal}
+use Rattle.field.specs.declared.Refusal.the-variants.{Variables, Lists, Order, Diagonal, Weights, Start, Argument, Scratch, Room, Clash}
+use Rattle.field.specs.declared.Checked.{Checked}
+use Rattle.field.specs.declared.Checked.the-variants.{Passed, Failed}
+use Rattle.field.specs.declared.Answer.{Answer}
+use Rattle.field.specs.declared.Answer.the-variants.{Done, Refused}
+use Rattle.field.specs.declared.Counted.{Counted}
+use Rattle.field.specs.declared.Counted.the-variants.{Counts, Refuses}
+use Rattle.pairs.specs.declared.Paired.{Paired}
+use Rattle.pairs.specs.declared.Paired.the-variants as pairs
+use Rattle.pairs.specs.Call.{pairedNumber}
+use Rattle.field.specs.Answers.{numberOf, checkedNumber, answerNumber, countedNumber}
+use Rattle.packing.specs.Layout.{packed, Reads, gradeNumber, packedChecked, packedAnswer, packedCounted, answerGrade, countedGrade, countOf, packedPaired, pairedGrade, pairedCount, pairsExamined}
+
+pub layout-reads : (refusal grade count pairs : ℕ) → refusal < 0x100 → grade < 0x100 → count < 0x1000_0000
+    → Reads (packed refusal grade count pairs) refusal grade count pairs
+layout-reads refusal grade count pairs a b c = record {
+  refusal-read = omega arith;
+  grade-read = omega arith;
+  count-read = omega arith;
+  pairs-read = omega arith;
+}
+
+pub grade-small : (g : Grade) → gradeNumber g ≤ 1
+grade-small Exact = omega arith
+grade-small Inexact = omega arith
+
+pub refusal-small : (r : Refusal) → numberOf r ≤ 10
+refusal-small Variables = omega arith
+refusal-small Lists = omega arith
+refusal-small Order = omega arith
+refusal-small Diagonal = omega arith
+refusal-small Weights = omega arith
+refusal-small Start = omega arith
+refusal-small Argument = omega arith
+refusal-small Scratch = omega arith
+refusal-small Room = omega arith
+refusal-small Clash = omega arith
+
+-- done, with the grade and both counts
+done-reads : (g : Grade) (count pairs : ℕ) → count < 0x1000_0000 → Reads (packed 0 (gradeNumber g) count pairs) 0 (gradeNumber g) count pairs
+done-reads g count pairs few = layout-reads 0 (gradeNumber g) count pairs (omega arith) (omega (arith, grade-small g)) few
+
+refusal-reads : (r : Refusal) → Reads (packed (numberOf r) 0 0 0) (numberOf r) 0 0 0
+refusal-reads r = layout-reads (numberOf r) 0 0 0 (omega (arith, refusal-small r)) (omega arith) (omega arith)
+
+pub checked-reads : (a : Checked) → Reads (packedChecked a) (checkedNumber a) 0 0 0
+checked-reads Passed = layout-reads 0 0 0 0 (omega arith) (omega arith) (omega arith)
+checked-reads (Failed r) = refusal-reads r
+
+pub answer-reads : (a : Answer) → Reads (packedAnswer a) (answerNumber a) (answerGrade a) 0 0
+answer-reads (Done g) = done-reads g 0 0 (omega arith)
+answer-reads (Refused r) = refusal-reads r
+
+pub counted-reads : (a : Counted) → countOf a < 0x1000_0000 → Reads (packedCounted a) (countedNumber a) (countedGrade a) (countOf a) 0
+counted-reads (Counts g k) few = done-reads g k 0 few
+counted-reads (Refuses r) few = refusal-reads r
+
+pub paired-reads : (a : Paired) → pairedCount a < 0x1000_0000 → Reads (packedPaired a) (pairedNumber a) (pairedGrade a) (pairedCount a) (pairsExamined a)
+paired-reads (pairs.Done g k p) few = done-reads g k p few
+paired-reads (pairs.Refused r) few = refusal-reads r

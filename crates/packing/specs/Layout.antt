@@ -1,0 +1,72 @@
+-- The one number that an exported call answers, and how each part of the answer is read from it. Assumes nothing.
+use Prim.Native.Nat.{ℕ, _+_, _*_, _/_, _%_}
+use mathlib.Core.Path.{_≡_}
+use Rattle.field.specs.declared.Grade.{Grade}
+use Rattle.field.specs.declared.Grade.the-variants.{Exact, Inexact}
+use Rattle.field.specs.declared.Checked.{Checked}
+use Rattle.field.specs.declared.Answer.{Answer}
+use Rattle.field.specs.declared.Answer.the-variants.{Done, Refused}
+use Rattle.field.specs.declared.Counted.{Counted}
+use Rattle.field.specs.declared.Counted.the-variants.{Counts, Refuses}
+use Rattle.pairs.specs.declared.Paired.{Paired}
+use Rattle.pairs.specs.declared.Paired.the-variants as pairs
+use Rattle.pairs.specs.Call.{pairedNumber}
+use Rattle.field.specs.Answers.{checkedNumber, answerNumber, countedNumber}
+
+-- ---- the layout
+
+-- the refusal in bits 0 to 7, the grade in 8 to 15, the count in 16 to 43, the pairs examined in 44 to 63
+abbrev pub packed : ℕ → ℕ → ℕ → ℕ → ℕ
+packed refusal grade count pairs = refusal + 0x100 * grade + 0x1_0000 * count + 0x1000_0000_0000 * pairs
+
+-- a number from which each part is read back
+pub record Reads (r refusal grade count pairs : ℕ) : Type 0 where
+  pub refusal-read : r % 0x100 ≡ refusal
+  pub grade-read : r / 0x100 % 0x100 ≡ grade
+  pub count-read : r / 0x1_0000 % 0x1000_0000 ≡ count
+  pub pairs-read : r / 0x1000_0000_0000 ≡ pairs
+
+-- ---- the parts of each answer: a refusal has neither a grade nor counts
+
+-- 0 inexact, 1 exact
+abbrev pub gradeNumber : Grade → ℕ
+gradeNumber Inexact = 0
+gradeNumber Exact = 1
+
+abbrev pub answerGrade : Answer → ℕ
+answerGrade (Done g) = gradeNumber g
+answerGrade (Refused r) = 0
+
+abbrev pub countedGrade : Counted → ℕ
+countedGrade (Counts g k) = gradeNumber g
+countedGrade (Refuses r) = 0
+
+abbrev pub countOf : Counted → ℕ
+countOf (Counts g k) = k
+countOf (Refuses r) = 0
+
+abbrev pub pairedGrade : Paired → ℕ
+pairedGrade (pairs.Done g k p) = gradeNumber g
+pairedGrade (pairs.Refused r) = 0
+
+abbrev pub pairedCount : Paired → ℕ
+pairedCount (pairs.Done g k p) = k
+pairedCount (pairs.Refused r) = 0
+
+abbrev pub pairsExamined : Paired → ℕ
+pairsExamined (pairs.Done g k p) = p
+pairsExamined (pairs.Refused r) = 0
+
+-- ---- the number of each answer
+
+abbrev pub packedChecked : Checked → ℕ
+packedChecked a = packed (checkedNumber a) 0 0 0
+
+abbrev pub packedAnswer : Answer → ℕ
+packedAnswer a = packed (answerNumber a) (answerGrade a) 0 0
+
+abbrev pub packedCounted : Counted → ℕ
+packedCounted a = packed (countedNumber a) (countedGrade a) (countOf a) 0
+
+abbrev pub packedPaired : Paired → ℕ
+packedPaired a = packed (pairedNumber a) (pairedGrade a) (pairedCount a) (pairsExamined a)

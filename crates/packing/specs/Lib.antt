@@ -1,0 +1,2 @@
+-- The layout of an answer as one number. Assumes nothing.
+pub mod Layout

@@ -1,0 +1,75 @@
+// An answer as one number, for programs in C and Rust.
+use field::Answer;
+use field::Checked;
+use field::Counted;
+use field::Grade;
+use field::Refusal;
+use pairs::Paired;
+ghost use mathlib.Core.Path.{_≡_};
+ghost use Prim.Native.Nat.{_<_};
+ghost use Rattle.field.specs.Answers.{numberOf};
+ghost use Rattle.packing.specs.Layout.{packed, gradeNumber, packedChecked, packedAnswer, packedCounted, countOf, packedPaired, pairedCount, pairsExamined};
+
+fn grade_number(grade: Grade) -> u64
+    ensures { λ r. ⌜ r ≡ gradeNumber grade ⌝ }
+{
+    match grade {
+        Grade::Inexact => 0,
+        Grade::Exact => 1,
+    }
+}
+
+// Done, with the grade and both counts.
+fn pack_done(grade: Grade, count: usize, pairs: usize) -> u64
+    requires { ⌜ count < 0x1000_0000 ⌝ }
+    requires { ⌜ pairs < 0x10_0000 ⌝ }
+    ensures { λ r. ⌜ r ≡ packed 0 (gradeNumber grade) count pairs ⌝ }
+{
+    0x100 * grade_number(grade) + 0x1_0000 * (count as u64) + 0x1000_0000_0000 * (pairs as u64)
+}
+
+// A refusal has neither a grade nor a count.
+fn pack_refusal(refusal: Refusal) -> u64
+    ensures { λ r. ⌜ r ≡ packed (numberOf refusal) 0 0 0 ⌝ }
+{
+    refusal.number() as u64
+}
+
+pub fn pack_checked(answer: Checked) -> u64
+    ensures { λ r. ⌜ r ≡ packedChecked answer ⌝ }
+{
+    match answer {
+        Checked::Passed => 0,
+        Checked::Failed(refusal) => pack_refusal(refusal),
+    }
+}
+
+pub fn pack_answer(answer: Answer) -> u64
+    ensures { λ r. ⌜ r ≡ packedAnswer answer ⌝ }
+{
+    match answer {
+        Answer::Done(grade) => pack_done(grade, 0, 0),
+        Answer::Refused(refusal) => pack_refusal(refusal),
+    }
+}
+
+pub fn pack_counted(answer: Counted) -> u64
+    requires { ⌜ countOf answer < 0x1000_0000 ⌝ }
+    ensures { λ r. ⌜ r ≡ packedCounted answer ⌝ }
+{
+    match answer {
+        Counted::Counts(grade, count) => pack_done(grade, count, 0),
+        Counted::Refuses(refusal) => pack_refusal(refusal),
+    }
+}
+
+pub fn pack_paired(answer: Paired) -> u64
+    requires { ⌜ pairedCount answer < 0x1000_0000 ⌝ }
+    requires { ⌜ pairsExamined answer < 0x10_0000 ⌝ }
+    ensures { λ r. ⌜ r ≡ packedPaired answer ⌝ }
+{
+    match answer {
+        Paired::Done(grade, count, pairs) => pack_done(grade, count, pairs),
+        Paired::Refused(refusal) => pack_refusal(refusal),
+    }
+}

@@ -1,0 +1,188 @@
+-- The candidates in their place: every free variable, or the first of the ranks. Assumes nothing.
+use Prim.Native.Nat.{ℕ, zero, suc, _+_, _-_, _<_, _≤_}
+use mathlib.Core.Path.{_≡_, refl, sym, ap, _∙_}
+use mathlib.Core.Bool.{Bool, true, false, cond}
+use mathlib.Core.List.{List, [], _∷_}
+use native.Mathlib.Omega.{arith}
+use borrow.Author.Tests.{eqb-true}
+use borrow.Rule.Slice.PartMut.{putMid, midOf, mid-len, same-len-mid, take-put}
+use lib.Dec.{eqb}
+use lib.Ieee.{Float, nan}
+use lib.ListN.{length, getD, take, drop, length-append}
+use lib.Seq.{ext-getD, take-take, take-all, getD-take, getD-drop, length-take-le}
+use Rattle.scratch.specs.Region.{region}
+use Rattle.scratch.proofs.Region.{length-region, region-at}
+use Rattle.field.specs.Field.{Field, variables}
+use Rattle.field.specs.Tests.{Ready}
+use Rattle.rows.specs.Stored.{rowOn}
+use Rattle.run.proofs.Cells.{placed-start}
+use Rattle.probing.specs.Remembered.{Remembers}
+use Rattle.twin.specs.Twin.{firstAt}
+use Rattle.twin.proofs.Framed.{remembers-front}
+use Rattle.walking.specs.Walk.{candidatesAt, gatherAt}
+use Rattle.ranking.specs.Ranking.{freeIn, massOf, ahead, freeBelow, ranks}
+use Rattle.ranking.specs.Masses.{Rankable, Ranked}
+use Rattle.ranking.proofs.Ordered.{Every, every-at, every-append, ordered-every, ordered-length}
+use Rattle.probes.specs.Call.{freeTo}
+use Rattle.probes.specs.Listed.{Listed}
+use Rattle.probes.specs.Standing.{Standing, Chosen}
+
+-- ---- every candidate is free
+
+abbrev Free : List ℕ → ℕ → Type 0
+Free s i = getD s i 0 ≡ 2
+
+free-one : (s : List ℕ) (n : ℕ) (b : Bool) → eqb (getD s n 0) 2 ≡ b → Every (Free s) (cond b (n ∷ []) [])
+free-one s n true e = (eqb-true (getD s n 0) 2 e, tt)
+free-one s n false e = tt
+
+all-free : (s : List ℕ) (n : ℕ) → Every (Free s) (freeTo s n)
+unfolding freeTo
+all-free s zero = tt
+all-free s (suc n) = every-append (Free s) (freeTo s n) _ (all-free s n) (free-one s n (eqb (getD s n 0) 2) refl)
+
+-- both crates list the free variables alike
+pub free-same : (s : List ℕ) (n : ℕ) → freeBelow s n ≡ freeTo s n
+unfolding freeTo freeBelow
+free-same s zero = refl
+free-same s (suc n) = rw (free-same s n)
+
+ranks-free : (F : Field) (s : List ℕ) → Every (Free s) (ranks F s)
+unfolding ranks
+ranks-free F s = ordered-every (ahead (massOf F s)) (Free s) (freeBelow s (variables F)) (rw (free-same s (variables F)) (all-free s (variables F)))
+
+take-every : (P : ℕ → Type 0) (k : ℕ) (l : List ℕ) → Every P l → Every P (take k l)
+take-every P zero l h = tt
+take-every P (suc k) [] h = tt
+take-every P (suc k) (x ∷ l) h = (h .0, take-every P k l (h .1))
+
+-- ---- the workspace with them
+
+standing-of : {F : Field} {s : List ℕ} {f : List Float} {u cands : List ℕ} {many count : ℕ} → Remembers F s f u many → count ≤ variables F
+    → gatherAt F + variables F ≤ length u → region (candidatesAt F) count u ≡ cands → Every (Free s) cands → Standing F s f u many count
+standing-of {F} {s} {f} {u} {cands} {many} {count} R within space are free = record {
+  remembers = R;
+  within = within;
+  free = λ h l.
+      let a = length-region (candidatesAt F) count u (omega (arith, within, space)) in
+      let e : getD cands h 0 ≡ getD u (candidatesAt F + h) 0 = ap (λ (z : List ℕ). getD z h 0) (sym are) ∙ region-at (candidatesAt F) count u h 0 l in
+      rw e at (every-at (Free s) cands free h (omega (arith, l, a, ap length are)));
+  space = space;
+}
+
+front-first : (F : Field) (u u′ : List ℕ) → take (candidatesAt F) u′ ≡ take (candidatesAt F) u → take (firstAt F) u′ ≡ take (firstAt F) u
+front-first F u u′ e = sym (take-take (firstAt F) (candidatesAt F) u′ (omega arith)) ∙ ap (take (firstAt F)) e ∙ take-take (firstAt F) (candidatesAt F) u (omega arith)
+
+space-enough : {F : Field} {s : List ℕ} {floats words : ℕ} → Ready F s floats words → gatherAt F + variables F ≤ words
+space-enough R = omega (arith, R .words-room, R .sound .shaped .rows-long)
+
+module _ {F : Field} {s : List ℕ} {floats words : ℕ} (A : Ready F s floats words) where
+  pub ready-same : {floats′ words′ : ℕ} → floats′ ≡ floats → words′ ≡ words → Ready F s floats′ words′
+  ready-same a b = rw (a, b) A
+
+  pub free-room : {words′ : ℕ} → words′ ≡ words → (length s ≤ 4096) × (candidatesAt F + length s ≤ words′)
+  free-room e = (omega (arith, A .sound .start .long, A .sound .shaped .few-variables), omega (arith, A .sound .start .long, space-enough A, e))
+
+  module _ {u u′ : List ℕ} {count : ℕ} (L : Listed s (candidatesAt F) (length s) u u′ count) where
+    pub free-are : region (candidatesAt F) count u′ ≡ freeTo s (variables F)
+    free-are = L .is ∙ ap (freeTo s) (A .sound .start .long)
+
+    pub free-standing : {f : List Float} {many : ℕ} → Remembers F s f u many → length u ≡ words → Standing F s f u′ many count
+    free-standing R long =
+        standing-of (remembers-front F u u′ (front-first F u u′ (L .front)) (L .long) R) (omega (arith, L .few, A .sound .start .long))
+        (omega (arith, space-enough A, long, L .long)) free-are
+        (all-free s (variables F))
+
+-- ---- floats behind the rows and their copy
+
+front-float : (b : ℕ) (f g : List Float) → take b f ≡ take b g → (q : ℕ) → q < b → getD f q nan ≡ getD g q nan
+front-float b f g e q h = sym (getD-take b f q nan h) ∙ ap (λ (z : List Float). getD z q nan) e ∙ getD-take b g q nan h
+
+module _ (F : Field) (s : List ℕ) (limit : ℕ) (f f′ : List Float) (u u′ : List ℕ) {count : ℕ} (C : Chosen F s limit f f′ u u′ count) where
+  float-same : (q : ℕ) → q < variables F + variables F + (variables F + variables F) → getD f′ q nan ≡ getD f q nan
+  float-same = front-float (variables F + variables F + (variables F + variables F)) f′ f (C .floats-front)
+
+  row-same : (t : ℕ) → t < variables F → rowOn f′ (variables F) t ≡ rowOn f (variables F) t
+  row-same t h = rw (float-same t (omega arith), float-same (variables F + t) (omega arith)) refl
+
+  copy-at : (t : ℕ) → t < variables F + variables F → getD (drop (variables F + variables F) f′) t nan ≡ getD (drop (variables F + variables F) f) t nan
+  copy-at t h = getD-drop (variables F + variables F) f′ t nan ∙ float-same (variables F + variables F + t) (omega arith) ∙ sym (getD-drop (variables F + variables F) f t nan)
+
+  copy-same : (t : ℕ) → t < variables F → rowOn (drop (variables F + variables F) f′) (variables F) t ≡ rowOn (drop (variables F + variables F) f) (variables F) t
+  copy-same t h = rw (copy-at t (omega arith), copy-at (variables F + t) (omega arith)) refl
+
+  chosen-remembers : {many : ℕ} → Remembers F s f u many → Remembers F s f′ u′ many
+  chosen-remembers R =
+      let Q = remembers-front F u u′ (front-first F u u′ (C .words-front)) (C .words-long) R in record {
+        placed = placed-start (Q .placed .shaped) (Q .start .long) (omega (arith, Q .placed .floats-room, C .floats-long)) (Q .placed .adjacent) (Q .placed .words-room);
+        standard = Q .standard;
+        start = Q .start;
+        rows = λ t h. row-same t h ∙ Q .rows t h;
+        copy = λ t h. copy-same t h ∙ Q .copy t h;
+        copy-room = omega (arith, Q .copy-room, C .floats-long);
+        list-room = Q .list-room;
+        count = Q .count;
+        listed = Q .listed;
+      }
+
+  pub chosen-standing : {many floats words : ℕ} → Ready F s floats words → Remembers F s f u many → length u ≡ words → Standing F s f′ u′ many count
+  chosen-standing A R long =
+      standing-of (chosen-remembers R) (C .within) (omega (arith, space-enough A, long, C .words-long)) (C .are) (take-every (Free s) limit (ranks F s) (ranks-free F s))
+
+-- ---- the ranks in their place
+
+front-as : (b : ℕ) (u u′ : List ℕ) → b ≤ length u → length u′ ≡ length u → ((t : ℕ) → t < b → getD u′ t 0 ≡ getD u t 0) → take b u′ ≡ take b u
+front-as b u u′ h long same =
+    let a = length-take-le b u′ (omega (arith, h, long)) in
+    ext-getD 0 (take b u′) (take b u) (a ∙ sym (length-take-le b u h)) (λ t l.
+    let k : t < b = omega (arith, l, a) in getD-take b u′ t 0 k ∙ same t k ∙ sym (getD-take b u t 0 k))
+
+-- where the masses stand
+abbrev pub massesAt : Field → ℕ
+massesAt F = variables F + variables F + (variables F + variables F)
+
+few-free : (s : List ℕ) (n : ℕ) → length (freeBelow s n) ≤ n
+unfolding freeBelow
+few-free s zero = omega arith
+few-free s (suc n) = omega (arith, few-free s n, length-append (freeBelow s n) (cond (freeIn s n) (n ∷ []) []), one (freeIn s n))
+  where
+    one : (b : Bool) → length (cond b (n ∷ []) []) ≤ 1
+    one true = omega arith
+    one false = omega arith
+
+module _ {F : Field} {s : List ℕ} (f : List Float) (u : List ℕ) (A : Ready F s (length f) (length u)) where
+  pub choose-rankable : Rankable F s (midOf (massesAt F) (massesAt F + variables F - massesAt F) f) u (candidatesAt F)
+  choose-rankable =
+      let z : massesAt F + variables F - massesAt F ≡ variables F = omega arith in record {
+        massable = record {
+          shaped = A .sound .shaped;
+          values-long = A .sound .start .long;
+          masses-long = mid-len (massesAt F) (massesAt F + variables F) f (omega (arith, A .floats-room)) ∙ z;
+        };
+        finite-weights = A .sound .finite-weights;
+        room = omega (arith, space-enough A);
+      }
+
+  module _ (u′ : List ℕ) (w : List Float) {count : ℕ} (R : Ranked F s u u′ (candidatesAt F) count)
+      (long : length w ≡ length (midOf (massesAt F) (massesAt F + variables F - massesAt F) f)) where
+    count-few : count ≤ variables F
+    unfolding ranks
+    count-few = omega (arith, R .counted, ordered-length (ahead (massOf F s)) (freeBelow s (variables F)), few-free s (variables F))
+
+    chosen : (limit r : ℕ) → r ≤ variables F → region (candidatesAt F) r u′ ≡ take limit (ranks F s)
+        → Chosen F s limit f (putMid (massesAt F) (massesAt F + variables F - massesAt F) f w) u u′ r
+    chosen limit r few are = record {
+      floats-long = same-len-mid (massesAt F) (massesAt F + variables F - massesAt F) f w long;
+      floats-front = take-put (massesAt F) (massesAt F + variables F - massesAt F) f w (omega (arith, A .floats-room));
+      words-long = R .outside .long;
+      words-front = front-as (candidatesAt F) u u′ (omega (arith, space-enough A)) (R .outside .long) (R .outside .below);
+      within = few;
+      are = are;
+    }
+
+    pub chosen-some : (limit : ℕ) → limit < count → Chosen F s limit f (putMid (massesAt F) (massesAt F + variables F - massesAt F) f w) u u′ limit
+    unfolding region
+    chosen-some limit h = chosen limit limit (omega (arith, h, count-few)) (sym (take-take limit count (drop (candidatesAt F) u′) (omega arith)) ∙ ap (take limit) (R .ranked))
+
+    pub chosen-all : (limit : ℕ) → count ≤ limit → Chosen F s limit f (putMid (massesAt F) (massesAt F + variables F - massesAt F) f w) u u′ count
+    chosen-all limit h = chosen limit count count-few (R .ranked ∙ sym (take-all limit (ranks F s) (omega (arith, h, R .counted))))

@@ -1,0 +1,15 @@
+pub mod Rules
+pub mod Lists
+pub mod Nones
+pub mod Standing
+pub mod Chosen
+pub mod Answers
+pub mod Demands
+pub mod Members
+pub mod Later
+pub mod Table
+pub mod Gathered
+pub mod Exact
+pub mod Candidates
+pub mod Limited
+pub mod Calls

@@ -1,0 +1,97 @@
+-- `probe_all` prepares, lists the free variables and settles. Assumes nothing.
+use mathlib.Core.Path.{_∙_}
+use Rattle.scratch.specs.Region.{region}
+use Rattle.field.specs.Field.{fieldOf, variables}
+use Rattle.walking.specs.Walk.{candidatesAt}
+use Rattle.probes.specs.Call.{freeTo}
+use Rattle.probes.proofs.Chosen.{free-room, free-are, free-standing}
+use Rattle.probes.proofs.Answers.{answered-as}
+use borrow.Author.Needs.{needs}
+use Rattle.probes.proofs.probe_all.Statement.{statement}
+use Rattle.probes.proofs.probe_all.Tie as tie
+
+prepare-requires : tie.Need-prepare-requires
+prepare-requires c κs = c .before .before .before .before .before .before .before .before .before .before .before .before .pre
+
+add-list-free : tie.Need-add-list-free
+add-list-free c = search needs
+
+mul-list-free : tie.Need-mul-list-free
+mul-list-free c = search needs
+
+add-list-free-2 : tie.Need-add-list-free-2
+add-list-free-2 c = search needs
+
+add-list-free-3 : tie.Need-add-list-free-3
+add-list-free-3 c = search needs
+
+add-list-free-4 : tie.Need-add-list-free-4
+add-list-free-4 c = search needs
+
+add-list-free-5 : tie.Need-add-list-free-5
+add-list-free-5 c = search needs
+
+add-list-free-6 : tie.Need-add-list-free-6
+add-list-free-6 c = search needs
+
+list-free-requires : tie.Need-list-free-requires
+list-free-requires c κs =
+    let at-prepare = c .before .before .before .before .before .before .before in
+    let start = at-prepare .before .before .before .before .before .before .before .before .before .before .before .before .before in
+    free-room (start .pre .0) (at-prepare .prepare .kept .1 .1 .1 .1 .1 .1 .1 .0)
+
+settle-requires : tie.Need-settle-requires
+settle-requires c κs =
+    let at-list-free = c .before .before .before .before .before .before in
+    let at-prepare = at-list-free .before .before .before .before .before .before .before .before in
+    let start = at-prepare .before .before .before .before .before .before .before .before .before .before .before .before .before in (
+      free-standing (start .pre .0) (at-list-free .list-free .ensures) {f = at-prepare .prepare .last .1 .1 .1 .1 .1 .1 .0}
+          (at-prepare .prepare .ensures .1) (at-prepare .prepare .kept .1 .1 .1 .1 .1 .1 .1 .0),
+      at-prepare .prepare .ensures .0,
+    )
+
+same-length : tie.Need-same-length
+same-length c = search needs
+
+same-length-2 : tie.Need-same-length-2
+same-length-2 c = search needs
+
+same-length-3 : tie.Need-same-length-3
+same-length-3 c = search needs
+
+same-length-4 : tie.Need-same-length-4
+same-length-4 c = search needs
+
+returns : tie.Need-returns
+returns c =
+    let at-settle = c .before .before .before .before .before .before .before .before in
+    let at-list-free = at-settle .before .before .before .before .before .before .before in
+    let at-prepare = at-list-free .before .before .before .before .before .before .before .before in
+    let start = at-prepare .before .before .before .before .before .before .before .before .before .before .before .before .before in
+    let a = start .args in
+    let F = fieldOf (a .c .now) (a .rows .now) (a .cols .now) (a .q .now) in
+    let p = at-prepare .prepare in
+    let l = at-list-free .list-free in
+    answered-as F (a .start .now) (a .constraints .now) (region (candidatesAt F) (l .result) (l .last .1 .0)) (freeTo (a .start .now) (variables F))
+    (p .last .1 .1 .1 .1 .1 .0) (a .values .now) (p .last .1 .1 .1 .1 .1 .1 .0) (a .f .now) (l .last .1 .0) (a .u .now) (at-settle .settle .ensures)
+    (free-are (start .pre .0) (l .ensures)) (p .kept .1 .1 .1 .1 .1 .0) (p .kept .1 .1 .1 .1 .1 .1 .0) (l .kept .1 .0 ∙ p .kept .1 .1 .1 .1 .1 .1 .1 .0)
+
+pub probe-all-spec : {M : Type 1} → statement M
+probe-all-spec =
+    tie.close
+    (tie.spec
+    prepare-requires
+    add-list-free
+    mul-list-free
+    add-list-free-2
+    add-list-free-3
+    add-list-free-4
+    add-list-free-5
+    add-list-free-6
+    list-free-requires
+    settle-requires
+    same-length
+    same-length-2
+    same-length-3
+    same-length-4
+    returns)

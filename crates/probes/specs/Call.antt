@@ -1,0 +1,83 @@
+-- What the calls `probe` and `probe_limited` answer and leave, as one function of what they are given, for every input. Assumes nothing.
+use Prim.Native.Nat.{ℕ, zero, suc}
+use mathlib.Core.Bool.{Bool, true, false, cond, _&&_}
+use mathlib.Core.List.{List, [], _∷_, _++_}
+use lib.Dec.{eqb, leb}
+use lib.ListN.{length, getD, take}
+use lib.Ieee.{Float}
+use Rattle.weights.specs.Worth.{zero64}
+use Rattle.scratch.specs.Cleared.{cleared}
+use Rattle.constraints.specs.Triple.{Triple, room, filled}
+use Rattle.constraints.specs.Sorted.{sortedSet}
+use Rattle.field.specs.declared.Counted.{Counted}
+use Rattle.field.specs.declared.Counted.the-variants.{Counts, Refuses}
+use Rattle.field.specs.declared.Checked.{Checked}
+use Rattle.field.specs.declared.Checked.the-variants.{Passed, Failed}
+use Rattle.field.specs.declared.Refusal.the-variants.{Room}
+use Rattle.field.specs.Field.{Field, variables}
+use Rattle.field.specs.Table.{Test, test, tested}
+use Rattle.field.specs.Tests.{readyTests}
+use Rattle.field.specs.Grade.{gradeOf}
+use Rattle.ranking.specs.Ranking.{ranks}
+use Rattle.twin.specs.Finds.{constraintsOf, valuesOf}
+
+-- ---- the candidates
+
+-- the free variables below n, rising
+unfoldable pub freeTo : List ℕ → ℕ → List ℕ
+freeTo s zero = []
+freeTo s (suc n) = freeTo s n ++ cond (eqb (getD s n 0) 2) (n ∷ []) []
+
+-- ---- what the candidates find
+
+-- "Constraints come sorted and without repeats"
+unfoldable pub allConstraints : Field → List ℕ → List ℕ → List Triple
+allConstraints F s cands = sortedSet (constraintsOf F s cands (length cands))
+
+-- "where two candidates give one variable a value, the later one wins"
+unfoldable pub allValues : Field → List ℕ → List ℕ → List ℕ
+allValues F s cands = valuesOf F s cands (length cands)
+
+-- ---- the call
+
+-- the answer, and the four lent lists afterwards
+pub record Left : Type 0 where
+  pub answer : Counted
+  pub values : List ℕ
+  pub constraints : List ℕ
+  pub floats : List Float
+  pub words : List ℕ
+
+abbrev pub left : Counted → List ℕ → List ℕ → List Float → List ℕ → Left
+left r t k f u = record { answer = r; values = t; constraints = k; floats = f; words = u }
+
+-- "9 is given exactly if a full answer has more items than its list has room for, or the probe value list is not n long"
+unfoldable pub fits : Field → List ℕ → List ℕ → List ℕ → List ℕ → Bool
+fits F s cands t k = eqb (length t) (variables F) && leb (length (allConstraints F s cands)) (room k)
+
+-- tests 1 to 6 and 8, then 9
+unfoldable pub candidatesTable : Field → List ℕ → List ℕ → List ℕ → List ℕ → ℕ → ℕ → List Test
+candidatesTable F s cands t k floats words = readyTests F s floats words ++ test Room (fits F s cands t k) ∷ []
+
+-- "then each answer list is all zeros"; "On success, elements past an answer list's last item are unchanged"
+unfoldable pub given : Bool → Field → List ℕ → List ℕ → List ℕ → List ℕ → List Float → List ℕ → Left
+given true F s cands t k f u =
+    left (Counts (gradeOf F) (length (allConstraints F s cands))) (allValues F s cands) (filled (allConstraints F s cands) k) (cleared zero64 f) (cleared 0 u)
+given false F s cands t k f u = left (Refuses Room) (cleared 0 t) (cleared 0 k) (cleared zero64 f) (cleared 0 u)
+
+-- "After passing 8, scratch ends as all zeros"; "1 to 8 change nothing lent"
+unfoldable pub leaves : Checked → Field → List ℕ → List ℕ → List ℕ → List ℕ → List Float → List ℕ → Left
+leaves Passed F s cands t k f u = given (fits F s cands t k) F s cands t k f u
+leaves (Failed r) F s cands t k f u = left (Refuses r) t k f u
+
+-- the call over any list of candidates
+unfoldable pub candidatesCall : Field → List ℕ → List ℕ → List ℕ → List ℕ → List Float → List ℕ → Left
+candidatesCall F s cands t k f u = leaves (tested (readyTests F s (length f) (length u))) F s cands t k f u
+
+-- `probe`: every free variable
+unfoldable pub probeCall : Field → List ℕ → List ℕ → List ℕ → List Float → List ℕ → Left
+probeCall F s t k f u = candidatesCall F s (freeTo s (variables F)) t k f u
+
+-- `probe_limited`: up to the limit; "Candidates of the limited call go by falling edge mass of |q| over entries with both ends free, then rising index"
+unfoldable pub probeLimitedCall : Field → List ℕ → ℕ → List ℕ → List ℕ → List Float → List ℕ → Left
+probeLimitedCall F s limit t k f u = candidatesCall F s (take limit (ranks F s)) t k f u

@@ -1,0 +1,4 @@
+pub mod Call
+pub mod Listed
+pub mod Standing
+pub mod Rule

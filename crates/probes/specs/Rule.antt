@@ -1,0 +1,104 @@
+-- What the lists of the probe calls mean (document 01, "Probe"), over whole numbers, and over the floats of any field. Assumes nothing.
+use Prim.Native.Nat.{ℕ, _<_, _≤_}
+use mathlib.Core.Path.{_≡_}
+use mathlib.Core.Logic.{_≢_}
+use mathlib.Core.List.{List, List·Memᴰ}
+use lib.ListN.{getD}
+use Rattle.meaning.specs.Field as meaning
+use Rattle.meaning.specs.Kinds.{Kind, at-least-one, exactly-one, no-more-than-one, greater-than, less-than, equal, Constraint}
+use Rattle.meaning.specs.Probe.{Probed, Found}
+use Rattle.constraints.specs.Triple.{Triple}
+use Rattle.field.specs.Field.{Field, variables}
+use Rattle.probe.specs.Found.{value, constraint, joining, between}
+use Rattle.twin.specs.Finds.{tripleOf, finding}
+
+-- every candidate is free
+abbrev pub FreeCandidates : List ℕ → List ℕ → Type 0
+FreeCandidates s cands = (i : ℕ) → List·Memᴰ i cands → getD s i 0 ≡ 2
+
+-- the ends of a constraint as the source passes them: the lesser first, but the probed one first where the kind tells the ends apart
+abbrev pub ordered : Kind → ℕ → ℕ → Constraint
+ordered at-least-one i j = between at-least-one i j
+ordered exactly-one i j = between exactly-one i j
+ordered no-more-than-one i j = between no-more-than-one i j
+ordered greater-than i j = joining greater-than i j
+ordered less-than i j = joining less-than i j
+ordered equal i j = between equal i j
+
+-- ---- over whole numbers
+
+-- j is a free variable "other than i", and the probes of i at 0 and at 1 give it a and b, 2 for none
+pub record BothGive (G : meaning.Field) (s : List ℕ) (i j a b : ℕ) : Type 0 where
+  pub other : i ≢ j
+  pub below : j < G .n
+  pub free : getD s j 0 ≡ 2
+  pub closed₀ : List ℕ
+  pub closed₁ : List ℕ
+  pub probed₀ : Probed G s i 0 closed₀
+  pub probed₁ : Probed G s i 1 closed₁
+  pub gives₀ : getD closed₀ j 0 ≡ a
+  pub gives₁ : getD closed₁ j 0 ≡ b
+
+-- x is the constraint that the probes of a candidate find with another variable, where C says what a candidate is
+pub record Given (G : meaning.Field) (s : List ℕ) (C : ℕ → Type 0) (x : Triple) : Type 0 where
+  pub candidate : ℕ
+  pub chosen : C candidate
+  pub variable : ℕ
+  pub at-zero : ℕ
+  pub at-one : ℕ
+  pub both : BothGive G s candidate variable at-zero at-one
+  pub kind : Kind
+  pub finds : Found at-zero at-one kind
+  pub is : x ≡ tripleOf (ordered kind candidate variable)
+
+-- "If both probes of i give j, a variable other than i, the same value, that is a probe value"
+pub record GivesValue (G : meaning.Field) (s : List ℕ) (i j w : ℕ) : Type 0 where
+  pub small : w < 2
+  pub both : BothGive G s i j w w
+
+-- ---- over the floats of any field
+
+-- x is a constraint that the executable rule finds
+pub record Finds (F : Field) (s cands : List ℕ) (x : Triple) : Type 0 where
+  pub candidate : ℕ
+  pub chosen : List·Memᴰ candidate cands
+  pub variable : ℕ
+  pub below : variable < variables F
+  pub said : Constraint
+  pub finds : finding F s candidate variable ≡ constraint said
+  pub is : x ≡ tripleOf said
+
+-- i gives j the value w by the executable rule
+abbrev pub FindsValue : Field → List ℕ → ℕ → ℕ → ℕ → Type 0
+FindsValue F s i j w = finding F s i j ≡ value w
+
+-- not "kind above 5, equal ends, or an end not below n", as propagation asks of each constraint
+pub record Proper (n : ℕ) (x : Triple) : Type 0 where
+  pub known : x .code ≤ 5
+  pub apart : x .first ≢ x .second
+  pub first-below : x .first < n
+  pub second-below : x .second < n
+
+-- ---- the later one wins
+
+-- of the first `count` candidates the last that gives a value gives w, where R i v says that i gives v
+pub record LastGives (R : ℕ → ℕ → Type 0) (cands : List ℕ) (count w : ℕ) : Type 0 where
+  pub turn : ℕ
+  pub within : turn < count
+  pub gives : R (getD cands turn 0) w
+  pub later-none : (k v : ℕ) → turn < k → k < count → R (getD cands k 0) v → ⊥
+
+-- none of them gives any
+pub record NoneGives (R : ℕ → ℕ → Type 0) (cands : List ℕ) (count : ℕ) : Type 0 where
+  pub none : (k v : ℕ) → k < count → R (getD cands k 0) v → ⊥
+
+-- where the candidates are all free variables, rising: the greatest that gives a value gives w
+pub record GreatestGives (R : ℕ → ℕ → Type 0) (s : List ℕ) (w : ℕ) : Type 0 where
+  pub candidate : ℕ
+  pub free : getD s candidate 0 ≡ 2
+  pub gives : R candidate w
+  pub later-none : (i v : ℕ) → candidate < i → getD s i 0 ≡ 2 → R i v → ⊥
+
+-- no free variable gives any
+pub record NoFreeGives (R : ℕ → ℕ → Type 0) (s : List ℕ) : Type 0 where
+  pub none : (i v : ℕ) → getD s i 0 ≡ 2 → R i v → ⊥

@@ -1,0 +1,4 @@
+pub mod Placed
+pub mod Afresh
+pub mod Refreshed
+pub mod Probing

@@ -1,0 +1,128 @@
+-- `fresh_row` is the fold over the places of a variable. Assumes nothing.
+use Prim.Native.Nat.{_-_}
+use native.Mathlib.Omega.{arith}
+use Rattle.field.specs.Field.{variables, linearOf, fieldOf}
+use Rattle.rows.specs.Row.{startRow}
+use Rattle.places.proofs.Walk.{Along, walk-turn}
+use Rattle.probing.specs.Remembered.{addPlaces}
+use Rattle.probing.proofs.Placed.{row-start, row-reads, row-turn, row-done}
+use borrow.Author.Needs.{needs}
+use Rattle.probing.proofs.refreshing.fresh_row.Statement.{statement}
+use Rattle.probing.proofs.refreshing.fresh_row.Tie as tie
+
+abbrev Inv-loop : tie.InvT-loop
+Inv-loop c rows cols q values u t n start end row₀ p₀ row p = Along (addPlaces (fieldOf c rows cols q) values t) (variables (fieldOf c rows cols q)) rows cols u u t end p (startRow (linearOf (fieldOf c rows cols q) t)) row
+
+abbrev μ-loop : tie.MeasureT-loop
+μ-loop c rows cols q values u t n start end row₀ p₀ row p = end - p
+
+mul-wide-word : tie.Need-mul-wide-word Inv-loop μ-loop
+mul-wide-word c = search needs
+
+shared-slice-read-wide-word : tie.Need-shared-slice-read-wide-word Inv-loop μ-loop
+shared-slice-read-wide-word c =
+    let start = c .before .before .before .before .before .before .before in
+    omega (arith, start .pre .0 .adjacent .room, start .pre .1)
+
+wide-word-requires : tie.Need-wide-word-requires Inv-loop μ-loop
+wide-word-requires c κs = search needs
+
+add-wide-word : tie.Need-add-wide-word Inv-loop μ-loop
+add-wide-word c = search needs
+
+mul-wide-word-2 : tie.Need-mul-wide-word-2 Inv-loop μ-loop
+mul-wide-word-2 c = search needs
+
+shared-slice-read-wide-word-2 : tie.Need-shared-slice-read-wide-word-2 Inv-loop μ-loop
+shared-slice-read-wide-word-2 c =
+    let start = c .before .before .before .before .before .before .before .before .before in
+    omega (arith, start .pre .0 .adjacent .room, start .pre .1)
+
+wide-word-requires-2 : tie.Need-wide-word-requires-2 Inv-loop μ-loop
+wide-word-requires-2 c κs = search needs
+
+mul-start : tie.Need-mul-start Inv-loop μ-loop
+mul-start c = search needs
+
+shared-slice-read-start : tie.Need-shared-slice-read-start Inv-loop μ-loop
+shared-slice-read-start c = search needs
+
+start-requires : tie.Need-start-requires Inv-loop μ-loop
+start-requires c κs = search needs
+
+loop-holds : tie.Need-loop-holds Inv-loop μ-loop
+loop-holds c =
+    let at-wide-word2 = c .before .before in
+    let at-wide-word = at-wide-word2 .before .before in
+    let start = at-wide-word .before .before .before .before .before .before .before .before in
+    row-start (start .pre .0) (start .pre .1) (at-wide-word .wide-word .ensures) (at-wide-word2 .wide-word2 .ensures) (c .start .ensures)
+
+add-wide-word-2 : tie.Need-add-wide-word-2 Inv-loop μ-loop
+add-wide-word-2 c = search needs
+
+add-wide-word-3 : tie.Need-add-wide-word-3 Inv-loop μ-loop
+add-wide-word-3 c = omega (arith, walk-turn (c .before .loop .inv .walk) (c .loop-test .taken) .index)
+
+mul-wide-word-3 : tie.Need-mul-wide-word-3 Inv-loop μ-loop
+mul-wide-word-3 c = omega (arith, walk-turn (c .before .loop .inv .walk) (c .loop-test .taken) .index)
+
+shared-slice-read-wide-word-3 : tie.Need-shared-slice-read-wide-word-3 Inv-loop μ-loop
+shared-slice-read-wide-word-3 c = walk-turn (c .before .before .loop .inv .walk) (c .before .loop-test .taken) .index
+
+wide-word-requires-3 : tie.Need-wide-word-requires-3 Inv-loop μ-loop
+wide-word-requires-3 c κs = search needs
+
+add-place-requires : tie.Need-add-place-requires Inv-loop μ-loop
+add-place-requires c κs =
+    let at-loop-test = c .before .before in
+    let at-loop = at-loop-test .before in
+    let start = at-loop .before .before .before .before .before .before .before .before .before .before .before .before .before in
+    row-reads (start .pre .0) (at-loop .loop .inv) (at-loop-test .loop-test .taken) (c .wide-word3 .ensures)
+
+add-p : tie.Need-add-p Inv-loop μ-loop
+add-p c = omega arith
+
+loop-less : tie.Need-loop-less Inv-loop μ-loop
+loop-less c = omega (arith, c .before .before .before .loop-test .taken)
+
+loop-again : tie.Need-loop-again Inv-loop μ-loop
+loop-again c =
+    let at-wide-word3 = c .before in
+    let at-loop-test = at-wide-word3 .before .before in
+    let at-loop = at-loop-test .before in
+    let start = at-loop .before .before .before .before .before .before .before .before .before .before .before .before .before in
+    row-turn (start .pre .0) (at-loop .loop .inv) (at-loop-test .loop-test .taken) (at-wide-word3 .wide-word3 .ensures) (c .add-place .ensures)
+
+returns : tie.Need-returns Inv-loop μ-loop
+returns c =
+    let at-loop = c .before in
+    let start = at-loop .before .before .before .before .before .before .before .before .before .before .before .before .before in
+    row-done (start .pre .0) (at-loop .loop .inv) (c .loop-test .left)
+
+pub fresh-row-spec : {M : Type 1} → statement M
+fresh-row-spec =
+    tie.close
+    (tie.spec
+    Inv-loop
+    μ-loop
+    mul-wide-word
+    shared-slice-read-wide-word
+    wide-word-requires
+    add-wide-word
+    mul-wide-word-2
+    shared-slice-read-wide-word-2
+    wide-word-requires-2
+    mul-start
+    shared-slice-read-start
+    start-requires
+    loop-holds
+    add-wide-word-2
+    add-wide-word-3
+    mul-wide-word-3
+    shared-slice-read-wide-word-3
+    wide-word-requires-3
+    add-place-requires
+    add-p
+    loop-less
+    loop-again
+    returns)

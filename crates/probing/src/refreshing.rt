@@ -1,0 +1,113 @@
+// Rows made afresh at the values, each from its variable's places.
+use rows::Row;
+use rows::store::put_row;
+use scratch::wide_word;
+ghost use mathlib.Core.Path.{_≡_};
+ghost use Prim.Native.Nat.{_<_};
+ghost use lib.ListN.{length};
+ghost use Rattle.scratch.specs.Lent.{before, after};
+ghost use Rattle.field.specs.Field.{given, lent, variables, entries, Standard};
+ghost use Rattle.rows.specs.Model.{rowOf};
+ghost use Rattle.places.specs.Places.{otherEnd};
+ghost use Rattle.run.specs.Cells.{cells, Placed, Does};
+ghost use Rattle.probing.specs.Remembered as model;
+
+// The term of place k goes into the row of t.
+fn add_place(
+    row: Row,
+    rows: &[u16],
+    cols: &[u16],
+    q: &[f64],
+    values: &[u8],
+    t: usize,
+    k: usize,
+) -> Row
+    requires { ⌜ k < length (now rows) ⌝ }
+    requires { ⌜ k < length (now cols) ⌝ }
+    requires { ⌜ k < length (now q) ⌝ }
+    requires { ⌜ otherEnd (now rows) (now cols) t k < length (now values) ⌝ }
+    ensures { λ r. ⌜ r ≡ model.addPlace (before rows) (before cols) (before q) (before values) t row k ⌝ }
+{
+    let j = places::other_end(rows, cols, t, k);
+    let coeff = weights::half(q[k]);
+    row.add_term(coeff, values[j])
+}
+
+// Row t at the values.
+fn fresh_row(
+    c: &[f64],
+    rows: &[u16],
+    cols: &[u16],
+    q: &[f64],
+    values: &[u8],
+    u: &[u32],
+    t: usize,
+) -> Row
+    requires { ⌜ model.Readable (lent c rows cols q) (now values) (now u) ⌝ }
+    requires { ⌜ t < variables (lent c rows cols q) ⌝ }
+    ensures { λ r. ⌜ r ≡ rowOf (given c rows cols q) (before values) t ⌝ }
+{
+    let n = c.len();
+    let start = wide_word(u[t]);
+    let end = wide_word(u[t + 1]);
+    let mut row = Row::start(c[t]);
+    for p in start..end {
+        let k = wide_word(u[n + 1 + p]);
+        row = add_place(row, rows, cols, q, values, t, k);
+    }
+    row
+}
+
+// Place k of variable i: the row of a free other end is made afresh.
+fn refresh_at(
+    c: &[f64],
+    rows: &[u16],
+    cols: &[u16],
+    q: &[f64],
+    values: &[u8],
+    f: &mut [f64],
+    u: &[u32],
+    i: usize,
+    k: usize,
+)
+    requires { ⌜ Placed (lent c rows cols q) (cells (now values) (now f) (now u) 0) ⌝ }
+    requires { ⌜ Standard (lent c rows cols q) ⌝ }
+    requires { ⌜ k < entries (lent c rows cols q) ⌝ }
+    ensures { λ _. ⌜ Does (given c rows cols q) (λ run. model.freshAt (given c rows cols q) i run k)
+        (cells (before values) (before f) (before u) 0)
+        (cells (before values) (after f) (before u) 0) ⌝ }
+{
+    let t = places::other_end(rows, cols, i, k);
+    if values[t] != 2 {
+        return;
+    }
+    let row = fresh_row(c, rows, cols, q, values, u, t);
+    put_row(f, c.len(), t, row);
+}
+
+// The rows of the free neighbours of i are made afresh, in the entries' order.
+pub fn refresh(
+    c: &[f64],
+    rows: &[u16],
+    cols: &[u16],
+    q: &[f64],
+    values: &[u8],
+    f: &mut [f64],
+    u: &[u32],
+    i: usize,
+)
+    requires { ⌜ Placed (lent c rows cols q) (cells (now values) (now f) (now u) 0) ⌝ }
+    requires { ⌜ Standard (lent c rows cols q) ⌝ }
+    requires { ⌜ i < variables (lent c rows cols q) ⌝ }
+    ensures { λ _. ⌜ Does (given c rows cols q) (λ run. model.fresh (given c rows cols q) run i)
+        (cells (before values) (before f) (before u) 0)
+        (cells (before values) (after f) (before u) 0) ⌝ }
+{
+    let n = c.len();
+    let start = wide_word(u[i]);
+    let end = wide_word(u[i + 1]);
+    for p in start..end {
+        let k = wide_word(u[n + 1 + p]);
+        refresh_at(c, rows, cols, q, values, f, u, i, k);
+    }
+}

@@ -1,0 +1,237 @@
+-- The masses are the model's, numbers with their sign clear, and the free variables are listed one by one. Assumes nothing.
+use Prim.Native.Nat.{ℕ, zero, suc, _+_, _*_, _^_, _<_, _≤_}
+use mathlib.Core.Path.{_≡_, refl, sym, ap, _∙_, subst}
+use mathlib.Core.Bool.{Bool, true, false, cond}
+use mathlib.Core.List.{List, [], _∷_}
+use native.Mathlib.Omega.{arith}
+use native.Mathlib.Decide.{ℕ-discrete}
+use borrow.Author.Tests.{eq-eqb, ne-eqb}
+use lib.Dec.{T, eqb, ltb}
+use lib.ListN.{length, getD, set, replicate, length-set, length-replicate, getD-replicate}
+use lib.Seq.{getD-set-same, getD-set-other}
+use lib.Ieee.{Float, nan, inf, fin, Format, prec, emax, low, up, down, odd, units, round, sum, add, binary64, ofBits}
+use lib.Ieee.Fits.{round-is}
+use lib.Ieee.Scale.{finite}
+use Rattle.weights.specs.Worth.{zero64, clear, magnitude}
+use Rattle.scratch.specs.Region.{region}
+use Rattle.scratch.specs.Cleared.{cleared}
+use Rattle.scratch.proofs.Region.{region-above}
+use Rattle.field.specs.Field.{Field, variables, entries, rowEnd, columnEnd, quadOf}
+use Rattle.field.specs.Tests.{Finite}
+use Rattle.ranking.specs.Ranking.{bothFree, freeIn, massAtEnd, massAtEntry, massTo, freeBelow}
+use Rattle.ranking.specs.Masses.{added, addEntry, Massable, Massed, Outside, Listed}
+use Rattle.ranking.proofs.Ordered.{Every, every-append, nil-right}
+use Rattle.ranking.proofs.Words.{region-next}
+
+-- ---- a sum of numbers with their sign clear is one
+
+odd-clear : (d q k l : ℕ) → T (clear (odd d false q k l))
+unfolding odd
+odd-clear d zero k l = tt
+odd-clear d (suc q) k l = tt
+
+units-clear : (f : Format) (q k : ℕ) → T (clear (units f false q k))
+unfolding units
+units-clear f q k = go (ltb (q * 2 ^ k) (2 ^ (low f + suc (emax f))))
+  where
+    go : (b : Bool) → T (clear (cond b (odd (suc (prec f)) false q k (low f)) (inf false)))
+    go true = odd-clear (suc (prec f)) q k (low f)
+    go false = tt
+
+round-clear : (f : Format) (num den : ℕ) → T (clear (round f false num den))
+round-clear f num den = subst (λ (x : Float). T (clear x)) (sym (round-is f false num den)) (units-clear f _ _)
+
+pub add-clear : (f : Format) (x y : Float) → T (clear x) → T (clear y) → T (clear (add f x y))
+unfolding add sum
+add-clear f nan y a b = absurd a
+add-clear f (inf true) y a b = absurd a
+add-clear f (inf false) nan a b = absurd b
+add-clear f (inf false) (inf true) a b = absurd b
+add-clear f (inf false) (inf false) a b = tt
+add-clear f (inf false) (fin t n d) a b = tt
+add-clear f (fin true m e) y a b = absurd a
+add-clear f (fin false m e) nan a b = absurd b
+add-clear f (fin false m e) (inf true) a b = absurd b
+add-clear f (fin false m e) (inf false) a b = tt
+add-clear f (fin false m e) (fin true n d) a b = absurd b
+add-clear f (fin false m e) (fin false n d) a b = round-clear f (m * up e * down d + n * up d * down e) (down e * down d)
+
+magnitude-clear : (x : Float) → T (finite x) → T (clear (magnitude x))
+unfolding magnitude
+magnitude-clear nan h = absurd h
+magnitude-clear (inf s) h = absurd h
+magnitude-clear (fin s m e) h = tt
+
+end-clear : (i e : ℕ) (a x : Float) → T (clear a) → T (clear x) → T (clear (massAtEnd i e a x))
+unfolding massAtEnd
+end-clear i e a x h g = go (eqb e i)
+  where
+    go : (b : Bool) → T (clear (cond b (add binary64 x a) x))
+    go true = add-clear binary64 x a g h
+    go false = g
+
+-- no mass is a NaN or has a sign
+pub mass-clear : (F : Field) (s : List ℕ) → Finite F → (i k : ℕ) → k ≤ entries F → T (clear (massTo F s i k))
+unfolding massTo massAtEntry ofBits
+mass-clear F s N i zero h = tt
+mass-clear F s N i (suc k) h = go (bothFree F s k) (mass-clear F s N i k (omega arith))
+  where
+    a : T (clear (magnitude (quadOf F k)))
+    a = magnitude-clear (quadOf F k) (N .quad k (omega arith))
+
+    go : (b : Bool) → T (clear (massTo F s i k))
+        → T (clear (cond b (massAtEnd i (columnEnd F k) (magnitude (quadOf F k)) (massAtEnd i (rowEnd F k) (magnitude (quadOf F k)) (massTo F s i k))) (massTo F s i k)))
+    go true g = end-clear i (columnEnd F k) _ _ a (end-clear i (rowEnd F k) _ _ a g)
+    go false g = g
+
+-- ---- the masses in a list
+
+added-at : (w : List Float) (e i : ℕ) (a : Float) → e < length w → getD (added w e a) i nan ≡ massAtEnd i e a (getD w i nan)
+unfolding added massAtEnd
+added-at w e i a h = elim (ℕ-discrete i e) [
+  | yes p ↦ rw (p, eq-eqb e e refl) (getD-set-same w e (add binary64 (getD w e nan) a) nan h)
+  | no p ↦ rw (ne-eqb e i (λ q. p (sym q))) (getD-set-other w e i (add binary64 (getD w e nan) a) nan p)
+]
+
+pub added-long : (w : List Float) (e : ℕ) (a : Float) → length (added w e a) ≡ length w
+unfolding added
+added-long w e a = length-set w e (add binary64 (getD w e nan) a)
+
+pub entry-long : (F : Field) (s : List ℕ) (w : List Float) (k : ℕ) → length (addEntry F s w k) ≡ length w
+unfolding addEntry
+entry-long F s w k = go (bothFree F s k)
+  where
+    go : (b : Bool) → length (cond b (added (added w (rowEnd F k) (magnitude (quadOf F k))) (columnEnd F k) (magnitude (quadOf F k))) w) ≡ length w
+    go true = added-long (added w (rowEnd F k) (magnitude (quadOf F k))) (columnEnd F k) (magnitude (quadOf F k)) ∙ added-long w (rowEnd F k) (magnitude (quadOf F k))
+    go false = refl
+
+pub ends-in : {F : Field} {s : List ℕ} {w : List Float} → Massable F s w → (k : ℕ) → k < entries F
+    → ((rowEnd F k < length s) × (columnEnd F k < length s)) × ((rowEnd F k < length w) × (columnEnd F k < length w))
+ends-in {F} R k h =
+    let a = R .shaped .row-below k h in
+    let b = R .shaped .column-below k h in
+    let c = R .values-long in
+    let d = R .masses-long in
+    ((omega arith, omega arith), (omega arith, omega arith))
+
+-- the three answers of an entry, whose ends are i and j
+module _ (F : Field) (s : List ℕ) (w : List Float) (k : ℕ) {i j : ℕ} (e : i ≡ rowEnd F k) (f : j ≡ columnEnd F k) where
+  pub row-fixed : (getD s i 0 ≡ 2 → ⊥) → w ≡ addEntry F s w k
+  unfolding addEntry
+  row-fixed h = let g = ne-eqb (getD s i 0) 2 h in rw (rw e at g)
+
+  pub column-fixed : getD s i 0 ≡ 2 → (getD s j 0 ≡ 2 → ⊥) → w ≡ addEntry F s w k
+  unfolding addEntry
+  column-fixed h l =
+      let g = eq-eqb (getD s i 0) 2 h in
+      let m = ne-eqb (getD s j 0) 2 l in
+      rw (rw e at g, rw f at m)
+
+  pub both-free : {a : Float} {w₁ w₂ : List Float} → getD s i 0 ≡ 2 → getD s j 0 ≡ 2 → a ≡ magnitude (quadOf F k)
+      → w₁ ≡ added w i a → w₂ ≡ added w₁ j a → w₂ ≡ addEntry F s w k
+  unfolding addEntry
+  both-free h l p q r =
+      let g = eq-eqb (getD s i 0) 2 h in
+      let m = eq-eqb (getD s j 0) 2 l in
+      r ∙ rw (rw e at g, rw f at m, q, p, e, f)
+
+-- masses set to zero are ready for the entries
+pub fill-ready : {F : Field} {s : List ℕ} {w w' : List Float} → Massable F s w → w' ≡ cleared zero64 w → Massable F s w' × (w' ≡ cleared zero64 w')
+fill-ready {F} {s} {w} {w'} R e =
+    let n : length w' ≡ length w = ap length e ∙ length-replicate (length w) zero64 in
+    (record { shaped = R .shaped; values-long = R .values-long; masses-long = n ∙ R .masses-long }, e ∙ ap (λ (k : ℕ). replicate k zero64) (sym n))
+
+pub massed-start : {F : Field} {s : List ℕ} {w : List Float} → Massable F s w → w ≡ cleared zero64 w → Massed F s w 0
+unfolding massTo
+massed-start {F} {s} {w} R e = record {
+  ready = R;
+  within = omega arith;
+  masses = λ i h. ap (λ (l : List Float). getD l i nan) e ∙ getD-replicate (length w) i zero64 nan (omega (arith, R .masses-long));
+}
+
+module _ {F : Field} {s : List ℕ} {w : List Float} {k : ℕ} (M : Massed F s w k) (h : k < entries F) where
+  entry-at : (i : ℕ) → i < variables F → getD (addEntry F s w k) i nan ≡ massTo F s i (suc k)
+  unfolding addEntry massTo massAtEntry
+  entry-at i g = go (bothFree F s k)
+    where
+      go : (b : Bool) → getD (cond b (added (added w (rowEnd F k) (magnitude (quadOf F k))) (columnEnd F k) (magnitude (quadOf F k))) w) i nan
+          ≡ cond b (massAtEnd i (columnEnd F k) (magnitude (quadOf F k)) (massAtEnd i (rowEnd F k) (magnitude (quadOf F k)) (massTo F s i k))) (massTo F s i k)
+      go true =
+          added-at (added w (rowEnd F k) (magnitude (quadOf F k))) (columnEnd F k) i (magnitude (quadOf F k))
+          (omega (arith, added-long w (rowEnd F k) (magnitude (quadOf F k)), M .ready .masses-long, M .ready .shaped .column-below k h))
+          ∙ ap (massAtEnd i (columnEnd F k) (magnitude (quadOf F k)))
+          (added-at w (rowEnd F k) i (magnitude (quadOf F k)) (omega (arith, M .ready .masses-long, M .ready .shaped .row-below k h))
+          ∙ ap (massAtEnd i (rowEnd F k) (magnitude (quadOf F k))) (M .masses i g))
+      go false = M .masses i g
+
+  pub massed-turn : {w' : List Float} → w' ≡ addEntry F s w k → Massed F s w' (k + 1)
+  massed-turn e = rw e record {
+    ready = record { shaped = M .ready .shaped; values-long = M .ready .values-long; masses-long = entry-long F s w k ∙ M .ready .masses-long };
+    within = omega arith;
+    masses = λ i g. let z : suc k ≡ k + 1 = omega arith in entry-at i g ∙ ap (massTo F s i) z;
+  }
+
+pub massed-done : {F : Field} {s : List ℕ} {w : List Float} {k : ℕ} → Massed F s w k → entries F ≤ k → Massed F s w (entries F)
+massed-done {F} {k = k} M h = let e : k ≡ entries F = omega (arith, M .within) in rw e at M
+
+-- ---- the free variables in a list
+
+pub free-below : (s : List ℕ) (n : ℕ) → Every (λ i. i < n) (freeBelow s n)
+unfolding freeBelow
+free-below s zero = tt
+free-below s (suc n) = every-append (λ i. i < suc n) (freeBelow s n) _ (wider (freeBelow s n) (free-below s n)) (go (freeIn s n))
+  where
+    wider : (l : List ℕ) → Every (λ i. i < n) l → Every (λ i. i < suc n) l
+    wider [] h = tt
+    wider (x ∷ l) h = (omega (arith, h .0), wider l (h .1))
+
+    go : (b : Bool) → Every (λ i. i < suc n) (cond b (n ∷ []) [])
+    go true = (omega arith, tt)
+    go false = tt
+
+pub one-more : (count v : ℕ) → v ≡ 2 → count + 1 ≡ count + cond (eqb v 2) 1 0
+one-more count v h = rw (eq-eqb v 2 h)
+
+pub no-more : (count v : ℕ) → (v ≡ 2 → ⊥) → count ≡ count + cond (eqb v 2) 1 0
+no-more count v h = rw (ne-eqb v 2 h) (omega arith)
+
+pub listed-start : (s : List ℕ) (at n : ℕ) (u : List ℕ) → Listed s at n u u 0 0
+unfolding freeBelow region
+listed-start s at n u = record {
+  outside = record { long = refl; below = λ t h. refl; above = λ t h. refl };
+  fewer = omega arith;
+  within = omega arith;
+  listed = refl;
+}
+
+pub listed-turn : {s : List ℕ} {at n : ℕ} {u₀ u u' : List ℕ} {i count r : ℕ} → Listed s at n u₀ u i count → i < n → at + n ≤ length u₀
+    → u' ≡ set u (at + count) i → r ≡ count + cond (eqb (getD s i 0) 2) 1 0 → Listed s at n u₀ u' (i + 1) r
+unfolding freeBelow
+listed-turn {s} {at} {n} {u₀} {u} {u'} {i} {count} {r} L h room e f = rw e (go (eqb (getD s i 0) 2) refl f)
+  where
+    z : suc i ≡ i + 1
+    z = omega arith
+
+    outside : Outside at (at + n) u₀ (set u (at + count) i)
+    outside = record {
+      long = length-set u (at + count) i ∙ L .outside .long;
+      below = λ t g. getD-set-other u (at + count) t i 0 (λ z. omega arith) ∙ L .outside .below t g;
+      above = λ t g. getD-set-other u (at + count) t i 0 (λ z. omega (arith, L .fewer)) ∙ L .outside .above t g;
+    }
+
+    go : (b : Bool) → eqb (getD s i 0) 2 ≡ b → r ≡ count + cond b 1 0 → Listed s at n u₀ (set u (at + count) i) (i + 1) r
+    go true p f = let q : r ≡ count + 1 = f in rw q record {
+      outside = outside;
+      fewer = omega (arith, L .fewer);
+      within = omega arith;
+      listed = region-next at count u i (omega (arith, L .outside .long, L .fewer)) ∙ rw (sym z, p, L .listed);
+    }
+    go false p f = let q : r ≡ count = omega (arith, f) in rw q record {
+      outside = outside;
+      fewer = omega (arith, L .fewer);
+      within = omega arith;
+      listed = region-above at count u (at + count) i (omega arith) ∙ L .listed ∙ rw (sym z, p) (sym (nil-right (freeBelow s i)));
+    }
+
+pub listed-done : {s : List ℕ} {at n : ℕ} {u₀ u : List ℕ} {i count : ℕ} → Listed s at n u₀ u i count → n ≤ i → Listed s at n u₀ u n count
+listed-done {n = n} {i = i} L h = let e : i ≡ n = omega (arith, L .within) in rw e at L

@@ -1,0 +1,4 @@
+pub mod Ranking
+pub mod Sorting
+pub mod Masses
+pub mod Rightly

@@ -1,0 +1,4 @@
+pub mod Scanned
+pub mod Search
+pub mod Order
+pub mod Merged

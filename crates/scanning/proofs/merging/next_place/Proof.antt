@@ -1,0 +1,108 @@
+-- `next_place` goes on until a place has the end and a large enough other end. Assumes nothing.
+use Prim.Native.Nat.{_-_}
+use native.Mathlib.Omega.{arith}
+use Rattle.scanning.specs.Merge.{nearAt, farAt}
+use Rattle.scanning.proofs.Search.{Searching, search-start, search-none, place-hit, place-miss}
+use borrow.Author.Needs.{needs}
+use Rattle.scanning.proofs.merging.next_place.Statement.{statement}
+use Rattle.scanning.proofs.merging.next_place.Tie as tie
+
+abbrev Inv-loop : tie.InvT-loop
+Inv-loop near far u from at end i b n p₀ p = Searching (nearAt near u from i) (farAt far u from) b at end p
+
+abbrev μ-loop : tie.MeasureT-loop
+μ-loop near far u from at end i b n p₀ p = end - p
+
+loop-holds : tie.Need-loop-holds Inv-loop μ-loop
+loop-holds c = search-start (c .before .before .before .pre .start)
+
+add-wide-word : tie.Need-add-wide-word Inv-loop μ-loop
+add-wide-word c = omega (arith, c .before .before .before .before .before .pre .room, c .loop-test .taken)
+
+mul-wide-word : tie.Need-mul-wide-word Inv-loop μ-loop
+mul-wide-word c = omega (arith, c .before .before .before .before .before .pre .room, c .loop-test .taken)
+
+shared-slice-read-wide-word : tie.Need-shared-slice-read-wide-word Inv-loop μ-loop
+shared-slice-read-wide-word c = omega (arith, c .before .before .before .before .before .before .pre .room, c .before .loop-test .taken)
+
+wide-word-requires : tie.Need-wide-word-requires Inv-loop μ-loop
+wide-word-requires c κs = search needs
+
+picks-requires : tie.Need-picks-requires Inv-loop μ-loop
+picks-requires c κs =
+    let h = c .before .before .before .before .before .before .before .pre .entry _ (c .before .before .before .loop .inv .from) (c .before .before .loop-test .taken) in
+    (omega (arith, h, c .wide-word .ensures), omega (arith, h, c .wide-word .ensures, c .before .before .before .before .before .before .before .pre .same))
+
+mul-wide-short : tie.Need-mul-wide-short Inv-loop μ-loop
+mul-wide-short c =
+    let at-wide-word = c .before .before in
+    let at-loop-test = at-wide-word .before .before in
+    let at-loop = at-loop-test .before in
+    let start = at-loop .before .before .before .before in
+    let h = start .pre .entry _ (at-loop .loop .inv .from) (at-loop-test .loop-test .taken) in
+    omega (arith, h, at-wide-word .wide-word .ensures, start .pre .same)
+
+shared-slice-read-wide-short : tie.Need-shared-slice-read-wide-short Inv-loop μ-loop
+shared-slice-read-wide-short c =
+    let at-wide-word = c .before .before .before in
+    let at-loop-test = at-wide-word .before .before in
+    let at-loop = at-loop-test .before in
+    let start = at-loop .before .before .before .before in
+    let h = start .pre .entry _ (at-loop .loop .inv .from) (at-loop-test .loop-test .taken) in
+    omega (arith, h, at-wide-word .wide-word .ensures, start .pre .same)
+
+wide-short-requires : tie.Need-wide-short-requires Inv-loop μ-loop
+wide-short-requires c κs = search needs
+
+returns : tie.Need-returns Inv-loop μ-loop
+returns c =
+    let at-if1 = c .before .before in
+    let at-picks = at-if1 .before in
+    let at-wide-word = at-picks .before in
+    let at-loop-test = at-wide-word .before .before in
+    let at-loop = at-loop-test .before in
+    let at-args = at-loop .before .before .before .before in
+    let a = at-args .args in
+    place-hit (a .near .now) (a .far .now) (a .u .now) (a .from) (a .i) (at-loop .loop .inv) (at-loop-test .loop-test .taken) _ (at-wide-word .wide-word .ensures) (at-picks .picks .ensures)
+    (at-if1 .if1 .taken) (c .wide-short .ensures)
+
+add-p : tie.Need-add-p Inv-loop μ-loop
+add-p c = search needs
+
+loop-less : tie.Need-loop-less Inv-loop μ-loop
+loop-less c = search needs
+
+loop-again : tie.Need-loop-again Inv-loop μ-loop
+loop-again c =
+    let at-picks = c .before in
+    let at-wide-word = at-picks .before in
+    let at-loop-test = at-wide-word .before .before in
+    let at-loop = at-loop-test .before in
+    let at-args = at-loop .before .before .before .before in
+    let a = at-args .args in
+    place-miss (a .near .now) (a .far .now) (a .u .now) (a .from) (a .i) (at-loop .loop .inv) (at-loop-test .loop-test .taken) _ (at-wide-word .wide-word .ensures)
+    (at-picks .picks .ensures) (c .if1 .left)
+
+returns-2 : tie.Need-returns-2 Inv-loop μ-loop
+returns-2 c = search-none (c .before .loop .inv) (c .loop-test .left)
+
+pub next-place-spec : {M : Type 1} → statement M
+next-place-spec =
+    tie.close
+    (tie.spec
+    Inv-loop
+    μ-loop
+    loop-holds
+    add-wide-word
+    mul-wide-word
+    shared-slice-read-wide-word
+    wide-word-requires
+    picks-requires
+    mul-wide-short
+    shared-slice-read-wide-short
+    wide-short-requires
+    returns
+    add-p
+    loop-less
+    loop-again
+    returns-2)

@@ -1,0 +1,3 @@
+pub mod Parts
+pub mod Thinning
+pub mod Numbers

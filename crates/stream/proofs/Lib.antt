@@ -1,0 +1,2 @@
+pub mod NotNan
+pub mod Taken

@@ -1,0 +1,49 @@
+-- `fill_bytes` sets one element a turn. Assumes nothing.
+use Prim.Native.Nat.{_-_}
+use native.Mathlib.Omega.{arith}
+use Rattle.scratch.specs.Cleared.{ClearedTo}
+use Rattle.scratch.proofs.Cleared.{clear-start, clear-turn, clear-done}
+use borrow.Author.Needs.{needs}
+use Rattle.stream.proofs.lists.fill_bytes.Statement.{statement}
+use Rattle.stream.proofs.lists.fill_bytes.Tie as tie
+
+abbrev Inv-loop : tie.InvT-loop
+Inv-loop bytes₀ x i₀ i-end bytes i = ClearedTo x bytes₀ bytes i
+
+abbrev μ-loop : tie.MeasureT-loop
+μ-loop bytes₀ x i₀ i-end bytes i = i-end - i
+
+loop-holds : tie.Need-loop-holds Inv-loop μ-loop
+loop-holds c = clear-start _ _
+
+slice-write-bytes : tie.Need-slice-write-bytes Inv-loop μ-loop
+slice-write-bytes c = search needs
+
+add-i : tie.Need-add-i Inv-loop μ-loop
+add-i c = search needs
+
+loop-less : tie.Need-loop-less Inv-loop μ-loop
+loop-less c = search needs
+
+loop-again : tie.Need-loop-again Inv-loop μ-loop
+loop-again c = clear-turn _ _ (c .before .loop .inv) (omega arith)
+
+same-length : tie.Need-same-length Inv-loop μ-loop
+same-length c = omega arith
+
+returns : tie.Need-returns Inv-loop μ-loop
+returns c = clear-done _ _ (c .before .loop .inv) (omega arith)
+
+pub fill-bytes-spec : {M : Type 1} → statement M
+fill-bytes-spec =
+    tie.close
+    (tie.spec
+    Inv-loop
+    μ-loop
+    loop-holds
+    slice-write-bytes
+    add-i
+    loop-less
+    loop-again
+    same-length
+    returns)

@@ -1,0 +1,53 @@
+-- `fill_floats` sets one element a turn. Assumes nothing.
+use Prim.Native.Nat.{_-_}
+use native.Mathlib.Omega.{arith}
+use Rattle.scratch.specs.Cleared.{ClearedTo}
+use Rattle.scratch.proofs.Cleared.{clear-start, clear-turn, clear-done}
+use borrow.Author.Needs.{needs}
+use Rattle.stream.proofs.lists.fill_floats.Statement.{statement}
+use Rattle.stream.proofs.lists.fill_floats.Tie as tie
+
+abbrev Inv-loop : tie.InvT-loop
+Inv-loop floats₀ x i₀ i-end floats i = ClearedTo x floats₀ floats i
+
+abbrev μ-loop : tie.MeasureT-loop
+μ-loop floats₀ x i₀ i-end floats i = i-end - i
+
+loop-holds : tie.Need-loop-holds Inv-loop μ-loop
+loop-holds c = clear-start _ _
+
+mul-floats : tie.Need-mul-floats Inv-loop μ-loop
+mul-floats c = search needs
+
+slice-write-floats : tie.Need-slice-write-floats Inv-loop μ-loop
+slice-write-floats c = search needs
+
+add-i : tie.Need-add-i Inv-loop μ-loop
+add-i c = search needs
+
+loop-less : tie.Need-loop-less Inv-loop μ-loop
+loop-less c = search needs
+
+loop-again : tie.Need-loop-again Inv-loop μ-loop
+loop-again c = clear-turn _ _ (c .before .loop .inv) (omega arith)
+
+same-length : tie.Need-same-length Inv-loop μ-loop
+same-length c = omega arith
+
+returns : tie.Need-returns Inv-loop μ-loop
+returns c = clear-done _ _ (c .before .loop .inv) (omega arith)
+
+pub fill-floats-spec : {M : Type 1} → statement M
+fill-floats-spec =
+    tie.close
+    (tie.spec
+    Inv-loop
+    μ-loop
+    loop-holds
+    mul-floats
+    slice-write-floats
+    add-i
+    loop-less
+    loop-again
+    same-length
+    returns)

@@ -1,0 +1,59 @@
+-- `same_bytes` tests one element a turn. Assumes nothing.
+use Prim.Native.Nat.{_+_, _-_}
+use lib.Dec.{eqb}
+use borrow.Author.Tests.{eq-eqb, ne-eqb}
+use lib.ListN.{length, getD}
+use Rattle.scratch.specs.All.{Passing}
+use Rattle.scratch.proofs.All.{all-start, all-turn, all-stop, all-done}
+use borrow.Author.Needs.{needs}
+use Rattle.stream.proofs.lists.same_bytes.Statement.{statement}
+use Rattle.stream.proofs.lists.same_bytes.Tie as tie
+
+abbrev Inv-loop : tie.InvT-loop
+Inv-loop bytes at list i₀ i = Passing (λ j. eqb (getD list j 0) (getD bytes (at + j) 0)) (length list) i
+
+abbrev μ-loop : tie.MeasureT-loop
+μ-loop bytes at list i₀ i = length list - i
+
+loop-holds : tie.Need-loop-holds Inv-loop μ-loop
+loop-holds c = all-start _ _
+
+shared-slice-read-if1 : tie.Need-shared-slice-read-if1 Inv-loop μ-loop
+shared-slice-read-if1 c = search needs
+
+add-if1 : tie.Need-add-if1 Inv-loop μ-loop
+add-if1 c = search needs
+
+shared-slice-read-if1-2 : tie.Need-shared-slice-read-if1-2 Inv-loop μ-loop
+shared-slice-read-if1-2 c = search needs
+
+returns : tie.Need-returns Inv-loop μ-loop
+returns c = all-stop _ _ (search needs) (ne-eqb _ _ (c .if1 .taken))
+
+add-i : tie.Need-add-i Inv-loop μ-loop
+add-i c = search needs
+
+loop-less : tie.Need-loop-less Inv-loop μ-loop
+loop-less c = search needs
+
+loop-again : tie.Need-loop-again Inv-loop μ-loop
+loop-again c = all-turn _ (c .before .before .before .before .loop .inv) (search needs) (eq-eqb _ _ (c .if1 .left))
+
+returns-2 : tie.Need-returns-2 Inv-loop μ-loop
+returns-2 c = all-done _ (c .before .loop .inv) (search needs)
+
+pub same-bytes-spec : {M : Type 1} → statement M
+same-bytes-spec =
+    tie.close
+    (tie.spec
+    Inv-loop
+    μ-loop
+    loop-holds
+    shared-slice-read-if1
+    add-if1
+    shared-slice-read-if1-2
+    returns
+    add-i
+    loop-less
+    loop-again
+    returns-2)

@@ -1,0 +1,123 @@
+-- A write behind the workspace leaves it, and what a probe touched, as it was. Assumes nothing.
+use Prim.Native.Nat.{ℕ, _+_, _-_, _<_, _≤_}
+use mathlib.Core.Path.{_≡_, sym, ap, _∙_}
+use mathlib.Core.Logic.{_⊎_, inl, inr, ⊎-elim}
+use mathlib.Core.List.{List, _++_}
+use native.Mathlib.Omega.{arith}
+use lib.Ieee.{Float}
+use lib.ListN.{length, getD, take}
+use lib.Seq.{paste, take-paste, drop-paste, take-append-le, take-take, getD-append-add, getD-take, getD-drop, length-take-le, ext-getD}
+use Rattle.scratch.specs.Region.{region}
+use Rattle.scratch.proofs.Region.{length-region, region-at}
+use Rattle.field.specs.Field.{Field, variables, StartFor}
+use Rattle.rows.specs.Model.{rowOf}
+use Rattle.rows.specs.Stored.{upTo}
+use Rattle.places.proofs.Walk.{adjacent-front}
+use Rattle.places.proofs.Slices.{front-getD}
+use Rattle.run.specs.Cells.{Cells, cells, base}
+use Rattle.run.proofs.Cells.{placed-start}
+use Rattle.run.proofs.Room.{room-scan}
+use Rattle.probing.specs.Remembered.{candidates, remembered, Remembers, Probes}
+use Rattle.workspace.specs.Restored.{From, Touched}
+use Rattle.twin.specs.Twin.{firstAt}
+
+-- ---- a copy
+
+module _ (u l : List ℕ) (at n : ℕ) (room : at + n ≤ length u) (long : n ≤ length l) where
+  pub paste-front : (d : ℕ) → d ≤ at → take d (paste u at l n) ≡ take d u
+  paste-front d h =
+      let k : length (take at u) ≡ at = length-take-le at u (omega arith) in
+      sym (take-take d (at + n) (paste u at l n) (omega arith))
+      ∙ ap (take d) (take-paste u at l n (omega arith) long)
+      ∙ take-append-le d (take at u) (take n l) (omega arith)
+      ∙ take-take d at u h
+
+  pub paste-inside : (j : ℕ) → j < n → getD (paste u at l n) (at + j) 0 ≡ getD l j 0
+  paste-inside j h =
+      let k : length (take at u) ≡ at = length-take-le at u (omega arith) in
+      sym (getD-take (at + n) (paste u at l n) (at + j) 0 (omega arith))
+      ∙ ap (λ (z : List ℕ). getD z (at + j) 0) (take-paste u at l n (omega arith) long)
+      ∙ ap (λ (z : ℕ). getD (take at u ++ take n l) (z + j) 0) (sym k)
+      ∙ getD-append-add (take at u) (take n l) j 0
+      ∙ getD-take n l j 0 h
+
+  pub paste-behind : (t : ℕ) → at + n ≤ t → getD (paste u at l n) t 0 ≡ getD u t 0
+  paste-behind t h =
+      let e : at + n + (t - (at + n)) ≡ t = omega arith in
+      rw e at (sym (getD-drop (at + n) (paste u at l n) (t - (at + n)) 0)
+      ∙ ap (λ (z : List ℕ). getD z (t - (at + n)) 0) (drop-paste u at l n (omega arith) long)
+      ∙ getD-drop (at + n) u (t - (at + n)) 0)
+
+-- what is the same up to d has one front
+pub front-by : (d : ℕ) (u u′ : List ℕ) → d ≤ length u → length u′ ≡ length u → ((p : ℕ) → p < d → getD u′ p 0 ≡ getD u p 0) → take d u′ ≡ take d u
+front-by d u u′ h long same =
+    let a = length-take-le d u′ (omega arith) in
+    ext-getD 0 (take d u′) (take d u) (a ∙ sym (length-take-le d u h))
+    (λ p l. let k : p < d = omega (arith, l, a) in getD-take d u′ p 0 k ∙ same p k ∙ sym (getD-take d u p 0 k))
+
+-- ---- the workspace
+
+pub candidates-few : (F : Field) (s : List ℕ) → StartFor (variables F) s → length (candidates F s) ≤ variables F
+unfolding candidates remembered
+candidates-few F s start = omega (arith, room-scan F (upTo (rowOf F s) (variables F)) start (variables F) .count)
+
+module _ (F : Field) (u u′ : List ℕ) (front : take (firstAt F) u′ ≡ take (firstAt F) u) (long : length u′ ≡ length u) where
+  front-base : take (base F) u′ ≡ take (base F) u
+  front-base = sym (take-take (base F) (firstAt F) u′ (omega arith)) ∙ ap (take (base F)) front ∙ take-take (base F) (firstAt F) u (omega arith)
+
+  pub remembers-front : {s : List ℕ} {f : List Float} {many : ℕ} → Remembers F s f u many → Remembers F s f u′ many
+  remembers-front {s} {f} {many} R =
+      let few : many ≤ variables F = omega (arith, R .count, candidates-few F s (R .start)) in
+      let a = base F + variables F in record {
+        placed = placed-start (R .placed .shaped) (R .start .long) (R .placed .floats-room) (adjacent-front front-base long (R .placed .adjacent)) (omega (arith, R .placed .words-room, long));
+        standard = R .standard;
+        start = R .start;
+        rows = R .rows;
+        copy = R .copy;
+        copy-room = R .copy-room;
+        list-room = omega (arith, R .list-room, long);
+        count = R .count;
+        listed = ext-getD 0 (region a many u′) (region a many u)
+            (length-region a many u′ (omega (arith, few, R .list-room, long)) ∙ sym (length-region a many u (omega (arith, few, R .list-room))))
+            (λ j h. let k : j < many = omega (arith, h, length-region a many u′ (omega (arith, few, R .list-room, long))) in
+            region-at a many u′ j 0 k ∙ front-getD (firstAt F) u′ u front (a + j) (omega (arith, few)) ∙ sym (region-at a many u j 0 k)) ∙ R .listed;
+      }
+
+  from-front : {k j : ℕ} → k ≤ variables F → From u (base F) k 0 j → From u′ (base F) k 0 j
+  from-front few w = record {
+    place = w .place;
+    low = w .low;
+    high = w .high;
+    holds = front-getD (firstAt F) u′ u front (base F + w .place) (omega (arith, w .high)) ∙ w .holds;
+  }
+
+  pub touched-front : {s vs : List ℕ} {f : List Float} {i k : ℕ} → Touched F s i (cells vs f u k) → Touched F s i (cells vs f u′ k)
+  touched-front {k = k} T =
+      let few : k ≤ variables F = omega (arith, T .placed .queue-room) in record {
+        placed = record {
+          shaped = T .placed .shaped;
+          values-long = T .placed .values-long;
+          floats-room = T .placed .floats-room;
+          adjacent = adjacent-front front-base long (T .placed .adjacent);
+          words-room = omega (arith, T .placed .words-room, long);
+          queue-room = T .placed .queue-room;
+          queue-below = λ h l. rw (front-getD (firstAt F) u′ u front (base F + h) (omega arith)) (T .placed .queue-below h l);
+        };
+        start-long = T .start-long;
+        here = T .here;
+        values = λ j. ⊎-elim inl (λ w. inr (⊎-elim inl (λ m. inr (from-front few m)) w)) (T .values j);
+        rowed = record {
+          rows = λ t h. ⊎-elim inl
+              (λ r. inr (record { variable = r .variable; fixed = ⊎-elim inl (λ m. inr (from-front few m)) (r .fixed); joined = r .joined }))
+              (T .rowed .rows t h);
+          copy = T .rowed .copy;
+          room = T .rowed .room;
+        };
+      }
+
+-- a probe writes nothing behind its queue
+pub probe-behind : {F : Field} {s : List ℕ} {i v : ℕ} {a c : Cells} → Probes F s i v a c → (t : ℕ) → base F + variables F ≤ t → getD (c .words) t 0 ≡ getD (a .words) t 0
+probe-behind {F} {a = a} {c = c} P t h =
+    let d = base F + c .tail in
+    let e : d + (t - d) ≡ t = omega (arith, P .kept .placed .queue-room) in
+    rw e at (sym (getD-drop d (c .words) (t - d) 0) ∙ ap (λ (z : List ℕ). getD z (t - d) 0) (P .kept .words-rest) ∙ getD-drop d (a .words) (t - d) 0)

@@ -1,0 +1,214 @@
+-- One candidate more, a flush, and the end of the walk. Assumes nothing.
+use Prim.Native.Nat.{ℕ, zero, suc, _+_, _-_, _<_, _≤_}
+use mathlib.Core.Path.{_≡_, refl, sym, ap, _∙_}
+use mathlib.Core.Bool.{Bool, true, false, cond}
+use mathlib.Core.List.{List, List·Memᴰ}
+use native.Mathlib.Numerals.{add-one}
+use native.Mathlib.Nat.{le-refl, add-zero, add-suc}
+use native.Mathlib.Omega.{arith}
+use borrow.Author.Tests.{leb-true}
+use lib.Dec.{leb}
+use lib.Ieee.{Float}
+use lib.ListN.{length, getD, take, replicate}
+use lib.Seq.{ext-getD, take-take}
+use Rattle.scratch.specs.Region.{region}
+use Rattle.scratch.proofs.Region.{length-region, region-at}
+use Rattle.constraints.specs.Triple.{Triple, room}
+use Rattle.constraints.specs.Sorted.{sortedSet}
+use Rattle.sorting.specs.Numbers.{distinctAt}
+use Rattle.sorting.proofs.Numbers.{distinct-front, distinct-long}
+use Rattle.found.specs.declared.Merged.{Merged}
+use Rattle.found.specs.declared.Merged.the-variants.{Holds, Full}
+use Rattle.found.specs.Flush.{Left, left, flushed}
+use Rattle.found.specs.Holding.{Gathering}
+use Rattle.found.proofs.Gathering.{gathering-start, gathering-flush, gathering-full, gathering-done, gathering-count}
+use Rattle.found.proofs.Holding.{stays-full, words-left}
+use Rattle.field.specs.Field.{Field, variables}
+use Rattle.rows.proofs.Upto.{length-upTo, getD-upTo}
+use Rattle.places.proofs.Slices.{front-getD}
+use Rattle.twin.specs.Finds.{wins, finding, valuesAfter, constraintsOf, valuesOf}
+use Rattle.twin.specs.Twin.{firstAt, valuesAt, Twinnable, Twinned}
+use Rattle.twin.proofs.Entering.{to-more}
+use Rattle.twin.proofs.Framed.{remembers-front}
+use Rattle.walking.specs.Walk.{candidatesAt, gatherAt, roomed, endAfter, heldOf, Walkable, Stands, Walks, Walked, holds, full}
+
+-- ---- the model
+
+length-replicate : (n x : ℕ) → length (replicate n x) ≡ n
+length-replicate zero x = refl
+length-replicate (suc n) x = ap suc (length-replicate n x)
+
+getD-replicate : (n x j : ℕ) → j < n → getD (replicate n x) j 0 ≡ x
+getD-replicate zero x j h = absurd (omega arith)
+getD-replicate (suc n) x zero h = refl
+getD-replicate (suc n) x (suc j) h = getD-replicate n x j (omega arith)
+
+module _ (F : Field) (s cands : List ℕ) where
+  pub values-long : (k : ℕ) → length (valuesOf F s cands k) ≡ variables F
+  unfolding valuesOf valuesAfter
+  values-long zero = length-replicate (variables F) 2
+  values-long (suc k) = length-upTo _ (length (valuesOf F s cands k)) ∙ values-long k
+
+  value-next : (k j : ℕ) → j < variables F → getD (valuesOf F s cands (suc k)) j 0 ≡ wins (finding F s (getD cands k 0) j) (getD (valuesOf F s cands k) j 0)
+  unfolding valuesOf valuesAfter
+  value-next k j h = getD-upTo (λ j. wins (finding F s (getD cands k 0) j) (getD (valuesOf F s cands k) j 0)) (length (valuesOf F s cands k)) j 0 (omega (arith, values-long k))
+
+-- what was found stays found
+found-more : (F : Field) (s cands : List ℕ) (k d : ℕ) (x : Triple) → List·Memᴰ x (constraintsOf F s cands k) → List·Memᴰ x (constraintsOf F s cands (k + d))
+unfolding constraintsOf
+found-more F s cands k zero x m = rw (add-zero k) m
+found-more F s cands k (suc d) x m =
+    rw (add-suc k d) (to-more (finding F s (getD cands (k + d) 0)) (constraintsOf F s cands (k + d)) (variables F) x (found-more F s cands k d x m))
+
+-- ---- the start
+
+module _ {F : Field} {s : List ℕ} {f : List Float} {u : List ℕ} {many count : ℕ} (W : Walkable F s f u many count) where
+  pub stands-start : Stands F s f many (region (candidatesAt F) count u) 0 u
+  unfolding valuesOf
+  stands-start =
+      let cands = region (candidatesAt F) count u in
+      let long : length cands ≡ count = length-region (candidatesAt F) count u (omega (arith, W .within, W .space)) in record {
+        remembers = W .remembers;
+        few = W .few;
+        space = W .space;
+        first = W .first;
+        values = λ j h. W .none j h ∙ sym (getD-replicate (variables F) 2 j h);
+        listed = λ h l. sym (region-at (candidatesAt F) count u h 0 (omega (arith, l, long)));
+        within = omega (arith, W .within, long);
+        free = λ h l. rw (region-at (candidatesAt F) count u h 0 (omega (arith, l, long))) (W .free h (omega (arith, l, long)));
+      }
+
+  pub walks-start : (list : List ℕ) → Walks F s f many (region (candidatesAt F) count u) 0 list list 0 u (gatherAt F)
+  unfolding constraintsOf
+  walks-start list = record { stands = stands-start; gathers = gathering-start (gatherAt F) list u (omega (arith, W .space)) }
+
+-- ---- one candidate more
+
+module _ {F : Field} {s : List ℕ} {f : List Float} {many : ℕ} {cands : List ℕ} {k : ℕ} {u : List ℕ} (W : Stands F s f many cands k u) where
+  -- the end: the probe values
+  pub stands-values : region (valuesAt F) (variables F) u ≡ valuesOf F s cands k
+  stands-values =
+      let long = length-region (valuesAt F) (variables F) u (omega (arith, W .space)) in
+      ext-getD 0 (region (valuesAt F) (variables F) u) (valuesOf F s cands k) (long ∙ sym (values-long F s cands k))
+      (λ j h. region-at (valuesAt F) (variables F) u j 0 (omega (arith, h, long)) ∙ W .values j (omega (arith, h, long)))
+
+  module _ {i : ℕ} (here : i ≡ getD u (candidatesAt F + k) 0) (more : k < length cands) where
+    is-candidate : i ≡ getD cands k 0
+    is-candidate = here ∙ W .listed k more
+
+    pub stands-twinnable : Twinnable F s f u many i
+    stands-twinnable = record { remembers = W .remembers; few = W .few; free = rw is-candidate (W .free k more); first = W .first; room = omega (arith, W .space) }
+
+    module _ {end r : ℕ} {u′ : List ℕ} (T : Twinned F s f many i u end u′ r) where
+      pub stands-twin : Stands F s f many cands (k + 1) u′
+      stands-twin = rw (add-one k) record {
+        remembers = T .remembers;
+        few = W .few;
+        space = omega (arith, W .space, T .long);
+        first = T .first;
+        values = λ j h.
+            T .values j h
+            ∙ ap (wins (finding F s i j)) (W .values j h)
+            ∙ ap (λ (z : ℕ). wins (finding F s z j) (getD (valuesOf F s cands k) j 0)) is-candidate
+            ∙ sym (value-next F s cands k j h);
+        listed = λ h l. T .between h (omega (arith, W .within)) ∙ W .listed h l;
+        within = W .within;
+        free = W .free;
+      }
+
+      pub gathers-twin : {list₀ list : List ℕ} {held : ℕ} → Gathering (constraintsOf F s cands k) (gatherAt F) end held list₀ list u
+          → Gathering (constraintsOf F s cands (k + 1)) (gatherAt F) r held list₀ list u′
+      unfolding constraintsOf
+      gathers-twin G = rw (add-one k, ← is-candidate) (T .gathers (le-refl (gatherAt F)) G)
+
+module _ {F : Field} {s : List ℕ} {f : List Float} {many : ℕ} {cands : List ℕ} {k : ℕ} {list₀ list : List ℕ} {held : ℕ} {u : List ℕ} {end : ℕ}
+    (W : Walks F s f many cands k list₀ list held u end) where
+  pub walks-twin : {i : ℕ} → i ≡ getD u (candidatesAt F + k) 0 → k < length cands → {u′ : List ℕ} {r : ℕ} → Twinned F s f many i u end u′ r
+      → Walks F s f many cands (k + 1) list₀ list held u′ r
+  walks-twin here more T = record { stands = stands-twin (W .stands) here more T; gathers = gathers-twin (W .stands) here more T (W .gathers) }
+
+  -- ---- a flush
+
+  walks-front : {list′ u′ : List ℕ} {held′ end′ : ℕ} → take (gatherAt F) u′ ≡ take (gatherAt F) u → length u′ ≡ length u
+      → Gathering (constraintsOf F s cands k) (gatherAt F) end′ held′ list₀ list′ u′ → Walks F s f many cands k list₀ list′ held′ u′ end′
+  walks-front {u′ = u′} front long G =
+      let S = W .stands in
+      let cut : (w : List ℕ) → take (firstAt F) (take (gatherAt F) w) ≡ take (firstAt F) w = λ w. take-take (firstAt F) (gatherAt F) w (omega arith) in record {
+        stands = record {
+          remembers = remembers-front F u u′ (sym (cut u′) ∙ ap (take (firstAt F)) front ∙ cut u) long (S .remembers);
+          few = S .few;
+          space = omega (arith, S .space, long);
+          first = λ j h. front-getD (gatherAt F) u′ u front (firstAt F + j) (omega arith) ∙ S .first j h;
+          values = λ j h. front-getD (gatherAt F) u′ u front (valuesAt F + j) (omega arith) ∙ S .values j h;
+          listed = λ h l. front-getD (gatherAt F) u′ u front (candidatesAt F + h) (omega (arith, S .within)) ∙ S .listed h l;
+          within = S .within;
+          free = S .free;
+        };
+        gathers = G;
+      }
+
+  -- no room for what was found so far is no room for all
+  all-full : k ≤ length cands → room list₀ < length (sortedSet (constraintsOf F s cands k)) → room list₀ < length (sortedSet (constraintsOf F s cands (length cands)))
+  all-full h l =
+      let e : k + (length cands - k) ≡ length cands = omega arith in
+      rw e at (stays-full (room list₀) (constraintsOf F s cands k) (constraintsOf F s cands (k + (length cands - k))) l (λ x m. found-more F s cands k (length cands - k) x m))
+
+  module _ {x : Left} (e : x ≡ flushed list held u (gatherAt F) end) where
+    flushed-words : x .words ≡ distinctAt (gatherAt F) end u
+    flushed-words = words-left (W .gathers .holding) (W .gathers .keys) (rw (W .gathers .count) at e)
+
+    pub walks-flush : {m : ℕ} → x .answer ≡ Holds m → Walks F s f many cands k list₀ (x .list) m (x .words) (gatherAt F)
+    walks-flush a =
+        let K = W .gathers .keys in
+        walks-front (ap (take (gatherAt F)) flushed-words ∙ distinct-front (gatherAt F) end u (omega (arith, K .order, K .room)))
+        (ap length flushed-words ∙ distinct-long (gatherAt F) end u K) (gathering-flush (W .gathers) e a)
+
+    pub walks-full : k ≤ length cands → x .answer ≡ Full → room list₀ < length (sortedSet (constraintsOf F s cands (length cands)))
+    walks-full h a = all-full h (gathering-full (W .gathers) e a)
+
+  -- ---- room for one candidate
+
+  module _ {x : Left} (e : x ≡ roomed list held u (gatherAt F) end (variables F)) where
+    roomed-by : (b : Bool) → leb (variables F) (length u - end) ≡ b → x ≡ cond b (left (Holds held) list u) (flushed list held u (gatherAt F) end)
+    unfolding roomed
+    roomed-by b q = rw q at e
+
+    pub roomed-walks : {m : ℕ} → x .answer ≡ Holds m → Walks F s f many cands k list₀ (x .list) (heldOf (x .answer)) (x .words) (endAfter (length u) (gatherAt F) end (variables F))
+    unfolding endAfter heldOf
+    roomed-walks {m} a = go (leb (variables F) (length u - end)) refl
+      where
+        go : (b : Bool) → leb (variables F) (length u - end) ≡ b → Walks F s f many cands k list₀ (x .list) (heldOf (x .answer)) (x .words) (cond b end (gatherAt F))
+        go true q = rw (roomed-by true q) W
+        go false q = rw a (walks-flush (roomed-by false q) a)
+
+    pub roomed-enough : {m : ℕ} → x .answer ≡ Holds m → endAfter (length u) (gatherAt F) end (variables F) + variables F ≤ length (x .words)
+    unfolding endAfter
+    roomed-enough {m} a = go (leb (variables F) (length u - end)) refl
+      where
+        go : (b : Bool) → leb (variables F) (length u - end) ≡ b → cond b end (gatherAt F) + variables F ≤ length (x .words)
+        go true q = rw (roomed-by true q) (omega (arith, leb-true (variables F) (length u - end) q, W .gathers .keys .room))
+        go false q = walks-flush (roomed-by false q) a .stands .space
+
+    pub roomed-full : k ≤ length cands → x .answer ≡ Full → room list₀ < length (sortedSet (constraintsOf F s cands (length cands)))
+    roomed-full h a = go (leb (variables F) (length u - end)) refl
+      where
+        held-full : Holds held ≡ Full → room list₀ < length (sortedSet (constraintsOf F s cands (length cands)))
+        held-full z = let y : _≡_ {A = ℕ} 0 1 = cc in absurd (omega arith)
+
+        go : (b : Bool) → leb (variables F) (length u - end) ≡ b → room list₀ < length (sortedSet (constraintsOf F s cands (length cands)))
+        go true q = held-full (sym (ap (λ (z : Left). z .answer) (roomed-by true q)) ∙ a)
+        go false q = walks-full (roomed-by false q) h a
+
+-- ---- the end
+
+module _ {F : Field} {s : List ℕ} {f : List Float} {many : ℕ} {cands list₀ list : List ℕ} {held : ℕ} {u : List ℕ} {end : ℕ}
+    (W : Walks F s f many cands (length cands) list₀ list held u end) {x : Left} (e : x ≡ flushed list held u (gatherAt F) end) where
+  pub walks-done : Walked F s cands list₀ (x .answer) (x .list) (x .words)
+  walks-done = go (x .answer) refl
+    where
+      go : (a : Merged) → x .answer ≡ a → Walked F s cands list₀ a (x .list) (x .words)
+      go (Holds m) q =
+          let Z = walks-flush W e q in
+          let H = gathering-done (Z .gathers) in
+          rw (gathering-count (Z .gathers)) (holds (H .fits) (H .is) (stands-values (Z .stands)))
+      go Full q = full (walks-full W e (le-refl (length cands)) q)

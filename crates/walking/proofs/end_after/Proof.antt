@@ -1,0 +1,20 @@
+-- `end_after` asks whether n places are left. Assumes nothing.
+use borrow.Author.Tests.{le-leb, lt-leb}
+use borrow.Author.Needs.{needs}
+use Rattle.walking.specs.Walk.{endAfter}
+use Rattle.walking.proofs.end_after.Statement.{statement}
+use Rattle.walking.proofs.end_after.Tie as tie
+
+sub-if1 : tie.Need-sub-if1
+sub-if1 c = search needs
+
+returns : tie.Need-returns
+unfolding endAfter
+returns c = rw (le-leb _ _ (c .if1 .taken))
+
+returns-2 : tie.Need-returns-2
+unfolding endAfter
+returns-2 c = rw (lt-leb _ _ (c .if1 .left))
+
+pub end-after-spec : {M : Type 1} → statement M
+end-after-spec = tie.close (tie.spec sub-if1 returns returns-2)

@@ -1,0 +1,120 @@
+-- `walk_values` takes one candidate a turn and forgets the numbers. Assumes nothing.
+use Prim.Native.Nat.{_-_}
+use mathlib.Core.Path.{sym, ap, _∙_}
+use lib.ListN.{length}
+use Rattle.field.specs.Field.{fieldOf}
+use Rattle.walking.proofs.Going.{less-next, fits-next, Valuing, valuing-start, valuing-done, valuing-twin, valuing-turn}
+use borrow.Author.Needs.{needs}
+use Rattle.walking.proofs.walk_values.Statement.{statement}
+use Rattle.walking.proofs.walk_values.Tie as tie
+
+abbrev Inv-loop : tie.InvT-loop
+Inv-loop c rows cols q start values₀ f₀ u₀ many count n at lo h₀ values f u h = Valuing (fieldOf c rows cols q) start many count f₀ u₀ values f u h
+
+abbrev μ-loop : tie.MeasureT-loop
+μ-loop c rows cols q start values₀ f₀ u₀ many count n at lo h₀ values f u h = count - h
+
+add-at : tie.Need-add-at Inv-loop μ-loop
+add-at c = search needs
+
+mul-at : tie.Need-mul-at Inv-loop μ-loop
+mul-at c = search needs
+
+add-at-2 : tie.Need-add-at-2 Inv-loop μ-loop
+add-at-2 c = search needs
+
+add-at-3 : tie.Need-add-at-3 Inv-loop μ-loop
+add-at-3 c = search needs
+
+add-at-4 : tie.Need-add-at-4 Inv-loop μ-loop
+add-at-4 c = search needs
+
+add-at-5 : tie.Need-add-at-5 Inv-loop μ-loop
+add-at-5 c = search needs
+
+add-at-6 : tie.Need-add-at-6 Inv-loop μ-loop
+add-at-6 c = search needs
+
+add-lo : tie.Need-add-lo Inv-loop μ-loop
+add-lo c = search needs
+
+add-lo-2 : tie.Need-add-lo-2 Inv-loop μ-loop
+add-lo-2 c = search needs
+
+loop-holds : tie.Need-loop-holds Inv-loop μ-loop
+loop-holds c = valuing-start (c .before .before .before .before .before .before .before .before .pre .0) (c .before .before .before .before .before .before .before .before .pre .1)
+
+add-wide-word : tie.Need-add-wide-word Inv-loop μ-loop
+add-wide-word c = search needs
+
+mul-wide-word : tie.Need-mul-wide-word Inv-loop μ-loop
+mul-wide-word c = search needs
+
+slice-read-wide-word : tie.Need-slice-read-wide-word Inv-loop μ-loop
+slice-read-wide-word c = search needs
+
+wide-word-requires : tie.Need-wide-word-requires Inv-loop μ-loop
+wide-word-requires c κs = search needs
+
+twin-requires : tie.Need-twin-requires Inv-loop μ-loop
+twin-requires c κs = valuing-twin (c .before .before .before .before .before .before .loop .inv) (c .before .before .before .before .before .loop-test .taken) (c .before .before .before .wide-word .ensures)
+
+add-h : tie.Need-add-h Inv-loop μ-loop
+add-h c =
+    record
+    { fits = fits-next (c .before .before .before .before .before .before .before .before .before .before .before .before .loop-test .taken) (c .before .before .before .before .before .before .before .before .before .before .before .before .before .before .before .before .before .before .before .before .before .before .pre .0 .within) (c .before .before .before .before .before .before .before .before .before .before .before .before .before .before .before .before .before .before .before .before .before .before .pre .0 .few) }
+
+loop-less : tie.Need-loop-less Inv-loop μ-loop
+loop-less c = less-next (c .before .before .before .before .before .before .before .before .before .before .before .before .loop-test .taken)
+
+loop-again : tie.Need-loop-again Inv-loop μ-loop
+loop-again c =
+    valuing-turn
+    (c .before .before .before .before .before .before .before .before .before .before .before .before .before .loop .inv)
+    (c .before .before .before .before .before .before .before .before .before .before .before .before .loop-test .taken)
+    (c .before .before .before .before .before .before .before .before .before .before .wide-word .ensures)
+    (c .before .before .before .before .before .before .twin .kept .1 .1 .1 .1 .1 .1 .1 .0)
+    (c .before .before .before .before .before .before .twin .ensures .0)
+    (c .before .before .before .before .before .before .twin .ensures .1 .0)
+    (c .before .before .before .before .before .before .twin .ensures .1 .1)
+
+same-length : tie.Need-same-length Inv-loop μ-loop
+same-length c = ap length (c .before .loop .inv .same ∙ sym (c .before .before .before .before .before .before .before .before .before .before .pre .1))
+
+same-length-2 : tie.Need-same-length-2 Inv-loop μ-loop
+same-length-2 c = ap length (c .before .loop .inv .floats)
+
+same-length-3 : tie.Need-same-length-3 Inv-loop μ-loop
+same-length-3 c = c .before .loop .inv .words-long
+
+returns : tie.Need-returns Inv-loop μ-loop
+returns c = (c .before .loop .inv .same, valuing-done (c .before .loop .inv) (c .loop-test .left))
+
+pub walk-values-spec : {M : Type 1} → statement M
+walk-values-spec =
+    tie.close
+    (tie.spec
+    Inv-loop
+    μ-loop
+    add-at
+    mul-at
+    add-at-2
+    add-at-3
+    add-at-4
+    add-at-5
+    add-at-6
+    add-lo
+    add-lo-2
+    loop-holds
+    add-wide-word
+    mul-wide-word
+    slice-read-wide-word
+    wide-word-requires
+    twin-requires
+    add-h
+    loop-less
+    loop-again
+    same-length
+    same-length-2
+    same-length-3
+    returns)

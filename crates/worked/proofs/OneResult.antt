@@ -1,0 +1,62 @@
+-- Two results that a call's promise permits are equal: the answer, and every lent slice afterwards. Assumes nothing.
+use Prim.Native.Nat.{ℕ}
+use mathlib.Core.Path.{_≡_, sym, _∙_}
+use mathlib.Core.List.{List}
+use lib.Ieee.{Float}
+use Rattle.field.specs.Field.{Field}
+use Rattle.closure.specs.Call as closure
+use Rattle.components.specs.Call as components
+use Rattle.preprocess.specs.Call as preprocess
+use Rattle.heavy.specs.Call as heavy
+use Rattle.no_effect.specs.Call as no-effect
+use Rattle.shift.specs.Call as shift
+use Rattle.anchors.specs.Call as anchors
+use Rattle.pairs.specs.Call as pairs
+use Rattle.probe.specs.Call as probe
+use Rattle.probes.specs.Call as probes
+use Rattle.propagation.specs.Call as propagation
+
+-- what a promise permits is one result
+abbrev pub One : {A : Type 0} → A → Type 0
+One {A} promised = (r r′ : A) → r ≡ promised → r′ ≡ promised → r ≡ r′
+
+-- a promise that is one equation
+pub one : {A : Type 0} {promised : A} → One promised
+one r r′ p q = p ∙ sym q
+
+module _ (F : Field) (s : List ℕ) (f : List Float) (u : List ℕ) where
+  pub closure-one : One (closure.closureCall F s f u)
+  closure-one = one
+
+  pub components-one : One (components.componentsCall F s f u)
+  components-one = one
+
+  pub preprocess-one : One (preprocess.preprocessCall F s f u)
+  preprocess-one = one
+
+  pub heavy-one : One (heavy.heavyCall F s f u)
+  heavy-one = one
+
+  pub anchors-one : (least : ℕ) (list : List ℕ) → One (anchors.anchorsCall F s least list f u)
+  anchors-one least list = one
+
+  pub pairs-one : (limit : ℕ) (list : List ℕ) → One (pairs.pairsCall F s limit list f u)
+  pairs-one limit list = one
+
+  pub probe-one-one : (i v : ℕ) (values : List ℕ) → One (probe.probeOneCall F s i v values f u)
+  probe-one-one i v values = one
+
+  pub probe-one : (values list : List ℕ) → One (probes.probeCall F s values list f u)
+  probe-one values list = one
+
+  pub probe-limited-one : (limit : ℕ) (values list : List ℕ) → One (probes.probeLimitedCall F s limit values list f u)
+  probe-limited-one limit values list = one
+
+  pub no-effect-one : (list : List ℕ) → One (no-effect.noEffectCall F list u)
+  no-effect-one list = one
+
+  pub shift-one : One (shift.shiftCall F)
+  shift-one = one
+
+pub propagate-one : (s list u : List ℕ) → One (propagation.propagateCall s list u)
+propagate-one s list u = one

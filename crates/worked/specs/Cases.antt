@@ -1,0 +1,166 @@
+-- Document 01's values worked by hand, cases a to n, and others beside them: each names its call, what it is given, and its answer. Assumes nothing.
+use Prim.Native.Nat.{ℕ, _+_, _*_}
+use mathlib.Core.List.{List, [], _∷_, _++_}
+use lib.Ieee.{Float}
+use lib.ListN.{length, replicate}
+use Rattle.weights.specs.Worth.{zero64}
+use Rattle.scratch.specs.Cleared.{cleared}
+use Rattle.constraints.specs.Triple.{room}
+use Rattle.field.specs.declared.Grade.{Grade}
+use Rattle.field.specs.declared.Grade.the-variants.{Exact, Inexact}
+use Rattle.field.specs.declared.Refusal.the-variants.{Clash}
+use Rattle.field.specs.declared.Checked.{Checked}
+use Rattle.field.specs.declared.Checked.the-variants.{Passed, Failed}
+use Rattle.field.specs.declared.Answer.the-variants.{Done}
+use Rattle.field.specs.declared.Counted.the-variants.{Counts}
+use Rattle.field.specs.Field.{Field, variables, entries}
+use Rattle.closure.specs.Call as closure
+use Rattle.components.specs.Call as components
+use Rattle.preprocess.specs.Call as preprocess
+use Rattle.heavy.specs.Call as heavy
+use Rattle.probe.specs.Call as probe
+use Rattle.probes.specs.Call as probes
+use Rattle.pairs.specs.declared.Paired.the-variants as paired
+use Rattle.pairs.specs.Call as pairs
+use Rattle.anchors.specs.Call as anchors
+use Rattle.propagation.specs.Call as propagation
+use Rattle.worked.specs.Fields.{nought, half, minus-half, minus-one, two, minus-two, four, minus-five, six, alone, joined, apart, swallowing, unbalanced, with-zero, parted, two-pairs, linked, at-tolerance}
+
+-- a call, the field with its grade, the start values, what else it is given, and what it answers
+pub data Case : Type 0 where
+  -- what is in the start values afterwards
+  closes : Field → Grade → List ℕ → List ℕ → Case
+  completes : Field → Grade → List ℕ → List ℕ → Case
+  preprocesses : Field → Grade → List ℕ → List ℕ → Case
+  rounds : Field → Grade → List ℕ → List ℕ → Case
+  -- the probed variable and value, and the values found
+  probes-one : Field → Grade → List ℕ → ℕ → ℕ → List ℕ → Case
+  -- the values and the constraints found
+  probes-all : Field → Grade → List ℕ → List ℕ → List ℕ → Case
+  -- the limit of candidates besides
+  probes-some : Field → Grade → List ℕ → ℕ → List ℕ → List ℕ → Case
+  -- the constraints found, how many they are, and how many pairs were examined
+  compares : Field → Grade → List ℕ → List ℕ → ℕ → ℕ → Case
+  -- the least size, and the anchors
+  anchors-at : Field → Grade → List ℕ → ℕ → List ℕ → Case
+  -- no field: start values and constraints, the answer, and what is in the start values afterwards
+  propagates : List ℕ → List ℕ → Checked → List ℕ → Case
+
+-- ---- the list
+
+-- "Equal(0,1), ExactlyOne(0,1)"
+abbrev pub both : List ℕ
+both = 0 ∷ 1 ∷ 5 ∷ 0 ∷ 1 ∷ 1 ∷ []
+
+abbrev pub cases : List Case
+cases =
+    -- "a. n=0: nothing forced."
+    closes (alone []) Exact [] []
+    -- "b. c=0: closure leaves 2; preprocess gives 0."
+    ∷ closes (alone (nought ∷ [])) Exact (2 ∷ []) (2 ∷ [])
+    ∷ preprocesses (alone (nought ∷ [])) Exact (2 ∷ []) (0 ∷ [])
+    -- "c. c=0.5: 0. d. c=-0.5: 1."
+    ∷ closes (alone (half ∷ [])) Exact (2 ∷ []) (0 ∷ [])
+    ∷ closes (alone (minus-half ∷ [])) Exact (2 ∷ []) (1 ∷ [])
+    -- "e. c=(0,0), (0,1) 2: lower exactly 0, nothing. f. (0,1) -2: upper exactly 0, nothing."
+    ∷ closes (joined (nought ∷ nought ∷ []) two) Exact (2 ∷ 2 ∷ []) (2 ∷ 2 ∷ [])
+    ∷ closes (joined (nought ∷ nought ∷ []) minus-two) Exact (2 ∷ 2 ∷ []) (2 ∷ 2 ∷ [])
+    -- "g. c=(-5,-1), (0,1) 4: 1,0. h. the same with x0 given 0: 0,1."
+    ∷ closes (joined (minus-five ∷ minus-one ∷ []) four) Exact (2 ∷ 2 ∷ []) (1 ∷ 0 ∷ [])
+    ∷ closes (joined (minus-five ∷ minus-one ∷ []) four) Exact (0 ∷ 2 ∷ []) (0 ∷ 1 ∷ [])
+    -- "i. c=(-1,-1), (0,1) 4: probe gives ExactlyOne(0,1), no value; pairs give nothing."
+    ∷ probes-all (joined (minus-one ∷ minus-one ∷ []) four) Exact (2 ∷ 2 ∷ []) (2 ∷ 2 ∷ []) (0 ∷ 1 ∷ 1 ∷ [])
+    ∷ compares (joined (minus-one ∷ minus-one ∷ []) four) Exact (2 ∷ 2 ∷ []) [] 0 1
+    -- "j. c=(-1,-1), (0,1) 6: pairs give NoMoreThanOne(0,1)."
+    ∷ compares (joined (minus-one ∷ minus-one ∷ []) six) Exact (2 ∷ 2 ∷ []) (0 ∷ 1 ∷ 2 ∷ []) 1 1
+    -- "k. Equal(0,1), ExactlyOne(0,1), x0=1: 10. l. Both, nothing given: done, unchanged."
+    ∷ propagates (1 ∷ 2 ∷ []) both (Failed Clash) (1 ∷ 2 ∷ [])
+    ∷ propagates (2 ∷ 2 ∷ []) both Passed (2 ∷ 2 ∷ [])
+    -- "m. c=(-0.5,-0.5), (0,1) 2: preprocess 1,0; anchor 0 at least size 2."
+    ∷ preprocesses (joined (minus-half ∷ minus-half ∷ []) two) Exact (2 ∷ 2 ∷ []) (1 ∷ 0 ∷ [])
+    ∷ anchors-at (joined (minus-half ∷ minus-half ∷ []) two) Exact (2 ∷ 2 ∷ []) 2 (0 ∷ [])
+    -- "n. c=(-1,-5), (0,1) 4: 0,1."
+    ∷ closes (joined (minus-one ∷ minus-five ∷ []) four) Exact (2 ∷ 2 ∷ []) (0 ∷ 1 ∷ [])
+    -- "c=(1e-10,0), no entries: no pair constraint."
+    ∷ compares at-tolerance Inexact (2 ∷ 2 ∷ []) [] 0 1
+    -- "The Rust forces 0,0,1,1, the port too, graded inexact"
+    ∷ closes swallowing Inexact (2 ∷ 2 ∷ 2 ∷ 2 ∷ []) (0 ∷ 0 ∷ 1 ∷ 1 ∷ [])
+    -- "a start value of 1 is kept in the answer"
+    ∷ preprocesses (alone (nought ∷ [])) Exact (1 ∷ []) (1 ∷ [])
+    -- preprocess leaves heavy's first round nothing; eleven variables need a second one
+    ∷ rounds (joined (minus-half ∷ minus-half ∷ []) two) Exact (2 ∷ 2 ∷ []) (1 ∷ 0 ∷ [])
+    ∷ rounds linked Exact (replicate 11 2) (1 ∷ 1 ∷ 1 ∷ 0 ∷ replicate 7 1)
+    -- 10 and 01 have the same objective, and the lowest mask wins
+    ∷ completes (joined (minus-half ∷ minus-half ∷ []) two) Exact (2 ∷ 2 ∷ []) (1 ∷ 0 ∷ [])
+    -- a given variable parts two others, and its value counts in their linear parts
+    ∷ completes parted Exact (2 ∷ 1 ∷ 2 ∷ []) (1 ∷ 1 ∷ 1 ∷ [])
+    -- both probes of case i, and what a start value leaves out
+    ∷ probes-one (joined (minus-one ∷ minus-one ∷ []) four) Exact (2 ∷ 2 ∷ []) 0 0 (0 ∷ 1 ∷ [])
+    ∷ probes-one (joined (minus-one ∷ minus-one ∷ []) four) Exact (2 ∷ 2 ∷ []) 0 1 (1 ∷ 0 ∷ [])
+    ∷ probes-one (joined (minus-one ∷ minus-one ∷ []) four) Exact (2 ∷ 0 ∷ []) 0 0 (0 ∷ 2 ∷ [])
+    ∷ probes-one apart Exact (2 ∷ 2 ∷ 2 ∷ []) 0 1 (1 ∷ 0 ∷ 1 ∷ [])
+    ∷ probes-one apart Exact (2 ∷ 2 ∷ 1 ∷ []) 0 1 (1 ∷ 0 ∷ 2 ∷ [])
+    -- of two pairs a limit of 1 takes the heavier, and a limit of 0 none
+    ∷ probes-all two-pairs Exact (2 ∷ 2 ∷ 2 ∷ 2 ∷ []) (2 ∷ 2 ∷ 2 ∷ 2 ∷ []) (0 ∷ 1 ∷ 1 ∷ 2 ∷ 3 ∷ 1 ∷ [])
+    ∷ probes-some two-pairs Exact (2 ∷ 2 ∷ 2 ∷ 2 ∷ []) 1 (2 ∷ 2 ∷ 2 ∷ 2 ∷ []) (2 ∷ 3 ∷ 1 ∷ [])
+    ∷ probes-some two-pairs Exact (2 ∷ 2 ∷ 2 ∷ 2 ∷ []) 0 (2 ∷ 2 ∷ 2 ∷ 2 ∷ []) []
+    -- too small a component, one with a start value, a stored zero that joins nothing, and a sum that rounding would make 0
+    ∷ anchors-at (joined (minus-half ∷ minus-half ∷ []) two) Exact (2 ∷ 2 ∷ []) 3 []
+    ∷ anchors-at (joined (minus-half ∷ minus-half ∷ []) two) Exact (2 ∷ 0 ∷ []) 2 []
+    ∷ anchors-at with-zero Exact (2 ∷ 2 ∷ 2 ∷ []) 0 (0 ∷ 2 ∷ [])
+    ∷ anchors-at unbalanced Inexact (2 ∷ 2 ∷ 2 ∷ []) 0 []
+    ∷ []
+
+-- ---- what each call leaves, and what the list says
+
+-- the answer and all that was lent, as each call's promise has them
+pub data Outcome : Type 0 where
+  in-start : closure.Left → Outcome
+  in-found : probe.Left → Outcome
+  in-both : probes.Left → Outcome
+  in-pairs : pairs.Left → Outcome
+  in-anchors : anchors.Left → Outcome
+  in-literals : propagation.Left → Outcome
+
+-- scratch of the least length, with numbers in it
+abbrev pub floats : Field → List Float
+floats F = replicate (8 * variables F + 4 * entries F + 16) two
+
+abbrev pub words : Field → List ℕ
+words F = replicate (16 * variables F + 8 * entries F + 16) 7
+
+abbrev pub constraint-words : List ℕ → List ℕ → List ℕ
+constraint-words s k = replicate (16 * length s + 8 * room k + 16) 7
+
+-- a list with room for an answer, and an element more, which stays
+abbrev pub lent : List ℕ → List ℕ
+lent l = replicate (length l) 7 ++ (9 ∷ [])
+
+abbrev pub front : List ℕ → List ℕ
+front l = l ++ (9 ∷ [])
+
+-- what the promise of each call gives
+unfoldable pub given : Case → Outcome
+given (closes F g s t) = in-start (closure.closureCall F s (floats F) (words F))
+given (completes F g s t) = in-start (components.componentsCall F s (floats F) (words F))
+given (preprocesses F g s t) = in-start (preprocess.preprocessCall F s (floats F) (words F))
+given (rounds F g s t) = in-start (heavy.heavyCall F s (floats F) (words F))
+given (probes-one F g s i v t) = in-found (probe.probeOneCall F s i v (replicate (length t) 7) (floats F) (words F))
+given (probes-all F g s t k) = in-both (probes.probeCall F s (replicate (length t) 7) (lent k) (floats F) (words F))
+given (probes-some F g s limit t k) = in-both (probes.probeLimitedCall F s limit (replicate (length t) 7) (lent k) (floats F) (words F))
+given (compares F g s k items examined) = in-pairs (pairs.pairsCall F s 250000 (lent k) (floats F) (words F))
+given (anchors-at F g s least l) = in-anchors (anchors.anchorsCall F s least (lent l) (floats F) (words F))
+given (propagates s k r t) = in-literals (propagation.propagateCall s k (constraint-words s k))
+
+-- what the list says: the answer, the values or the list with what is past it, and scratch that is all zeros
+unfoldable pub expected : Case → Outcome
+expected (closes F g s t) = in-start (closure.left (Done g) t (cleared zero64 (floats F)) (cleared 0 (words F)))
+expected (completes F g s t) = in-start (closure.left (Done g) t (cleared zero64 (floats F)) (cleared 0 (words F)))
+expected (preprocesses F g s t) = in-start (closure.left (Done g) t (cleared zero64 (floats F)) (cleared 0 (words F)))
+expected (rounds F g s t) = in-start (closure.left (Done g) t (cleared zero64 (floats F)) (cleared 0 (words F)))
+expected (probes-one F g s i v t) = in-found (probe.left (Done g) t (cleared zero64 (floats F)) (cleared 0 (words F)))
+expected (probes-all F g s t k) = in-both (probes.left (Counts g (room k)) t (front k) (cleared zero64 (floats F)) (cleared 0 (words F)))
+expected (probes-some F g s limit t k) = in-both (probes.left (Counts g (room k)) t (front k) (cleared zero64 (floats F)) (cleared 0 (words F)))
+expected (compares F g s k items examined) = in-pairs (pairs.left (paired.Done g items examined) (front k) (cleared zero64 (floats F)) (cleared 0 (words F)))
+expected (anchors-at F g s least l) = in-anchors (anchors.left (Counts g (length l)) (front l) (cleared zero64 (floats F)) (cleared 0 (words F)))
+expected (propagates s k r t) = in-literals (propagation.left r t (cleared 0 (constraint-words s k)))

@@ -1,0 +1,100 @@
+-- The fields of the values worked by hand. Assumes nothing.
+use mathlib.Core.Bool.{true, false}
+use mathlib.Core.List.{List, [], _∷_}
+use lib.IntN.{pos, negsuc}
+use lib.Ieee.{Float, fin}
+use lib.ListN.{replicate}
+use Rattle.field.specs.Field.{Field, fieldOf}
+use Rattle.margins.specs.Model.{tiny64}
+
+-- ---- weights
+
+abbrev pub nought : Float
+nought = fin false 0 (pos 0)
+
+abbrev pub half : Float
+half = fin false 1 (negsuc 0)
+
+abbrev pub minus-half : Float
+minus-half = fin true 1 (negsuc 0)
+
+abbrev pub one : Float
+one = fin false 1 (pos 0)
+
+abbrev pub minus-one : Float
+minus-one = fin true 1 (pos 0)
+
+abbrev pub two : Float
+two = fin false 1 (pos 1)
+
+abbrev pub minus-two : Float
+minus-two = fin true 1 (pos 1)
+
+abbrev pub four : Float
+four = fin false 1 (pos 2)
+
+abbrev pub minus-five : Float
+minus-five = fin true 5 (pos 0)
+
+abbrev pub six : Float
+six = fin false 3 (pos 1)
+
+abbrev pub minus-quarter : Float
+minus-quarter = fin true 1 (negsuc 1)
+
+-- ---- fields
+
+-- no entry
+abbrev pub alone : List Float → Field
+alone c = fieldOf c [] [] []
+
+-- the one entry (0,1)
+abbrev pub joined : List Float → Float → Field
+joined c q = fieldOf c (0 ∷ []) (1 ∷ []) (q ∷ [])
+
+-- "c=(-1,-1), (0,1) 4" beside a third variable without entries
+abbrev pub apart : Field
+apart = joined (minus-one ∷ minus-one ∷ minus-one ∷ []) four
+
+-- "the swallowed rate: c=(-1, 2^61, -2, -0.25), entries (0,1) -2^61, (0,2) 1, (0,3) 2"
+abbrev pub swallowing : Field
+swallowing =
+    fieldOf
+    (minus-one ∷ fin false 1 (pos 61) ∷ minus-two ∷ minus-quarter ∷ [])
+    (0 ∷ 0 ∷ 0 ∷ [])
+    (1 ∷ 2 ∷ 3 ∷ [])
+    (fin true 1 (pos 61) ∷ one ∷ two ∷ [])
+
+-- c=(2^60, -0.25, 2^60), (0,1) 1, (0,2) -2^62: at variable 0 the sum of an anchor's test is 2^62 + 1 - 2^62, and with rounding it would be 0
+abbrev pub unbalanced : Field
+unbalanced =
+    fieldOf
+    (fin false 1 (pos 60) ∷ minus-quarter ∷ fin false 1 (pos 60) ∷ [])
+    (0 ∷ 0 ∷ [])
+    (1 ∷ 2 ∷ [])
+    (one ∷ fin true 1 (pos 62) ∷ [])
+
+-- c=(-0.5,-0.5,0), (0,1) 2, and a stored zero at (1,2)
+abbrev pub with-zero : Field
+with-zero = fieldOf (minus-half ∷ minus-half ∷ nought ∷ []) (0 ∷ 1 ∷ []) (1 ∷ 2 ∷ []) (two ∷ nought ∷ [])
+
+-- c=(-5,-1,0), (0,1) 4, (2,1) -2: where variable 1 is given, it parts the two others
+abbrev pub parted : Field
+parted = fieldOf (minus-five ∷ minus-one ∷ nought ∷ []) (0 ∷ 2 ∷ []) (1 ∷ 1 ∷ []) (four ∷ minus-two ∷ [])
+
+-- c=(-1,-1,-1,-1), (0,1) 4, (2,3) 8: two pairs, the second with the greater mass
+abbrev pub two-pairs : Field
+two-pairs = fieldOf (minus-one ∷ minus-one ∷ minus-one ∷ minus-one ∷ []) (0 ∷ 2 ∷ []) (1 ∷ 3 ∷ []) (four ∷ fin false 1 (pos 3) ∷ [])
+
+-- eleven variables in one component: the probes of 0 fix all others, and these then fix it
+abbrev pub linked : Field
+linked =
+    fieldOf
+    (nought ∷ fin true 3 (pos 0) ∷ replicate 9 minus-one)
+    (0 ∷ 0 ∷ 1 ∷ 2 ∷ replicate 7 3)
+    (1 ∷ 2 ∷ 3 ∷ 3 ∷ 4 ∷ 5 ∷ 6 ∷ 7 ∷ 8 ∷ 9 ∷ 10 ∷ [])
+    (four ∷ fin true 8 (pos 0) ∷ replicate 9 four)
+
+-- c=(1e-10,0), no entries
+abbrev pub at-tolerance : Field
+at-tolerance = alone (tiny64 ∷ nought ∷ [])

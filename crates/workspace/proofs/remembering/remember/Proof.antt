@@ -1,0 +1,117 @@
+-- `remember` builds the places and the rows, copies the rows, and lists what a scan forces. Assumes nothing.
+use mathlib.Core.Logic.{inr}
+use native.Mathlib.Omega.{arith}
+use Rattle.workspace.proofs.Begun.{begin-places, begin-rows, begin-placed, begin-undo, begin-list, begin-remembers}
+use borrow.Author.Needs.{needs}
+use Rattle.workspace.proofs.remembering.remember.Statement.{statement}
+use Rattle.workspace.proofs.remembering.remember.Tie as tie
+
+add-from : tie.Need-add-from
+add-from c = search needs
+
+mul-from : tie.Need-mul-from
+mul-from c = search needs
+
+add-from-2 : tie.Need-add-from-2
+add-from-2 c = search needs
+
+build-requires : tie.Need-build-requires
+build-requires c κs =
+    let at-args = c .before .before .before .before .before .before .before .before .before in
+    let a = at-args .args in begin-places (a .f .now) (a .u .now) (at-args .pre .0)
+
+fill-requires : tie.Need-fill-requires
+fill-requires c κs =
+    let at-args = c .before .before .before .before .before .before .before .before .before .before .before .before .before .before in
+    let a = at-args .args in begin-rows (a .f .now) (a .u .now) (at-args .pre .0) (at-args .pre .1)
+
+add-copy-floats : tie.Need-add-copy-floats
+add-copy-floats c = search needs
+
+add-copy-floats-2 : tie.Need-add-copy-floats-2
+add-copy-floats-2 c = search needs
+
+copy-floats-requires : tie.Need-copy-floats-requires
+copy-floats-requires c κs =
+    let at-fill = c .before .before .before in
+    let at-args = at-fill .before .before .before .before .before .before .before .before .before .before .before .before .before .before .before in
+    let room = at-args .pre .0 .floats-room in
+    let long = at-fill .fill .ensures .long in
+    record { order = inr (omega arith); from-room = omega (arith, room, long); to-room = omega (arith, room, long) }
+
+scan-requires : tie.Need-scan-requires
+scan-requires c κs =
+    let at-copy-floats = c .before .before .before .before .before in
+    let at-fill = at-copy-floats .before .before .before .before in
+    let at-build = at-fill .before .before .before .before .before in
+    let at-args = at-build .before .before .before .before .before .before .before .before .before .before in
+    let a = at-args .args in
+    begin-placed (a .f .now) (a .u .now) (at-args .pre .0) (at-args .pre .1) (at-build .build .ensures) (at-fill .fill .ensures) (at-copy-floats .copy-floats .ensures)
+
+undo-requires : tie.Need-undo-requires
+undo-requires c κs =
+    let at-scan = c .before .before .before .before .before .before in
+    let at-copy-floats = at-scan .before .before .before .before .before .before in
+    let at-fill = at-copy-floats .before .before .before .before in
+    let at-build = at-fill .before .before .before .before .before in
+    let at-args = at-build .before .before .before .before .before .before .before .before .before .before in
+    let a = at-args .args in
+    begin-undo (a .f .now) (a .u .now) (at-args .pre .0) (at-args .pre .1) (at-build .build .ensures) (at-fill .fill .ensures) (at-copy-floats .copy-floats .ensures) (at-scan .scan .ensures)
+
+add-copy-words : tie.Need-add-copy-words
+add-copy-words c = search needs
+
+copy-words-requires : tie.Need-copy-words-requires
+copy-words-requires c κs =
+    let at-scan = c .before .before .before .before .before .before .before .before .before .before in
+    let at-copy-floats = at-scan .before .before .before .before .before .before in
+    let at-fill = at-copy-floats .before .before .before .before in
+    let at-build = at-fill .before .before .before .before .before in
+    let at-args = at-build .before .before .before .before .before .before .before .before .before .before in
+    let a = at-args .args in
+    begin-list (a .f .now) (a .u .now) (at-args .pre .0) (at-args .pre .1) (at-build .build .ensures) (at-fill .fill .ensures) (at-copy-floats .copy-floats .ensures) (at-scan .scan .ensures)
+
+same-length : tie.Need-same-length
+same-length c = search needs
+
+same-length-2 : tie.Need-same-length-2
+same-length-2 c = search needs
+
+same-length-3 : tie.Need-same-length-3
+same-length-3 c = search needs
+
+returns : tie.Need-returns
+returns c =
+    let at-copy-words = c .before .before in
+    let at-undo = at-copy-words .before .before .before .before in
+    let at-scan = at-undo .before .before .before .before .before .before .before in
+    let at-copy-floats = at-scan .before .before .before .before .before .before in
+    let at-fill = at-copy-floats .before .before .before .before in
+    let at-build = at-fill .before .before .before .before .before in
+    let at-args = at-build .before .before .before .before .before .before .before .before .before .before in
+    let a = at-args .args in (
+      at-undo .undo .ensures,
+      begin-remembers (a .f .now) (a .u .now) (at-args .pre .0) (at-args .pre .1) (at-build .build .ensures) (at-fill .fill .ensures)
+          (at-copy-floats .copy-floats .ensures) (at-scan .scan .ensures) (at-copy-words .copy-words .ensures),
+    )
+
+pub remember-spec : {M : Type 1} → statement M
+remember-spec =
+    tie.close
+    (tie.spec
+    add-from
+    mul-from
+    add-from-2
+    build-requires
+    fill-requires
+    add-copy-floats
+    add-copy-floats-2
+    copy-floats-requires
+    scan-requires
+    undo-requires
+    add-copy-words
+    copy-words-requires
+    same-length
+    same-length-2
+    same-length-3
+    returns)

@@ -1,0 +1,117 @@
+-- `back` is the fold over the places of a variable. Assumes nothing.
+use Prim.Native.Nat.{_-_}
+use native.Mathlib.Omega.{arith}
+use Rattle.places.proofs.Walk.{walk-turn}
+use Rattle.workspace.proofs.Backed.{Backing, back-start, back-end, back-asks, back-turn, back-done}
+use borrow.Author.Needs.{needs}
+use Rattle.workspace.proofs.restoring.back.Statement.{statement}
+use Rattle.workspace.proofs.restoring.back.Tie as tie
+
+abbrev Inv-loop : tie.InvT-loop
+Inv-loop rows cols f₀ u n x start end p₀ f p = Backing n rows cols u x end p f₀ f
+
+abbrev μ-loop : tie.MeasureT-loop
+μ-loop rows cols f₀ u n x start end p₀ f p = end - p
+
+mul-wide-word : tie.Need-mul-wide-word Inv-loop μ-loop
+mul-wide-word c = search needs
+
+shared-slice-read-wide-word : tie.Need-shared-slice-read-wide-word Inv-loop μ-loop
+shared-slice-read-wide-word c = omega (arith, c .before .before .before .before .before .pre .0 .adjacent .room, c .before .before .before .before .before .pre .1)
+
+wide-word-requires : tie.Need-wide-word-requires Inv-loop μ-loop
+wide-word-requires c κs = search needs
+
+add-wide-word : tie.Need-add-wide-word Inv-loop μ-loop
+add-wide-word c = search needs
+
+mul-wide-word-2 : tie.Need-mul-wide-word-2 Inv-loop μ-loop
+mul-wide-word-2 c = search needs
+
+shared-slice-read-wide-word-2 : tie.Need-shared-slice-read-wide-word-2 Inv-loop μ-loop
+shared-slice-read-wide-word-2 c =
+    let start = c .before .before .before .before .before .before .before in
+    omega (arith, start .pre .0 .adjacent .room, start .pre .1)
+
+wide-word-requires-2 : tie.Need-wide-word-requires-2 Inv-loop μ-loop
+wide-word-requires-2 c κs = search needs
+
+loop-holds : tie.Need-loop-holds Inv-loop μ-loop
+loop-holds c =
+    let at-wide-word = c .before .before in
+    let start = at-wide-word .before .before .before .before .before .before in
+    back-start (start .pre .0) (start .pre .1) (at-wide-word .wide-word .ensures) (c .wide-word2 .ensures)
+
+add-wide-word-2 : tie.Need-add-wide-word-2 Inv-loop μ-loop
+add-wide-word-2 c = omega (arith, walk-turn (c .before .loop .inv .along .walk) (c .loop-test .taken) .index)
+
+add-wide-word-3 : tie.Need-add-wide-word-3 Inv-loop μ-loop
+add-wide-word-3 c = omega (arith, walk-turn (c .before .loop .inv .along .walk) (c .loop-test .taken) .index)
+
+mul-wide-word-3 : tie.Need-mul-wide-word-3 Inv-loop μ-loop
+mul-wide-word-3 c = omega (arith, walk-turn (c .before .loop .inv .along .walk) (c .loop-test .taken) .index)
+
+shared-slice-read-wide-word-3 : tie.Need-shared-slice-read-wide-word-3 Inv-loop μ-loop
+shared-slice-read-wide-word-3 c = walk-turn (c .before .before .loop .inv .along .walk) (c .before .loop-test .taken) .index
+
+wide-word-requires-3 : tie.Need-wide-word-requires-3 Inv-loop μ-loop
+wide-word-requires-3 c κs = search needs
+
+other-end-requires : tie.Need-other-end-requires Inv-loop μ-loop
+other-end-requires c κs = back-end (c .before .before .before .loop .inv) (c .before .before .loop-test .taken) (c .wide-word3 .ensures)
+
+back-at-requires : tie.Need-back-at-requires Inv-loop μ-loop
+back-at-requires c κs =
+    let at-other-end = c .before in
+    let at-wide-word3 = at-other-end .before in
+    let at-loop-test = at-wide-word3 .before .before in
+    let at-loop = at-loop-test .before in
+    back-asks (at-loop .loop .inv) (at-loop-test .loop-test .taken) (at-wide-word3 .wide-word3 .ensures) (at-other-end .other-end .ensures)
+
+add-p : tie.Need-add-p Inv-loop μ-loop
+add-p c = omega arith
+
+loop-less : tie.Need-loop-less Inv-loop μ-loop
+loop-less c = omega (arith, c .before .before .before .before .before .before .before .loop-test .taken)
+
+loop-again : tie.Need-loop-again Inv-loop μ-loop
+loop-again c =
+    let at-back-at = c .before .before in
+    let at-other-end = at-back-at .before .before in
+    let at-wide-word3 = at-other-end .before in
+    let at-loop-test = at-wide-word3 .before .before in
+    let at-loop = at-loop-test .before in
+    back-turn (at-loop .loop .inv) (at-loop-test .loop-test .taken) (at-wide-word3 .wide-word3 .ensures) (at-other-end .other-end .ensures) (at-back-at .back-at .ensures)
+
+same-length : tie.Need-same-length Inv-loop μ-loop
+same-length c = c .before .loop .inv .long
+
+returns : tie.Need-returns Inv-loop μ-loop
+returns c = back-done (c .before .loop .inv) (c .loop-test .left)
+
+pub back-spec : {M : Type 1} → statement M
+back-spec =
+    tie.close
+    (tie.spec
+    Inv-loop
+    μ-loop
+    mul-wide-word
+    shared-slice-read-wide-word
+    wide-word-requires
+    add-wide-word
+    mul-wide-word-2
+    shared-slice-read-wide-word-2
+    wide-word-requires-2
+    loop-holds
+    add-wide-word-2
+    add-wide-word-3
+    mul-wide-word-3
+    shared-slice-read-wide-word-3
+    wide-word-requires-3
+    other-end-requires
+    back-at-requires
+    add-p
+    loop-less
+    loop-again
+    same-length
+    returns)

@@ -1,0 +1,90 @@
+/* Every call once, on values that document 01 works by hand, and some refusals. */
+#include <stdio.h>
+#include <string.h>
+
+#include "ombradiec.h"
+
+#define LENGTH(a) (sizeof(a) / sizeof((a)[0]))
+/* an array as a slice */
+#define SLICE(a) (a), LENGTH(a)
+/* two variables, and one entry between them */
+#define FIELD c, 2, rows, 1, cols, 1, q, 1
+#define SCRATCH SLICE(floats), SLICE(words)
+
+static const uint16_t rows[1] = {0}, cols[1] = {1};
+static double floats[OMBRADIEC_FLOATS(2, 1)];
+static uint32_t words[OMBRADIEC_WORDS(2, 2)];
+
+static void print(const char *call, ombradiec_answer answer, const char *list, size_t a, size_t b)
+{
+    printf("%s: refusal %d, exact %d, count %zu, pairs %zu, %s %zu %zu\n", call, OMBRADIEC_REFUSAL(answer),
+           OMBRADIEC_EXACT(answer), OMBRADIEC_COUNT(answer), OMBRADIEC_PAIRS(answer), list, a, b);
+}
+
+int main(void)
+{
+    double c[2] = {-5, -1}, q[1] = {4};
+    uint8_t start[2] = {2, 2}, free_both[2] = {2, 2}, values[2] = {9, 9};
+    uint16_t list[2] = {7, 7}, constraints[3] = {7, 7, 7};
+    ombradiec_answer answer;
+
+    answer = ombradiec_closure(FIELD, SLICE(start), SCRATCH);
+    print("closure", answer, "values", start[0], start[1]);
+
+    c[0] = c[1] = -0.5, q[0] = 2, start[0] = start[1] = 2;
+    answer = ombradiec_components(FIELD, SLICE(start), SCRATCH);
+    print("components", answer, "values", start[0], start[1]);
+
+    start[0] = start[1] = 2;
+    answer = ombradiec_preprocess(FIELD, SLICE(start), SCRATCH);
+    print("preprocess", answer, "values", start[0], start[1]);
+
+    start[0] = start[1] = 2;
+    answer = ombradiec_heavy(FIELD, SLICE(start), SCRATCH);
+    print("heavy", answer, "values", start[0], start[1]);
+
+    answer = ombradiec_anchors(FIELD, SLICE(free_both), 2, SLICE(list), SCRATCH);
+    print("anchors", answer, "list", list[0], list[1]);
+
+    c[0] = c[1] = -1, q[0] = 6;
+    answer = ombradiec_pairs(FIELD, SLICE(free_both), OMBRADIEC_MOST_PAIRS, SLICE(constraints), SCRATCH);
+    print("pairs", answer, "ends", constraints[0], constraints[1]);
+    printf("  kind %d\n", constraints[2]);
+
+    q[0] = 4;
+    answer = ombradiec_probe_one(FIELD, SLICE(free_both), 0, 1, SLICE(values), SCRATCH);
+    print("probe_one", answer, "values", values[0], values[1]);
+    answer = ombradiec_probe_one(FIELD, SLICE(free_both), 0, 2, SLICE(values), SCRATCH);
+    print("probe_one", answer, "values", values[0], values[1]);
+
+    answer = ombradiec_probe(FIELD, SLICE(free_both), SLICE(values), SLICE(constraints), SCRATCH);
+    print("probe", answer, "ends", constraints[0], constraints[1]);
+    printf("  kind %d, values %d %d\n", constraints[2], values[0], values[1]);
+    answer = ombradiec_probe_limited(FIELD, SLICE(free_both), 0, SLICE(values), SLICE(constraints), SCRATCH);
+    print("probe_limited", answer, "values", values[0], values[1]);
+
+    const double none[2] = {0, -0.0};
+    answer = ombradiec_no_effect(none, 2, rows, 0, cols, 0, q, 0, SLICE(list), SLICE(words));
+    print("no_effect", answer, "list", list[0], list[1]);
+    answer = ombradiec_no_effect(none, 2, rows, 0, cols, 0, q, 0, list, 1, SLICE(words));
+    print("no_effect", answer, "list", list[0], list[1]);
+    answer = ombradiec_no_effect(none, 2, rows, 0, cols, 0, q, 0, SLICE(list), words, OMBRADIEC_WORDS(2, 0) - 1);
+    print("no_effect", answer, "list", list[0], list[1]);
+
+    double shifted[2] = {1, 0}, quad[2] = {4, 2};
+    uint16_t some_rows[2] = {0, 0}, some_cols[2] = {0, 1};
+    answer = ombradiec_shift(SLICE(shifted), SLICE(some_rows), SLICE(some_cols), SLICE(quad));
+    print("shift", answer, "first entry", some_rows[0], some_cols[0]);
+    printf("  c %g, q %g\n", shifted[0], quad[0]);
+
+    const uint16_t both[6] = {0, 1, OMBRADIEC_EQUAL, 0, 1, OMBRADIEC_EXACTLY_ONE};
+    start[0] = start[1] = 2;
+    answer = ombradiec_propagate(SLICE(start), SLICE(both), SLICE(words));
+    print("propagate", answer, "values", start[0], start[1]);
+    start[0] = 1;
+    answer = ombradiec_propagate(SLICE(start), SLICE(both), SLICE(words));
+    print("propagate", answer, "values", start[0], start[1]);
+    answer = ombradiec_propagate(SLICE(start), both, 3, SLICE(words));
+    print("propagate", answer, "values", start[0], start[1]);
+    return 0;
+}

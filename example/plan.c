@@ -1,0 +1,65 @@
+/* The flush plan of plan.txt, presolved from C: what the gradient forces, what may go either way, and the rest. */
+#include <stdio.h>
+#include <string.h>
+
+#include "ombradiec.h"
+
+enum { GROUPS = 9, PAIRS = 6 };
+
+static const char *const names[GROUPS] = {"sales-list", "sales-pages", "sales-index", "prices", "log",
+                                          "counters",   "receipts",    "photos",      "menu"};
+static const double c[GROUPS] = {6, 4, 3, -3, -2.5, -0.5, -0.5, -0.5, 0.5};
+static const uint16_t rows[PAIRS] = {0, 1, 3, 4, 6, 3};
+static const uint16_t cols[PAIRS] = {2, 2, 4, 5, 7, 8};
+static const double q[PAIRS] = {-2, -2, 2, 2, 2, -2};
+
+static double floats[OMBRADIEC_FLOATS(GROUPS, PAIRS)];
+static uint32_t words[OMBRADIEC_WORDS(GROUPS, PAIRS)];
+
+static int refused(const char *call, ombradiec_answer answer)
+{
+    if (OMBRADIEC_REFUSAL(answer) != OMBRADIEC_DONE)
+        printf("%s refused %d\n", call, OMBRADIEC_REFUSAL(answer));
+    return OMBRADIEC_REFUSAL(answer) != OMBRADIEC_DONE;
+}
+
+/* the groups whose value is new */
+static void print_new(const uint8_t *before, const uint8_t *after)
+{
+    for (int i = 0; i < GROUPS; i++)
+        if (before[i] == OMBRADIEC_FREE && after[i] != OMBRADIEC_FREE)
+            printf("  %s: %s window\n", names[i], after[i] ? "second" : "first");
+}
+
+int main(void)
+{
+    uint8_t given[GROUPS], forced[GROUPS], plan[GROUPS];
+    uint16_t anchors[GROUPS];
+    memset(given, OMBRADIEC_FREE, GROUPS);
+    given[8] = 1; /* the menu is always late */
+
+    memcpy(forced, given, GROUPS);
+    ombradiec_answer answer = ombradiec_closure(c, GROUPS, rows, PAIRS, cols, PAIRS, q, PAIRS, forced, GROUPS, floats,
+                                                OMBRADIEC_FLOATS(GROUPS, PAIRS), words, OMBRADIEC_WORDS(GROUPS, PAIRS));
+    if (refused("closure", answer))
+        return 1;
+    printf("forced in every best plan, grade %s:\n", OMBRADIEC_EXACT(answer) ? "exact" : "inexact");
+    print_new(given, forced);
+
+    answer = ombradiec_anchors(c, GROUPS, rows, PAIRS, cols, PAIRS, q, PAIRS, forced, GROUPS, 2, anchors, GROUPS, floats,
+                               OMBRADIEC_FLOATS(GROUPS, PAIRS), words, OMBRADIEC_WORDS(GROUPS, PAIRS));
+    if (refused("anchors", answer))
+        return 1;
+    printf("in either window, each in some best plan:\n");
+    for (size_t k = 0; k < OMBRADIEC_COUNT(answer); k++)
+        printf("  %s\n", names[anchors[k]]);
+
+    memcpy(plan, given, GROUPS);
+    answer = ombradiec_preprocess(c, GROUPS, rows, PAIRS, cols, PAIRS, q, PAIRS, plan, GROUPS, floats,
+                                  OMBRADIEC_FLOATS(GROUPS, PAIRS), words, OMBRADIEC_WORDS(GROUPS, PAIRS));
+    if (refused("preprocess", answer))
+        return 1;
+    printf("the rest, in one best plan:\n");
+    print_new(forced, plan);
+    return 0;
+}

@@ -1,0 +1,157 @@
+/* Ombradiec: a presolver for quadratic 0/1 problems.
+ *
+ * Link target/staticlib/libombradiec.a, which `rt staticlib ombradiec` makes, into an x86-64 Linux program.
+ *
+ * A slice is a pointer and a length in elements. A slice that a call writes to overlaps no other slice of the call.
+ * The pointer of an empty slice is aligned and not null. Floats are computed as C starts: rounded to nearest, and
+ * subnormal numbers kept. A call asks nothing else: it tests its arguments. It allocates nothing, keeps nothing and
+ * calls nothing back, so calls on different memory may run at the same time.
+ *
+ * A field is n linear weights `c` and m entries: `rows`, `cols` and `q`, of one length, rising strictly by column,
+ * then row. It stands for the objective: the sum of c[i] x[i], and half the sum of q[k] x[rows[k]] x[cols[k]].
+ * Start values are n bytes: 0, 1, or OMBRADIEC_FREE. `f` and `u` are scratch, of at least OMBRADIEC_FLOATS(n, m)
+ * and OMBRADIEC_WORDS(n, m) elements; what they hold does not matter.
+ *
+ * What each call promises, for every input, is proved: see README.md.
+ */
+#ifndef OMBRADIEC_H
+#define OMBRADIEC_H
+
+#include <stddef.h>
+#include <stdint.h>
+
+#ifdef __cplusplus
+extern "C" {
+#endif
+
+/* What a call answers, in one number: bits 0 to 7 the refusal, 8 to 15 the grade, 16 to 43 the count, 44 to 63 the
+ * pairs examined. A refusal has neither a grade nor counts. */
+typedef uint64_t ombradiec_answer;
+
+/* 0, or the refusal */
+#define OMBRADIEC_REFUSAL(answer) ((int)((answer) & 0xff))
+/* 1 if the field is exact, so that no sum rounds; 0 if it is not */
+#define OMBRADIEC_EXACT(answer) ((int)((answer) >> 8 & 0xff))
+/* the items in the answer list; of shift the new number of entries */
+#define OMBRADIEC_COUNT(answer) ((size_t)((answer) >> 16 & 0xfffffff))
+/* of pairs: the pairs examined */
+#define OMBRADIEC_PAIRS(answer) ((size_t)((answer) >> 44))
+
+/* The refusals, tested in this order. 1 to 8 change nothing lent; past test 8 all of the scratch ends as zeros. */
+#define OMBRADIEC_DONE 0
+#define OMBRADIEC_VARIABLES 1 /* more than 4,096 variables */
+#define OMBRADIEC_LISTS 2     /* the entry lists differ in length, or have more than 32,768 entries */
+#define OMBRADIEC_ORDER 3     /* a row or column is not below n, or the entries do not rise by column, then row */
+#define OMBRADIEC_DIAGONAL 4  /* an entry has its row equal to its column */
+#define OMBRADIEC_WEIGHTS 5   /* a weight is not finite */
+#define OMBRADIEC_START 6     /* the start values are not n long, or a byte is above 2 */
+#define OMBRADIEC_ARGUMENT 7  /* a probed variable, a probed value or a constraint is not as the call asks */
+#define OMBRADIEC_SCRATCH 8   /* a scratch is too short */
+#define OMBRADIEC_ROOM 9      /* an answer list does not fit; it is all zeros then */
+#define OMBRADIEC_CLASH 10    /* the constraints clash */
+
+/* a start value, or a probe value, that is not given */
+#define OMBRADIEC_FREE 2
+
+/* the limits of a field, of a pair walk and of propagation */
+#define OMBRADIEC_MOST_VARIABLES 4096
+#define OMBRADIEC_MOST_ENTRIES 32768
+#define OMBRADIEC_MOST_PAIRS 250000
+#define OMBRADIEC_MOST_CONSTRAINTS 65536
+
+/* the least scratch for n variables and m entries, in elements; of propagate m is the number of constraints */
+#define OMBRADIEC_FLOATS(n, m) (8 * (size_t)(n) + 4 * (size_t)(m) + 16)
+#define OMBRADIEC_WORDS(n, m) (16 * (size_t)(n) + 8 * (size_t)(m) + 16)
+/* enough for every field, and of words for propagate too */
+#define OMBRADIEC_MOST_FLOATS OMBRADIEC_FLOATS(OMBRADIEC_MOST_VARIABLES, OMBRADIEC_MOST_ENTRIES)
+#define OMBRADIEC_MOST_WORDS OMBRADIEC_WORDS(OMBRADIEC_MOST_VARIABLES, OMBRADIEC_MOST_CONSTRAINTS)
+
+/* A constraint is three numbers in a list: first variable, second variable, kind. Each kind forbids pairs of values. */
+#define OMBRADIEC_AT_LEAST_ONE 0     /* not 0, 0 */
+#define OMBRADIEC_EXACTLY_ONE 1      /* not 0, 0 and not 1, 1 */
+#define OMBRADIEC_NO_MORE_THAN_ONE 2 /* not 1, 1 */
+#define OMBRADIEC_GREATER_THAN 3     /* not 0, 1 */
+#define OMBRADIEC_LESS_THAN 4        /* not 1, 0 */
+#define OMBRADIEC_EQUAL 5            /* not 0, 1 and not 1, 0 */
+
+/* Puts every value that the gradient forces into `start`; on an exact field every best completion has them. */
+ombradiec_answer ombradiec_closure(const double *c, size_t c_len, const uint16_t *rows, size_t rows_len,
+                                   const uint16_t *cols, size_t cols_len, const double *q, size_t q_len,
+                                   uint8_t *start, size_t start_len, double *f, size_t f_len, uint32_t *u,
+                                   size_t u_len);
+
+/* Puts the values of all components of at most 10 free variables into `start`; on an exact field some best completion
+ * has them. */
+ombradiec_answer ombradiec_components(const double *c, size_t c_len, const uint16_t *rows, size_t rows_len,
+                                      const uint16_t *cols, size_t cols_len, const double *q, size_t q_len,
+                                      uint8_t *start, size_t start_len, double *f, size_t f_len, uint32_t *u,
+                                      size_t u_len);
+
+/* Puts the closure, the small components, and 0 for a free variable of no effect into `start`; on an exact field some
+ * best completion has them. */
+ombradiec_answer ombradiec_preprocess(const double *c, size_t c_len, const uint16_t *rows, size_t rows_len,
+                                      const uint16_t *cols, size_t cols_len, const double *q, size_t q_len,
+                                      uint8_t *start, size_t start_len, double *f, size_t f_len, uint32_t *u,
+                                      size_t u_len);
+
+/* Puts what preprocess and the probes find, round after round until nothing is added, into `start`; on an exact field some
+ * best completion has the values. */
+ombradiec_answer ombradiec_heavy(const double *c, size_t c_len, const uint16_t *rows, size_t rows_len,
+                                 const uint16_t *cols, size_t cols_len, const double *q, size_t q_len,
+                                 uint8_t *start, size_t start_len, double *f, size_t f_len, uint32_t *u, size_t u_len);
+
+/* Counts the variables with no entry and c = 0, and puts them at the front of `list`, rising; a diagonal is allowed. */
+ombradiec_answer ombradiec_no_effect(const double *c, size_t c_len, const uint16_t *rows, size_t rows_len,
+                                     const uint16_t *cols, size_t cols_len, const double *q, size_t q_len,
+                                     uint16_t *list, size_t list_len, uint32_t *u, size_t u_len);
+
+/* Adds half of each diagonal entry to its c, closes the other entries up in place, and counts them. */
+ombradiec_answer ombradiec_shift(double *c, size_t c_len, uint16_t *rows, size_t rows_len, uint16_t *cols,
+                                 size_t cols_len, double *q, size_t q_len);
+
+/* Counts the anchors of the components of at least `least` variables, and puts them at the front of `list`; a diagonal is
+ * allowed; on an exact field each anchor alone is 0 in some best completion and 1 in another. */
+ombradiec_answer ombradiec_anchors(const double *c, size_t c_len, const uint16_t *rows, size_t rows_len,
+                                   const uint16_t *cols, size_t cols_len, const double *q, size_t q_len,
+                                   const uint8_t *start, size_t start_len, size_t least, uint16_t *list,
+                                   size_t list_len, double *f, size_t f_len, uint32_t *u, size_t u_len);
+
+/* Examines the first `limit` free pairs, at most 250,000, and puts the constraints that they give at the front of
+ * `constraints`; the count is of constraints, three numbers each; on an exact field every best completion obeys them. */
+ombradiec_answer ombradiec_pairs(const double *c, size_t c_len, const uint16_t *rows, size_t rows_len,
+                                 const uint16_t *cols, size_t cols_len, const double *q, size_t q_len,
+                                 const uint8_t *start, size_t start_len, size_t limit, uint16_t *constraints,
+                                 size_t constraints_len, double *f, size_t f_len, uint32_t *u, size_t u_len);
+
+/* Puts what the closure finds with `variable` at `value` into `values`, which is n long, without the start values:
+ * OMBRADIEC_FREE where it finds nothing. */
+ombradiec_answer ombradiec_probe_one(const double *c, size_t c_len, const uint16_t *rows, size_t rows_len,
+                                     const uint16_t *cols, size_t cols_len, const double *q, size_t q_len,
+                                     const uint8_t *start, size_t start_len, size_t variable, uint8_t value,
+                                     uint8_t *values, size_t values_len, double *f, size_t f_len, uint32_t *u,
+                                     size_t u_len);
+
+/* Puts what both probes of every free variable find into `values`, which is n long, and at the front of `constraints`,
+ * sorted and without repeats, and counts the constraints; on an exact field every best completion obeys both. */
+ombradiec_answer ombradiec_probe(const double *c, size_t c_len, const uint16_t *rows, size_t rows_len,
+                                 const uint16_t *cols, size_t cols_len, const double *q, size_t q_len,
+                                 const uint8_t *start, size_t start_len,
+                                 uint8_t *values, size_t values_len, uint16_t *constraints,
+                                 size_t constraints_len, double *f, size_t f_len, uint32_t *u, size_t u_len);
+
+/* The same of up to `candidates` free variables, those of the greatest sum of |q| over entries with both ends free. */
+ombradiec_answer ombradiec_probe_limited(const double *c, size_t c_len, const uint16_t *rows, size_t rows_len,
+                                         const uint16_t *cols, size_t cols_len, const double *q, size_t q_len,
+                                         const uint8_t *start, size_t start_len, size_t candidates,
+                                         uint8_t *values, size_t values_len, uint16_t *constraints,
+                                         size_t constraints_len, double *f, size_t f_len, uint32_t *u, size_t u_len);
+
+/* Puts every value that the constraints imply into `start`, or answers OMBRADIEC_CLASH; there is no field and no grade. */
+ombradiec_answer ombradiec_propagate(uint8_t *start, size_t start_len, const uint16_t *constraints,
+                                     size_t constraints_len, uint32_t *u, size_t u_len);
+
+#ifdef __cplusplus
+}
+#endif
+
+#endif

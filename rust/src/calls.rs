@@ -1,0 +1,350 @@
+//! Each call, safe. In every `unsafe` block each pointer and length are those of one slice or vector that is borrowed for the
+//! call, so the memory is there, and what the library writes to overlaps nothing else. The library asks no more.
+use crate::answer::{read, Done, Refusal};
+use crate::field::{Constraint, Field, Scratch, Values};
+use crate::library::*;
+
+/// Calls the library with a field's four slices and what else is lent.
+macro_rules! on_field {
+    ($call:ident, $field:expr, $($lent:expr),*) => {{
+        let Field { linear: c, rows, cols, quad: q } = $field;
+        read(unsafe { $call(c.as_ptr(), c.len(), rows.as_ptr(), rows.len(), cols.as_ptr(), cols.len(), q.as_ptr(), q.len(), $($lent),*) })
+    }};
+}
+
+type OnValues = unsafe extern "C" fn(
+    *const f64,
+    usize,
+    *const u16,
+    usize,
+    *const u16,
+    usize,
+    *const f64,
+    usize,
+    *mut u8,
+    usize,
+    *mut f64,
+    usize,
+    *mut u32,
+    usize,
+) -> u64;
+
+/// One of the four calls that put what they find into the start values.
+fn on_values(call: OnValues, field: &Field, start: &mut Values, scratch: &mut Scratch) -> Result<Done, Refusal> {
+    let (f, u) = scratch.lend(field.variables(), field.quad.len());
+    let start = &mut start.0;
+    on_field!(call, field, start.as_mut_ptr(), start.len(), f.as_mut_ptr(), f.len(), u.as_mut_ptr(), u.len())
+}
+
+/// Puts every value that the gradient forces into `start`. On an exact field every best completion has them.
+///
+/// ```
+/// use ombradiec::{closure, Field, Refusal, Scratch, Values};
+/// let mut scratch = Scratch::new();
+/// let mut start = Values::free(2);
+/// closure(&Field::new(&[-1.0, -5.0], &[(0, 1, 4.0)]), &mut start, &mut scratch)?;
+/// assert_eq!(start.given().collect::<Vec<_>>(), [(0, false), (1, true)]);
+///
+/// let diagonal = Field::new(&[1.0], &[(0, 0, 2.0)]);
+/// assert_eq!(closure(&diagonal, &mut Values::free(1), &mut scratch), Err(Refusal::Diagonal));
+/// # Ok::<(), Refusal>(())
+/// ```
+pub fn closure(field: &Field, start: &mut Values, scratch: &mut Scratch) -> Result<Done, Refusal> {
+    on_values(ombradiec_closure, field, start, scratch)
+}
+
+/// Puts the values of all components of at most 10 free variables into `start`. On an exact field some best completion has
+/// them.
+///
+/// ```
+/// use ombradiec::{components, Field, Scratch, Values};
+/// let mut start = Values::free(2);
+/// components(&Field::new(&[-0.5, -0.5], &[(0, 1, 2.0)]), &mut start, &mut Scratch::new())?;
+/// assert_eq!(start.given().collect::<Vec<_>>(), [(0, true), (1, false)]);
+/// # Ok::<(), ombradiec::Refusal>(())
+/// ```
+pub fn components(field: &Field, start: &mut Values, scratch: &mut Scratch) -> Result<Done, Refusal> {
+    on_values(ombradiec_components, field, start, scratch)
+}
+
+/// Puts the closure, the small components, and 0 for a free variable of no effect into `start`. On an exact field some best
+/// completion has them.
+///
+/// ```
+/// use ombradiec::{preprocess, Field, Scratch, Values};
+/// let mut start = Values::free(1);
+/// preprocess(&Field::new(&[0.0], &[]), &mut start, &mut Scratch::new())?;
+/// assert_eq!(start.get(0), Some(false));
+/// # Ok::<(), ombradiec::Refusal>(())
+/// ```
+pub fn preprocess(field: &Field, start: &mut Values, scratch: &mut Scratch) -> Result<Done, Refusal> {
+    on_values(ombradiec_preprocess, field, start, scratch)
+}
+
+/// Puts what [`preprocess`] and the probes find, round after round until nothing is added, into `start`. On an exact field some
+/// best completion has the values.
+///
+/// ```
+/// use ombradiec::{heavy, Field, Scratch, Values};
+/// let mut start = Values::free(2);
+/// heavy(&Field::new(&[-0.5, -0.5], &[(0, 1, 2.0)]), &mut start, &mut Scratch::new())?;
+/// assert_eq!(start.given().collect::<Vec<_>>(), [(0, true), (1, false)]);
+/// # Ok::<(), ombradiec::Refusal>(())
+/// ```
+pub fn heavy(field: &Field, start: &mut Values, scratch: &mut Scratch) -> Result<Done, Refusal> {
+    on_values(ombradiec_heavy, field, start, scratch)
+}
+
+/// Puts the variables with no entry and c = 0 at the front of `list`, rising, and counts them. A diagonal is allowed.
+///
+/// ```
+/// use ombradiec::{no_effect, Field, Scratch};
+/// let mut list = [0; 3];
+/// let done = no_effect(&Field::new(&[0.0, 1.0, 0.0], &[]), &mut list, &mut Scratch::new())?;
+/// assert_eq!(list[..done.count], [0, 2]);
+/// # Ok::<(), ombradiec::Refusal>(())
+/// ```
+pub fn no_effect(field: &Field, list: &mut [u16], scratch: &mut Scratch) -> Result<Done, Refusal> {
+    let (_, u) = scratch.lend(field.variables(), field.quad.len());
+    on_field!(ombradiec_no_effect, field, list.as_mut_ptr(), list.len(), u.as_mut_ptr(), u.len())
+}
+
+/// Adds half of each diagonal entry to its c and drops the entry, so that the other calls take the field. The grade is that
+/// of the field as it was.
+///
+/// ```
+/// use ombradiec::{shift, Field};
+/// let mut field = Field::new(&[1.0, 0.0], &[(0, 0, 4.0), (0, 1, 2.0)]);
+/// assert_eq!(shift(&mut field)?.count, 1);
+/// assert_eq!(field, Field::new(&[3.0, 0.0], &[(0, 1, 2.0)]));
+/// # Ok::<(), ombradiec::Refusal>(())
+/// ```
+pub fn shift(field: &mut Field) -> Result<Done, Refusal> {
+    let Field { linear: c, rows, cols, quad: q } = field;
+    let done = read(unsafe {
+        ombradiec_shift(
+            c.as_mut_ptr(),
+            c.len(),
+            rows.as_mut_ptr(),
+            rows.len(),
+            cols.as_mut_ptr(),
+            cols.len(),
+            q.as_mut_ptr(),
+            q.len(),
+        )
+    })?;
+    rows.truncate(done.count);
+    cols.truncate(done.count);
+    q.truncate(done.count);
+    Ok(done)
+}
+
+/// Puts one variable of each complement-symmetric component of at least `least` variables, none of which has a start value,
+/// at the front of `list`, and counts them. A diagonal is allowed. On an exact field each anchor alone is 0 in some best
+/// completion and 1 in another.
+///
+/// ```
+/// use ombradiec::{anchors, Field, Scratch, Values};
+/// let mut list = [9; 2];
+/// let field = Field::new(&[-0.5, -0.5], &[(0, 1, 2.0)]);
+/// let done = anchors(&field, &Values::free(2), 2, &mut list, &mut Scratch::new())?;
+/// assert_eq!(list[..done.count], [0]);
+/// # Ok::<(), ombradiec::Refusal>(())
+/// ```
+pub fn anchors(
+    field: &Field,
+    start: &Values,
+    least: usize,
+    list: &mut [u16],
+    scratch: &mut Scratch,
+) -> Result<Done, Refusal> {
+    let (f, u) = scratch.lend(field.variables(), field.quad.len());
+    on_field!(
+        ombradiec_anchors,
+        field,
+        start.0.as_ptr(),
+        start.0.len(),
+        least,
+        list.as_mut_ptr(),
+        list.len(),
+        f.as_mut_ptr(),
+        f.len(),
+        u.as_mut_ptr(),
+        u.len()
+    )
+}
+
+/// Examines the first `limit` free pairs, at most 250,000, and puts the constraints that they give at the front of
+/// `constraints`. On an exact field every best completion obeys them.
+///
+/// ```
+/// use ombradiec::{pairs, Constraint, Field, Kind, Scratch, Values};
+/// let mut constraints = [Constraint::default(); 2];
+/// let field = Field::new(&[-1.0, -1.0], &[(0, 1, 6.0)]);
+/// let done = pairs(&field, &Values::free(2), usize::MAX, &mut constraints, &mut Scratch::new())?;
+/// assert_eq!(done.pairs, 1);
+/// assert_eq!(constraints[..done.count], [Constraint::new(0, 1, Kind::NoMoreThanOne)]);
+/// # Ok::<(), ombradiec::Refusal>(())
+/// ```
+pub fn pairs(
+    field: &Field,
+    start: &Values,
+    limit: usize,
+    constraints: &mut [Constraint],
+    scratch: &mut Scratch,
+) -> Result<Done, Refusal> {
+    let (f, u) = scratch.lend(field.variables(), field.quad.len());
+    // A constraint is three u16 and nothing else.
+    let (triples, triples_len) = (constraints.as_mut_ptr().cast(), 3 * constraints.len());
+    on_field!(
+        ombradiec_pairs,
+        field,
+        start.0.as_ptr(),
+        start.0.len(),
+        limit,
+        triples,
+        triples_len,
+        f.as_mut_ptr(),
+        f.len(),
+        u.as_mut_ptr(),
+        u.len()
+    )
+}
+
+/// Puts what the closure finds with one more value given into `values`, without the start values, which do not change. On an
+/// exact field every best completion that has this value has the found ones.
+///
+/// ```
+/// use ombradiec::{probe_one, Field, Scratch, Values};
+/// let mut values = Values::free(2);
+/// let field = Field::new(&[-1.0, -1.0], &[(0, 1, 4.0)]);
+/// probe_one(&field, &Values::free(2), 0, true, &mut values, &mut Scratch::new())?;
+/// assert_eq!(values.given().collect::<Vec<_>>(), [(0, true), (1, false)]);
+/// # Ok::<(), ombradiec::Refusal>(())
+/// ```
+pub fn probe_one(
+    field: &Field,
+    start: &Values,
+    variable: usize,
+    value: bool,
+    values: &mut Values,
+    scratch: &mut Scratch,
+) -> Result<Done, Refusal> {
+    let (f, u) = scratch.lend(field.variables(), field.quad.len());
+    let values = &mut values.0;
+    on_field!(
+        ombradiec_probe_one,
+        field,
+        start.0.as_ptr(),
+        start.0.len(),
+        variable,
+        value.into(),
+        values.as_mut_ptr(),
+        values.len(),
+        f.as_mut_ptr(),
+        f.len(),
+        u.as_mut_ptr(),
+        u.len()
+    )
+}
+
+/// Puts what both probes of every free variable find into `values`, and at the front of `constraints`, sorted and without
+/// repeats; counts the constraints. On an exact field every best completion obeys both.
+///
+/// ```
+/// use ombradiec::{probe, Constraint, Field, Kind, Scratch, Values};
+/// let (mut values, mut constraints) = (Values::free(2), [Constraint::default(); 2]);
+/// let field = Field::new(&[-1.0, -1.0], &[(0, 1, 4.0)]);
+/// let done = probe(&field, &Values::free(2), &mut values, &mut constraints, &mut Scratch::new())?;
+/// assert_eq!(constraints[..done.count], [Constraint::new(0, 1, Kind::ExactlyOne)]);
+/// assert_eq!(values, Values::free(2));
+/// # Ok::<(), ombradiec::Refusal>(())
+/// ```
+pub fn probe(
+    field: &Field,
+    start: &Values,
+    values: &mut Values,
+    constraints: &mut [Constraint],
+    scratch: &mut Scratch,
+) -> Result<Done, Refusal> {
+    let (f, u) = scratch.lend(field.variables(), field.quad.len());
+    let values = &mut values.0;
+    // A constraint is three u16 and nothing else.
+    let (triples, triples_len) = (constraints.as_mut_ptr().cast(), 3 * constraints.len());
+    on_field!(
+        ombradiec_probe,
+        field,
+        start.0.as_ptr(),
+        start.0.len(),
+        values.as_mut_ptr(),
+        values.len(),
+        triples,
+        triples_len,
+        f.as_mut_ptr(),
+        f.len(),
+        u.as_mut_ptr(),
+        u.len()
+    )
+}
+
+/// The same as [`probe`] of up to `candidates` free variables, those of the greatest sum of |q| over entries with both ends
+/// free.
+///
+/// ```
+/// use ombradiec::{probe_limited, Constraint, Field, Scratch, Values};
+/// let (mut values, mut constraints) = (Values::free(2), [Constraint::default(); 2]);
+/// let field = Field::new(&[-1.0, -1.0], &[(0, 1, 4.0)]);
+/// let done = probe_limited(&field, &Values::free(2), 0, &mut values, &mut constraints, &mut Scratch::new())?;
+/// assert_eq!(done.count, 0);
+/// # Ok::<(), ombradiec::Refusal>(())
+/// ```
+pub fn probe_limited(
+    field: &Field,
+    start: &Values,
+    candidates: usize,
+    values: &mut Values,
+    constraints: &mut [Constraint],
+    scratch: &mut Scratch,
+) -> Result<Done, Refusal> {
+    let (f, u) = scratch.lend(field.variables(), field.quad.len());
+    let values = &mut values.0;
+    // A constraint is three u16 and nothing else.
+    let (triples, triples_len) = (constraints.as_mut_ptr().cast(), 3 * constraints.len());
+    on_field!(
+        ombradiec_probe_limited,
+        field,
+        start.0.as_ptr(),
+        start.0.len(),
+        candidates,
+        values.as_mut_ptr(),
+        values.len(),
+        triples,
+        triples_len,
+        f.as_mut_ptr(),
+        f.len(),
+        u.as_mut_ptr(),
+        u.len()
+    )
+}
+
+/// Puts every value that the constraints imply into `start`, or finds that they clash; then `start` does not change. There is
+/// no field here, so no grade.
+///
+/// ```
+/// use ombradiec::{propagate, Constraint, Kind, Refusal, Scratch, Values};
+/// let mut scratch = Scratch::new();
+/// let mut start = Values::free(2);
+/// start.set(0, Some(true));
+/// propagate(&mut start, &[Constraint::new(0, 1, Kind::ExactlyOne)], &mut scratch)?;
+/// assert_eq!(start.get(1), Some(false));
+/// assert_eq!(propagate(&mut start, &[Constraint::new(0, 1, Kind::Equal)], &mut scratch), Err(Refusal::Clash));
+/// # Ok::<(), Refusal>(())
+/// ```
+pub fn propagate(start: &mut Values, constraints: &[Constraint], scratch: &mut Scratch) -> Result<(), Refusal> {
+    let start = &mut start.0;
+    let (_, u) = scratch.lend(start.len(), constraints.len());
+    // A constraint is three u16 and nothing else.
+    let (triples, triples_len) = (constraints.as_ptr().cast(), 3 * constraints.len());
+    read(unsafe { ombradiec_propagate(start.as_mut_ptr(), start.len(), triples, triples_len, u.as_mut_ptr(), u.len()) })
+        .map(|_| ())
+}

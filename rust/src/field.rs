@@ -1,0 +1,150 @@
+/// A field: n linear weights c, and entries (row, column, q). It stands for the objective: the sum of c_i x_i, and half the
+/// sum of q x_row x_column.
+#[derive(Clone, Debug, Default, PartialEq)]
+pub struct Field {
+    pub(crate) linear: Vec<f64>,
+    pub(crate) rows: Vec<u16>,
+    pub(crate) cols: Vec<u16>,
+    pub(crate) quad: Vec<f64>,
+}
+
+impl Field {
+    /// A field of these weights, with its entries put in order: by column, then row. Whether it is well-formed is what each
+    /// call tests.
+    ///
+    /// ```
+    /// let field = ombradiec::Field::new(&[0.5, -1.0], &[(1, 0, 3.0), (0, 1, 4.0)]);
+    /// assert_eq!(field.variables(), 2);
+    /// assert_eq!(field.entries().next(), Some((1, 0, 3.0)));
+    /// ```
+    pub fn new(linear: &[f64], entries: &[(u16, u16, f64)]) -> Field {
+        let mut entries = entries.to_vec();
+        entries.sort_by_key(|&(row, column, _)| (column, row));
+        Field {
+            linear: linear.to_vec(),
+            rows: entries.iter().map(|e| e.0).collect(),
+            cols: entries.iter().map(|e| e.1).collect(),
+            quad: entries.iter().map(|e| e.2).collect(),
+        }
+    }
+
+    /// How many variables there are.
+    pub fn variables(&self) -> usize {
+        self.linear.len()
+    }
+
+    /// The linear weights.
+    pub fn linear(&self) -> &[f64] {
+        &self.linear
+    }
+
+    /// The entries (row, column, q), by column, then row.
+    pub fn entries(&self) -> impl Iterator<Item = (u16, u16, f64)> + '_ {
+        (0..self.quad.len()).map(|k| (self.rows[k], self.cols[k], self.quad[k]))
+    }
+}
+
+/// A value for each variable, or none: what is given before a call, and what it finds.
+#[derive(Clone, Debug, PartialEq, Eq)]
+pub struct Values(pub(crate) Vec<u8>);
+
+impl Values {
+    /// n variables, all free.
+    pub fn free(n: usize) -> Values {
+        Values(vec![2; n])
+    }
+
+    /// The value of variable i, if it has one.
+    ///
+    /// ```
+    /// let mut values = ombradiec::Values::free(3);
+    /// values.set(1, Some(true));
+    /// assert_eq!(values.get(1), Some(true));
+    /// assert_eq!(values.get(2), None);
+    /// ```
+    ///
+    /// # Panics
+    /// Where i is not below n, as with a slice.
+    pub fn get(&self, i: usize) -> Option<bool> {
+        match self.0[i] {
+            2 => None,
+            value => Some(value == 1),
+        }
+    }
+
+    /// Gives variable i a value, or none.
+    ///
+    /// # Panics
+    /// Where i is not below n.
+    pub fn set(&mut self, i: usize, value: Option<bool>) {
+        self.0[i] = value.map_or(2, u8::from);
+    }
+
+    /// The variables that have a value, rising, with their values.
+    pub fn given(&self) -> impl Iterator<Item = (usize, bool)> + '_ {
+        (0..self.0.len()).filter_map(|i| self.get(i).map(|value| (i, value)))
+    }
+}
+
+/// Which pairs of values a constraint forbids.
+#[derive(Clone, Copy, Debug, PartialEq, Eq, PartialOrd, Ord, Hash)]
+pub enum Kind {
+    AtLeastOne = 0,
+    ExactlyOne = 1,
+    NoMoreThanOne = 2,
+    GreaterThan = 3,
+    LessThan = 4,
+    Equal = 5,
+}
+
+/// A constraint between two variables, as the library lays it out.
+#[derive(Clone, Copy, Debug, Default, PartialEq, Eq, PartialOrd, Ord, Hash)]
+#[repr(transparent)]
+pub struct Constraint(pub(crate) [u16; 3]);
+
+impl Constraint {
+    /// ```
+    /// use ombradiec::{Constraint, Kind};
+    /// let one = Constraint::new(0, 1, Kind::ExactlyOne);
+    /// assert_eq!((one.first(), one.second(), one.kind()), (0, 1, Kind::ExactlyOne));
+    /// ```
+    pub fn new(first: u16, second: u16, kind: Kind) -> Constraint {
+        Constraint([first, second, kind as u16])
+    }
+
+    pub fn first(self) -> u16 {
+        self.0[0]
+    }
+
+    pub fn second(self) -> u16 {
+        self.0[1]
+    }
+
+    pub fn kind(self) -> Kind {
+        [Kind::AtLeastOne, Kind::ExactlyOne, Kind::NoMoreThanOne, Kind::GreaterThan, Kind::LessThan, Kind::Equal]
+            [usize::from(self.0[2])]
+    }
+}
+
+/// The memory that calls work in. It grows to what a field needs and is kept for the next call.
+#[derive(Clone, Debug, Default)]
+pub struct Scratch {
+    floats: Vec<f64>,
+    words: Vec<u32>,
+}
+
+impl Scratch {
+    pub fn new() -> Scratch {
+        Scratch::default()
+    }
+
+    /// Scratch for n variables and m entries, or m constraints; no more than the largest field needs, since a call refuses
+    /// what is larger before it looks at the scratch.
+    pub(crate) fn lend(&mut self, n: usize, m: usize) -> (&mut [f64], &mut [u32]) {
+        let (n, m) = (n.min(4_096), m.min(65_536));
+        let (floats, words) = (8 * n + 4 * m + 16, 16 * n + 8 * m + 16);
+        self.floats.resize(floats.max(self.floats.len()), 0.0);
+        self.words.resize(words.max(self.words.len()), 0);
+        (&mut self.floats[..floats], &mut self.words[..words])
+    }
+}

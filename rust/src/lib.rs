@@ -1,0 +1,28 @@
+//! A presolver for quadratic 0/1 problems: which of up to 4,096 variables have the same value in every best solution.
+//!
+//! Each call is proved to meet its promise, for every input; this crate is a thin, safe layer over the archive
+//! `libombradiec.a` (x86-64 Linux), which `rt staticlib ombradiec` makes. It depends on nothing else.
+//!
+//! ```
+//! use ombradiec::{closure, Field, Grade, Scratch, Values};
+//!
+//! // -5 x0 - x1 + 0.5 * 4 x0 x1
+//! let field = Field::new(&[-5.0, -1.0], &[(0, 1, 4.0)]);
+//! let mut values = Values::free(2);
+//! let done = closure(&field, &mut values, &mut Scratch::new())?;
+//! assert_eq!(done.grade, Grade::Exact);
+//! assert_eq!(values.get(0), Some(true));
+//! assert_eq!(values.get(1), Some(false));
+//! # Ok::<(), ombradiec::Refusal>(())
+//! ```
+mod answer;
+mod calls;
+mod field;
+mod library;
+
+pub use answer::{Done, Grade, Refusal};
+pub use calls::{
+    anchors, closure, components, heavy, no_effect, pairs, preprocess, probe, probe_limited, probe_one, propagate,
+    shift,
+};
+pub use field::{Constraint, Field, Kind, Scratch, Values};

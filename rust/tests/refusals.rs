@@ -1,0 +1,85 @@
+//! Every refusal that the safe calls can give, and what they leave.
+use ombradiec::*;
+
+fn closed(field: &Field, n: usize) -> Result<Done, Refusal> {
+    closure(field, &mut Values::free(n), &mut Scratch::new())
+}
+
+#[test]
+fn a_field_is_tested_in_the_tables_order() {
+    assert_eq!(closed(&Field::new(&[0.0; 4_097], &[]), 4_097), Err(Refusal::Variables));
+    let many: Vec<_> = (0..32_769).map(|k| (k % 4_096, k / 4_096, 1.0)).collect();
+    assert_eq!(closed(&Field::new(&[0.0; 4_096], &many), 4_096), Err(Refusal::Lists));
+    assert_eq!(closed(&Field::new(&[0.0; 2], &[(0, 2, 1.0)]), 2), Err(Refusal::Order));
+    assert_eq!(closed(&Field::new(&[0.0; 2], &[(0, 1, 1.0), (0, 1, 1.0)]), 2), Err(Refusal::Order));
+    assert_eq!(closed(&Field::new(&[0.0; 2], &[(1, 1, 1.0)]), 2), Err(Refusal::Diagonal));
+    assert_eq!(closed(&Field::new(&[0.0, f64::NAN], &[]), 2), Err(Refusal::Weights));
+    assert_eq!(closed(&Field::new(&[0.0; 2], &[]), 3), Err(Refusal::Start));
+}
+
+#[test]
+fn the_largest_field_is_taken() {
+    let entries: Vec<_> = (1..=8).flat_map(|d| (d..4_096).map(move |j| (j - d, j, -1.0))).collect();
+    let mut start = Values::free(4_096);
+    start.set(0, Some(true));
+    let done = closure(&Field::new(&[0.25; 4_096], &entries), &mut start, &mut Scratch::new()).unwrap();
+    assert_eq!((done.grade, start.get(0)), (Grade::Inexact, Some(true)));
+}
+
+#[test]
+fn an_empty_field_is_done() {
+    assert_eq!(closed(&Field::new(&[], &[]), 0), Ok(Done { grade: Grade::Exact, count: 0, pairs: 0 }));
+}
+
+#[test]
+fn a_probed_variable_is_free() {
+    let field = Field::new(&[1.0, 1.0], &[]);
+    let (mut start, mut values, mut scratch) = (Values::free(2), Values::free(2), Scratch::new());
+    start.set(1, Some(false));
+    assert_eq!(probe_one(&field, &start, 2, true, &mut values, &mut scratch), Err(Refusal::Argument));
+    assert_eq!(probe_one(&field, &start, 1, true, &mut values, &mut scratch), Err(Refusal::Argument));
+    assert_eq!(probe_one(&field, &start, 0, true, &mut Values::free(1), &mut scratch), Err(Refusal::Room));
+    assert!(probe_one(&field, &start, 0, true, &mut values, &mut scratch).is_ok());
+    assert_eq!((values.get(0), values.get(1)), (Some(true), None));
+}
+
+#[test]
+fn a_list_without_room_ends_as_zeros() {
+    let mut list = [7];
+    assert_eq!(no_effect(&Field::new(&[0.0; 2], &[]), &mut list, &mut Scratch::new()), Err(Refusal::Room));
+    assert_eq!(list, [0]);
+    let mut none = [];
+    assert_eq!(no_effect(&Field::new(&[1.0], &[]), &mut none, &mut Scratch::new()).map(|done| done.count), Ok(0));
+}
+
+#[test]
+fn many_counts_are_read_back() {
+    // 708 free variables have 250,278 pairs, of which 250,000 are examined; each gives two constraints.
+    let linear: Vec<f64> = (0..708).map(|i| f64::from(i + 1)).collect();
+    let mut constraints = vec![Constraint::default(); 500_000];
+    let done = pairs(&Field::new(&linear, &[]), &Values::free(708), usize::MAX, &mut constraints, &mut Scratch::new())
+        .unwrap();
+    assert_eq!(done, Done { grade: Grade::Exact, count: 500_000, pairs: 250_000 });
+    assert_eq!(constraints[0], Constraint::new(0, 1, Kind::NoMoreThanOne));
+}
+
+#[test]
+fn propagation_takes_its_own_limits() {
+    let chain: Vec<_> =
+        (0..65_536).map(|k: u32| Constraint::new((k % 4_095) as u16, (k % 4_095 + 1) as u16, Kind::Equal)).collect();
+    let mut start = Values::free(4_096);
+    start.set(0, Some(true));
+    assert_eq!(propagate(&mut start, &chain, &mut Scratch::new()), Ok(()));
+    assert!(start.given().count() == 4_096 && start.given().all(|(_, value)| value));
+    let more = [&chain[..], &chain[..1]].concat();
+    assert_eq!(propagate(&mut start, &more, &mut Scratch::new()), Err(Refusal::Argument));
+    assert_eq!(
+        propagate(&mut start, &[Constraint::new(1, 1, Kind::Equal)], &mut Scratch::new()),
+        Err(Refusal::Argument)
+    );
+}
+
+#[test]
+fn a_refusal_says_why() {
+    assert_eq!(Refusal::Clash.to_string(), "the constraints clash");
+}

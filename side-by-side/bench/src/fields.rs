@@ -1,0 +1,299 @@
+//! The fields that both sides work on, by shape and size.
+
+/// Weights, entries by column, then row, and start values: 0, 1, or 2 for free.
+#[derive(Clone)]
+pub struct Field {
+    pub shape: &'static str,
+    pub c: Vec<f64>,
+    pub rows: Vec<u16>,
+    pub cols: Vec<u16>,
+    pub q: Vec<f64>,
+    pub start: Vec<u8>,
+}
+
+/// Start values and constraints: first, second, kind.
+#[derive(Clone)]
+pub struct Rules {
+    pub shape: &'static str,
+    pub start: Vec<u8>,
+    pub constraints: Vec<u16>,
+}
+
+/// Numbers that look random and are the same in every run (splitmix64).
+pub struct Dice(u64);
+
+impl Dice {
+    pub const fn new(seed: u64) -> Self {
+        Self(seed)
+    }
+
+    pub fn next(&mut self) -> u64 {
+        self.0 = self.0.wrapping_add(0x9e37_79b9_7f4a_7c15);
+        let mut z = self.0;
+        z = (z ^ (z >> 30)).wrapping_mul(0xbf58_476d_1ce4_e5b9);
+        z = (z ^ (z >> 27)).wrapping_mul(0x94d0_49bb_1331_11eb);
+        z ^ (z >> 31)
+    }
+
+    pub fn below(&mut self, limit: usize) -> usize {
+        (self.next() % limit as u64) as usize
+    }
+
+    /// A whole number from -most to most.
+    pub fn signed(&mut self, most: i64) -> f64 {
+        (self.below(2 * most as usize + 1) as i64 - most) as f64
+    }
+
+    /// A whole number from -most to most that is not 0.
+    pub fn weight(&mut self, most: i64) -> f64 {
+        let size = (1 + self.below(most as usize)) as f64;
+        if self.below(2) == 0 {
+            size
+        } else {
+            -size
+        }
+    }
+}
+
+pub const MOST_ENTRIES: usize = 32_768;
+
+/// The shapes of every call on a field.
+pub const SHAPES: [&str; 10] = [
+    "random",
+    "inexact",
+    "tight",
+    "band",
+    "chain",
+    "grid",
+    "star",
+    "clique",
+    "islands",
+    "end to end",
+];
+
+impl Field {
+    pub fn n(&self) -> usize {
+        self.c.len()
+    }
+
+    pub fn m(&self) -> usize {
+        self.q.len()
+    }
+
+    /// The field of a shape, standard form; an eighth of the variables has a start value, but in a tight one none.
+    pub fn new(shape: &'static str, n: usize) -> Self {
+        if shape == "end to end" {
+            return Self::end_to_end(n);
+        }
+        Self::of(shape, n, ends(shape, n))
+    }
+
+    /// Random entries, as many as asked for.
+    pub fn random(n: usize, m: usize) -> Self {
+        Self::of("random", n, random_ends(n, m))
+    }
+
+    fn of(shape: &'static str, n: usize, mut ends: Vec<(u16, u16)>) -> Self {
+        let mut dice = Dice::new(0x5eed ^ n as u64);
+        ends.sort_unstable_by_key(|&(row, col)| (col, row));
+        ends.dedup();
+        let unit = if shape == "inexact" { 0.1 } else { 1.0 };
+        let q: Vec<f64> = ends.iter().map(|_| unit * dice.weight(16)).collect();
+        let mut mass = vec![0.0; n];
+        for (&(row, col), w) in ends.iter().zip(&q) {
+            mass[usize::from(row)] += 0.5 * w.abs();
+            mass[usize::from(col)] += 0.5 * w.abs();
+        }
+        let part = if shape == "tight" { 0.125 } else { 1.0 };
+        let c = mass
+            .iter()
+            .map(|&w| unit * dice.signed(1 + (part * w / unit) as i64))
+            .collect();
+        let start = (0..n)
+            .map(|_| {
+                if shape != "tight" && dice.below(8) == 0 {
+                    dice.below(2) as u8
+                } else {
+                    2
+                }
+            })
+            .collect();
+        Self {
+            shape,
+            c,
+            rows: ends.iter().map(|e| e.0).collect(),
+            cols: ends.iter().map(|e| e.1).collect(),
+            q,
+            start,
+        }
+    }
+
+    /// A chain in which each value is forced by the one before it, and by nothing else.
+    fn end_to_end(n: usize) -> Self {
+        let mut c = vec![0.5; n];
+        c[0] = -0.5;
+        Self {
+            shape: "end to end",
+            c,
+            rows: (0..n as u16 - 1).collect(),
+            cols: (1..n as u16).collect(),
+            q: vec![-2.0; n - 1],
+            start: vec![2; n],
+        }
+    }
+
+    /// The same entries with every component complement-symmetric, and nothing given.
+    pub fn balanced(mut self) -> Self {
+        self.c.fill(0.0);
+        for k in 0..self.q.len() {
+            self.q[k] *= 4.0;
+            self.c[usize::from(self.rows[k])] -= 0.25 * self.q[k];
+            self.c[usize::from(self.cols[k])] -= 0.25 * self.q[k];
+        }
+        self.start.fill(2);
+        self
+    }
+
+    /// The same entries with a diagonal entry for one variable in four, as far as there is room.
+    pub fn with_diagonal(self) -> Self {
+        let room = MOST_ENTRIES - self.m();
+        let mut entries: Vec<_> = (0..self.m())
+            .map(|k| (self.cols[k], self.rows[k], self.q[k]))
+            .collect();
+        entries.extend(
+            (0..self.n() as u16)
+                .step_by(4)
+                .take(room)
+                .map(|i| (i, i, 6.0)),
+        );
+        entries.sort_unstable_by_key(|&(col, row, _)| (col, row));
+        Self {
+            rows: entries.iter().map(|e| e.1).collect(),
+            cols: entries.iter().map(|e| e.0).collect(),
+            q: entries.iter().map(|e| e.2).collect(),
+            ..self
+        }
+    }
+
+    /// The first free variable.
+    pub fn free(&self) -> usize {
+        self.start.iter().position(|&v| v == 2).unwrap_or(0)
+    }
+}
+
+fn random_ends(n: usize, m: usize) -> Vec<(u16, u16)> {
+    let mut dice = Dice::new(0xface ^ (n * 65_537 + m) as u64);
+    let mut seen = std::collections::BTreeSet::new();
+    while seen.len() < m {
+        let (row, col) = (dice.below(n), dice.below(n));
+        if row != col {
+            seen.insert((row as u16, col as u16));
+        }
+    }
+    seen.into_iter().collect()
+}
+
+fn ends(shape: &str, n: usize) -> Vec<(u16, u16)> {
+    let most = n as u16;
+    match shape {
+        "random" | "inexact" | "tight" => random_ends(n, (8 * n).min(MOST_ENTRIES)),
+        "band" => (1..most)
+            .flat_map(|col| (col.saturating_sub(8)..col).map(move |row| (row, col)))
+            .collect(),
+        "chain" => (1..most).map(|col| (col - 1, col)).collect(),
+        "grid" => {
+            let side = (n as f64).sqrt() as u16;
+            let right = (0..most).filter(|i| i % side + 1 < side && i + 1 < most);
+            let down = (0..most).filter(|i| i + side < most);
+            right
+                .map(|i| (i, i + 1))
+                .chain(down.map(|i| (i, i + side)))
+                .collect()
+        }
+        "star" => (1..most).map(|col| (0, col)).collect(),
+        "clique" => (1..most.min(256))
+            .flat_map(|col| (0..col).map(move |row| (row, col)))
+            .collect(),
+        "islands" => (1..most)
+            .flat_map(|col| (col / 8 * 8..col).map(move |row| (row, col)))
+            .collect(),
+        _ => unreachable!("no such shape"),
+    }
+}
+
+/// The shapes of constraints.
+pub const RULES: [&str; 4] = ["random", "chain", "star", "clash"];
+
+impl Rules {
+    pub fn new(shape: &'static str, n: usize) -> Self {
+        let count = if matches!(shape, "random" | "clash") {
+            (16 * n).min(65_536)
+        } else {
+            n - 1
+        };
+        Self::counted(shape, n, count)
+    }
+
+    /// Constraints that a hidden assignment meets, but for a clash; one value in 64 is given, in a chain the first.
+    pub fn counted(shape: &'static str, n: usize, count: usize) -> Self {
+        const FORBIDDEN: [[bool; 4]; 6] = [
+            [true, false, false, false],
+            [true, false, false, true],
+            [false, false, false, true],
+            [false, true, false, false],
+            [false, false, true, false],
+            [false, true, true, false],
+        ];
+        let mut dice = Dice::new(0xc0de ^ n as u64);
+        let hidden: Vec<u8> = (0..n).map(|_| dice.below(2) as u8).collect();
+        let mut constraints = Vec::with_capacity(3 * count);
+        for k in 0..count {
+            let (a, b) = match shape {
+                "chain" => (k, k + 1),
+                "star" => (0, k + 1),
+                _ => loop {
+                    let (a, b) = (dice.below(n), dice.below(n));
+                    if a != b {
+                        break (a, b);
+                    }
+                },
+            };
+            let seen = usize::from(2 * hidden[a] + hidden[b]);
+            let kind = match shape {
+                "clash" => dice.below(6),
+                "chain" | "star" => {
+                    if hidden[a] == hidden[b] {
+                        5
+                    } else {
+                        1
+                    }
+                }
+                _ => loop {
+                    let kind = dice.below(6);
+                    if !FORBIDDEN[kind][seen] {
+                        break kind;
+                    }
+                },
+            };
+            constraints.extend([a as u16, b as u16, kind as u16]);
+        }
+        let start = (0..n)
+            .map(|i| {
+                let given = match shape {
+                    "chain" | "star" => i == 0,
+                    _ => i % 64 == 0,
+                };
+                if given {
+                    hidden[i]
+                } else {
+                    2
+                }
+            })
+            .collect();
+        Self {
+            shape,
+            start,
+            constraints,
+        }
+    }
+}

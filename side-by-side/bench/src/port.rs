@@ -1,0 +1,213 @@
+//! The port's exported calls, with scratch of the least length that each asks for.
+
+use crate::fields::{Field, Rules};
+use crate::library;
+use crate::timing::timed;
+use std::time::Duration;
+
+/// An exported call, timed: a list in brackets goes over as a pointer and a length, with `mut` one that the call may change.
+macro_rules! exported {
+    (@ $name:ident ($($done:expr),*)) => {
+        timed(|| unsafe { library::$name($($done),*) })
+    };
+    (@ $name:ident ($($done:expr),*) [mut $list:expr] $($rest:tt)*) => {
+        exported!(@ $name ($($done,)* $list.as_mut_ptr(), $list.len()) $($rest)*)
+    };
+    (@ $name:ident ($($done:expr),*) [$list:expr] $($rest:tt)*) => {
+        exported!(@ $name ($($done,)* $list.as_ptr(), $list.len()) $($rest)*)
+    };
+    (@ $name:ident ($($done:expr),*) ($number:expr) $($rest:tt)*) => {
+        exported!(@ $name ($($done,)* $number) $($rest)*)
+    };
+    ($name:ident, $($parts:tt)*) => {
+        exported!(@ $name () $($parts)*)
+    };
+}
+
+/// The refusal and the count that an answer carries: bits 0 to 7, and 16 to 43.
+pub const fn parts(answer: u64) -> (u64, usize) {
+    (answer & 0xff, ((answer >> 16) & 0xfff_ffff) as usize)
+}
+
+/// A field, and what is lent to a call on it.
+pub struct Lent {
+    field: Field,
+    values: Vec<u8>,
+    list: Vec<u16>,
+    f: Vec<f64>,
+    u: Vec<u32>,
+}
+
+impl Lent {
+    pub fn new(field: &Field, room: usize) -> Self {
+        let (n, m) = (field.n(), field.m());
+        Self {
+            field: field.clone(),
+            values: field.start.clone(),
+            list: vec![0; room],
+            f: vec![0.0; 8 * n + 4 * m + 16],
+            u: vec![0; 16 * n + 8 * m + 16],
+        }
+    }
+
+    pub fn values(&self) -> &[u8] {
+        &self.values
+    }
+
+    pub fn list(&self) -> &[u16] {
+        &self.list
+    }
+
+    pub const fn field(&self) -> &Field {
+        &self.field
+    }
+
+    /// The values are the start values again, outside the time.
+    fn begin(&mut self) {
+        self.values.copy_from_slice(&self.field.start);
+    }
+
+    pub fn closure(&mut self) -> (Duration, u64) {
+        self.begin();
+        let Field {
+            c, rows, cols, q, ..
+        } = &self.field;
+        let (v, f, u) = (&mut self.values, &mut self.f, &mut self.u);
+        exported!(ombradiec_closure, [c][rows][cols][q][mut v][mut f][mut u])
+    }
+
+    pub fn components(&mut self) -> (Duration, u64) {
+        self.begin();
+        let Field {
+            c, rows, cols, q, ..
+        } = &self.field;
+        let (v, f, u) = (&mut self.values, &mut self.f, &mut self.u);
+        exported!(ombradiec_components, [c][rows][cols][q][mut v][mut f][mut u])
+    }
+
+    pub fn preprocess(&mut self) -> (Duration, u64) {
+        self.begin();
+        let Field {
+            c, rows, cols, q, ..
+        } = &self.field;
+        let (v, f, u) = (&mut self.values, &mut self.f, &mut self.u);
+        exported!(ombradiec_preprocess, [c][rows][cols][q][mut v][mut f][mut u])
+    }
+
+    pub fn heavy(&mut self) -> (Duration, u64) {
+        self.begin();
+        let Field {
+            c, rows, cols, q, ..
+        } = &self.field;
+        let (v, f, u) = (&mut self.values, &mut self.f, &mut self.u);
+        exported!(ombradiec_heavy, [c][rows][cols][q][mut v][mut f][mut u])
+    }
+
+    pub fn no_effect(&mut self) -> (Duration, u64) {
+        let Field {
+            c, rows, cols, q, ..
+        } = &self.field;
+        let (l, u) = (&mut self.list, &mut self.u);
+        exported!(ombradiec_no_effect, [c][rows][cols][q][mut l][mut u])
+    }
+
+    /// Shifts a copy; the copying is not timed, since the call works in place.
+    pub fn shift(&mut self, from: &Field) -> (Duration, u64) {
+        let Field {
+            c, rows, cols, q, ..
+        } = &mut self.field;
+        c.copy_from_slice(&from.c);
+        rows.copy_from_slice(&from.rows);
+        cols.copy_from_slice(&from.cols);
+        q.copy_from_slice(&from.q);
+        exported!(ombradiec_shift, [mut c][mut rows][mut cols][mut q])
+    }
+
+    pub fn anchors(&mut self, least: usize) -> (Duration, u64) {
+        let Field {
+            c,
+            rows,
+            cols,
+            q,
+            start,
+            ..
+        } = &self.field;
+        let (l, f, u) = (&mut self.list, &mut self.f, &mut self.u);
+        exported!(ombradiec_anchors, [c][rows][cols][q][start](least)[mut l][mut f][mut u])
+    }
+
+    pub fn pairs(&mut self, limit: usize) -> (Duration, u64) {
+        let Field {
+            c,
+            rows,
+            cols,
+            q,
+            start,
+            ..
+        } = &self.field;
+        let (l, f, u) = (&mut self.list, &mut self.f, &mut self.u);
+        exported!(ombradiec_pairs, [c][rows][cols][q][start](limit)[mut l][mut f][mut u])
+    }
+
+    pub fn probe_one(&mut self, variable: usize, value: u8) -> (Duration, u64) {
+        let Field {
+            c,
+            rows,
+            cols,
+            q,
+            start,
+            ..
+        } = &self.field;
+        let (v, f, u) = (&mut self.values, &mut self.f, &mut self.u);
+        exported!(ombradiec_probe_one, [c][rows][cols][q][start](variable)(value)[mut v][mut f][mut u])
+    }
+
+    pub fn probe(&mut self) -> (Duration, u64) {
+        let Field {
+            c,
+            rows,
+            cols,
+            q,
+            start,
+            ..
+        } = &self.field;
+        let (v, l, f, u) = (&mut self.values, &mut self.list, &mut self.f, &mut self.u);
+        exported!(ombradiec_probe, [c][rows][cols][q][start][mut v][mut l][mut f][mut u])
+    }
+
+    pub fn probe_limited(&mut self, most: usize) -> (Duration, u64) {
+        let Field {
+            c,
+            rows,
+            cols,
+            q,
+            start,
+            ..
+        } = &self.field;
+        let (v, l, f, u) = (&mut self.values, &mut self.list, &mut self.f, &mut self.u);
+        exported!(ombradiec_probe_limited, [c][rows][cols][q][start](most)[mut v][mut l][mut f][mut u])
+    }
+}
+
+/// Start values and constraints, and what is lent to propagation.
+pub struct LentRules {
+    rules: Rules,
+    pub values: Vec<u8>,
+    u: Vec<u32>,
+}
+
+impl LentRules {
+    pub fn new(rules: &Rules) -> Self {
+        Self {
+            rules: rules.clone(),
+            values: rules.start.clone(),
+            u: vec![0; 16 * rules.start.len() + 8 * (rules.constraints.len() / 3) + 16],
+        }
+    }
+
+    pub fn propagate(&mut self) -> (Duration, u64) {
+        self.values.copy_from_slice(&self.rules.start);
+        let (v, k, u) = (&mut self.values, &self.rules.constraints, &mut self.u);
+        exported!(ombradiec_propagate, [mut v][k][mut u])
+    }
+}
