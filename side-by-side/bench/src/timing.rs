@@ -3,14 +3,7 @@
 use std::hint::black_box;
 use std::time::{Duration, Instant};
 
-#[repr(C)]
-struct Moment {
-    seconds: i64,
-    nanoseconds: i64,
-}
-
 extern "C" {
-    fn clock_gettime(clock: i32, moment: *mut Moment) -> i32;
     fn mallopt(which: i32, value: i32) -> i32;
 }
 
@@ -24,25 +17,11 @@ pub fn keep_heap() {
     }
 }
 
-/// What this thread has used of a processor (Linux, 64 bits).
-fn used() -> Duration {
-    const THREAD_CPUTIME: i32 = 3;
-    let mut now = Moment {
-        seconds: 0,
-        nanoseconds: 0,
-    };
-    let failed = unsafe { clock_gettime(THREAD_CPUTIME, &raw mut now) };
-    assert_eq!(failed, 0, "no clock for this thread");
-    Duration::new(now.seconds as u64, now.nanoseconds as u32)
-}
-
-/// The time of a call by the wall, or what the thread used of a processor where that is less: then others ran in between.
+/// The time of a call by the wall.
 pub fn timed<T>(call: impl FnOnce() -> T) -> (Duration, T) {
-    let before = used();
     let begin = Instant::now();
     let answer = black_box(call());
-    let wall = begin.elapsed();
-    (wall.min(used() - before), answer)
+    (begin.elapsed(), answer)
 }
 
 /// The least time of each side, which take turns: 20 runs or more, and the budget or more, for each side; a side that is slow
