@@ -30,12 +30,12 @@ use Rattle.anchors.specs.Sums.{balanceAt, balanceOver, balanceOf, balanc
 
 -- ---- a sum over the places of i is a sum over the entries that touch it
 
-unfoldable gather : (ℕ → Whole) → List ℕ → Whole
+unfoldable pub gather : (ℕ → Whole) → List ℕ → Whole
 gather g [] = nothing
 gather g (k ∷ ks) = g k ⊕ gather g ks
 
 -- entry k touches i
-abbrev touches : Field → ℕ → ℕ → Bool
+abbrev pub touches : Field → ℕ → ℕ → Bool
 touches F i k = eqb (rowEnd F k) i || eqb (columnEnd F k) i
 
 gather-keep : (g : ℕ → Whole) (b : Bool) (k : ℕ) (l : List ℕ) → gather g (keep b k l) ≈ only b (g k) ⊕ gather g l
@@ -60,7 +60,7 @@ module _ {F : Field} (S : Shaped F) (g : ℕ → Whole) (i : ℕ) where
       ap (λ (f : ℕ → List ℕ). f i) (tail-step (F .rows) (F .cols) k (omega (arith, S .rows-long)) (omega (arith, S .cols-long))) in
       rw st (omega (arith, gather-keep g (touches F i k) k (tail (F .rows) (F .cols) (suc k) i), split-sum d (suc k) (omega arith)))
 
-  gather-places : gather g (places (F .rows) (F .cols) i) ≈ sum (entries F) term
+  pub gather-places : gather g (places (F .rows) (F .cols) i) ≈ sum (entries F) term
   unfolding places sum
   gather-places = omega (arith, split-sum (entries F) 0 (omega arith))
 

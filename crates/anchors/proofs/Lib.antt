@@ -9,3 +9,4 @@ pub mod Choosing
 pub mod Ruling
 pub mod Turning
 pub mod Demands
+pub mod ExactWeight

@@ -3,3 +3,4 @@ pub mod Model
 pub mod Call
 pub mod Cells
 pub mod Rule
+pub mod EdgeWeight

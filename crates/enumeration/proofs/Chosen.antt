@@ -10,9 +10,10 @@ use Rattle.weights.specs.Worth.{zero64}
 use Rattle.scratch.specs.Region.{region}
 use Rattle.scratch.proofs.Region.{length-region}
 use Rattle.field.specs.Field.{Field}
-use Rattle.masks.specs.Masks.{Term, sumAt, objective, element, Added, Best, lowest}
+use Rattle.masks.specs.Masks.{Term, sumAt, objective, element, Added, Best, lowest, First}
 use Rattle.masks.proofs.Least.{best-alike}
 use Rattle.masks.proofs.Added.{added-then}
+use Rattle.masks.proofs.First.{lowest-first}
 use Rattle.enumeration.specs.Held.{Sized}
 use Rattle.enumeration.specs.Terms.{linearTerms, pairTerms, termsOf, maskOf, putTo, solved}
 
@@ -38,6 +39,7 @@ module _ {count size : ℕ} (few : count ≤ 10) (e : size ≡ 2 ^ count) where
   pub blank-long : size ≡ length (take size (replicate 1024 zero64))
   blank-long = sym (ap length (take-blank size 1024 (size-most few e)) ∙ length-replicate size zero64)
 
+-- the lowest mask of least sum in a table of zeros, to which the linear terms and then those of pairs were added, is the mask that wins
 pub chosen : (F : Field) (s u : List ℕ) (at count : ℕ) {t₀ t₁ t₂ : List Float} {r : ℕ} → at + count ≤ length u → t₀ ≡ replicate (2 ^ count) zero64
     → Added (linearTerms F s (region at count u) count) t₀ t₁ → Added (pairTerms F (region at count u) count) t₁ t₂ → r ≡ lowest (element t₂) (length t₂) → r ≡ maskOf F s (region at count u)
 unfolding maskOf termsOf
@@ -56,6 +58,11 @@ chosen F s u at count {t₀} {t₁} {t₂} room e₀ A B er =
 
     same : (m : ℕ) → m < 2 ^ count → element t₂ m ≡ objective ts m
     same m h = both .sums .at m (omega (arith, long)) ∙ ap (λ (x : Float). sumAt m x ts) (ap (λ (t : List Float). getD t m nan) e₀ ∙ getD-replicate (2 ^ count) m zero64 nan h)
+
+-- over any floats it is the lowest of least objective
+pub mask-first : (F : Field) (s members : List ℕ) → First (objective (termsOf F s members)) (2 ^ length members) (maskOf F s members)
+unfolding maskOf
+mask-first F s members = lowest-first (objective (termsOf F s members)) (2 ^ length members)
 
 pub solved-by : (F : Field) (s u : List ℕ) (at count : ℕ) {mask : ℕ} {s′ : List ℕ} → at + count ≤ length u → mask ≡ maskOf F s (region at count u)
     → s′ ≡ putTo s (region at count u) mask count → s′ ≡ solved F s (region at count u)

@@ -9,4 +9,5 @@ pub mod Stands
 pub mod Objective
 pub mod Exchange
 pub mod Bits
+pub mod Local
 pub mod Bridge

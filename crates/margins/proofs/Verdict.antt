@@ -12,7 +12,7 @@ use Rattle.weights.specs.Worth.{Worth}
 use Rattle.weights.proofs.Worth.{as-worth, neg-worth}
 use Rattle.meaning.specs.Field.{Best}
 use Rattle.meaning.specs.Kinds.{Kind, at-least-one, exactly-one, no-more-than-one, greater-than, less-than, equal, Forbids}
-use Rattle.meaning.specs.Pair.{margin, Always, dominated}
+use Rattle.meaning.specs.Pair.{margin, dominated}
 use Rattle.meaning.proofs.Margin.{never-both}
 use Rattle.meaning.proofs.Theorems.{pair-margin-exact, pair-constraint-holds, pair-constraint-stays, pair-greatest}
 use Rattle.meaning.specs.Steps.{Extends}
@@ -23,9 +23,10 @@ use Rattle.margins.specs.declared.bounds.Sign.{Sign}
 use Rattle.margins.specs.declared.bounds.Sign.the-variants.{Above, Below, Neither}
 use Rattle.margins.specs.Exact.{Exact}
 use Rattle.margins.specs.Exceeds.{Exceeds}
+use Rattle.margins.specs.Dominance.{Dominates}
 use Rattle.margins.specs.Model.{boundsOf, tolerance, signOf, Signs, signsOf, sumKinds, diffKinds, kindsOf, pairSigns, pairKinds}
 use Rattle.margins.proofs.Members.{in-right}
-use Rattle.margins.proofs.Four.{four}
+use Rattle.margins.proofs.Four.{bounds-worth}
 use Rattle.margins.proofs.Tolerance.{exceeds-tolerance, above-means, lt-neg, tolerance-positive}
 
 -- ---- which sign a pattern's constraint stands for
@@ -135,10 +136,6 @@ sign-below t l h = go (lt t l) (lt h (neg t))
 joined : {A B C : Type 0} → A ↔ B → B ↔ C → A ↔ C
 joined p q = ((λ a. q .0 (p .0 a)), λ c. p .1 (q .1 c))
 
--- f at the pattern is above f at the opposite by more than the tolerance, for all values of the other free variables
-abbrev pub Dominates : ℕ → Field → List ℕ → ℕ → ℕ → Bool → Bool → Type 0
-Dominates u F s i j a b = Always (Exceeds u (tolerance F i j)) a b (wholeOf u F) s i j
-
 module _ {u : ℕ} {F : Field} (x : Exact u F) {s : List ℕ} (st : StartFor (variables F) s) (i j : ℕ) (hi : i < variables F) (hj : j < variables F) (ne : i ≢ j) (fi : getD s i 0 ≡ 2) (fj : getD s j 0 ≡ 2) where
   abbrev t : Float
   t = tolerance F i j
@@ -158,16 +155,16 @@ module _ {u : ℕ} {F : Field} (x : Exact u F) {s : List ℕ} (st : StartFor (va
   turned a b y w = rw (lt-neg y t) (means a b (neg y) w)
 
   test-11 : T (lt t (boundsOf F s i j .sumLow)) ↔ Dominates u F s i j true true
-  test-11 = means true true _ (four x st i j hi hj fi fj .sumLow)
+  test-11 = means true true _ (bounds-worth x st i j hi hj fi fj .sumLow)
 
   test-00 : T (lt (boundsOf F s i j .sumHigh) (neg t)) ↔ Dominates u F s i j false false
-  test-00 = turned false false _ (as-worth (neg-worth (four x st i j hi hj fi fj .sumHigh)) (omega (arith, pair-greatest (wholeOf u F) s true true i j)))
+  test-00 = turned false false _ (as-worth (neg-worth (bounds-worth x st i j hi hj fi fj .sumHigh)) (omega (arith, pair-greatest (wholeOf u F) s true true i j)))
 
   test-10 : T (lt t (boundsOf F s i j .diffLow)) ↔ Dominates u F s i j true false
-  test-10 = means true false _ (four x st i j hi hj fi fj .diffLow)
+  test-10 = means true false _ (bounds-worth x st i j hi hj fi fj .diffLow)
 
   test-01 : T (lt (boundsOf F s i j .diffHigh) (neg t)) ↔ Dominates u F s i j false true
-  test-01 = turned false true _ (as-worth (neg-worth (four x st i j hi hj fi fj .diffHigh)) (omega (arith, pair-greatest (wholeOf u F) s true false i j)))
+  test-01 = turned false true _ (as-worth (neg-worth (bounds-worth x st i j hi hj fi fj .diffHigh)) (omega (arith, pair-greatest (wholeOf u F) s true false i j)))
 
   -- no pattern dominates the opposite that dominates it
   apart : (a b : Bool) → Dominates u F s i j a b → Dominates u F s i j (not a) (not b) → ⊥

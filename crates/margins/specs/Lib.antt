@@ -2,3 +2,4 @@ pub mod Model
 pub mod Merge
 pub mod Exceeds
 pub mod Exact
+pub mod Dominance

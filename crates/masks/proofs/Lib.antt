@@ -4,4 +4,6 @@ pub mod Least
 pub mod Added
 pub mod Digits
 pub mod Adds
+pub mod Order
 pub mod Winner
+pub mod First

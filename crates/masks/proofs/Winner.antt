@@ -10,11 +10,11 @@ use native.Mathlib.Decide.{ℕ-discrete}
 use lib.Dec.{ltb}
 use lib.Ieee.{Float, nan, inf, fin, lt, ofBits}
 use borrow.Author.Tests.{ltb-true, ltb-false}
-use Rattle.whole.specs.Whole.{Whole, _⊑_}
+use Rattle.whole.specs.Whole.{Whole}
 use Rattle.weights.specs.Counts.{Counts}
 use Rattle.weights.specs.Worth.{Worth}
 use Rattle.weights.proofs.Worth.{lt-worth}
-use Rattle.masks.specs.Masks.{Best, top, bestOf}
+use Rattle.masks.specs.Masks.{Best, top, bestOf, lowest, Won}
 
 below-top : {u : ℕ} (x : Float) {a : Whole} → Worth u x a → lt x top ≡ true
 unfolding lt ofBits Counts
@@ -22,54 +22,62 @@ below-top nan w = absurd (w .is)
 below-top (inf s) w = absurd (w .is)
 below-top (fin s m e) w = refl
 
--- of the masks below n, best is one, no other has a smaller sum, and each lower one has a larger
-pub record Won (f : ℕ → Float) (g : ℕ → Whole) (n : ℕ) (best : Best) : Type 0 where
-  pub below : best .mask < n
-  pub sum-is : best .sum ≡ f (best .mask)
-  pub least : (m : ℕ) → m < n → g (best .mask) ⊑ g m
-  pub lowest : (m : ℕ) → m < best .mask → g (best .mask) .plus + g m .less < g m .plus + g (best .mask) .less
+-- the best so far: its mask wins, and its sum is that mask's
+record Winning (f : ℕ → Float) (g : ℕ → Whole) (n : ℕ) (best : Best) : Type 0 where
+  sum-is : best .sum ≡ f (best .mask)
+  won : Won g n (best .mask)
 
 module _ {u : ℕ} (f : ℕ → Float) (g : ℕ → Whole) where
-  first : Worth u (f 0) (g 0) → Won f g 1 (bestOf f 1)
+  one-mask : Worth u (f 0) (g 0) → Winning f g 1 (bestOf f 1)
   unfolding bestOf
-  first w = rw (below-top (f 0) w) (record { below = omega arith; sum-is = refl; least = λ m h. (let e : m ≡ 0 = omega arith in rw e (omega arith)); lowest = λ m h. absurd (omega arith) })
+  one-mask w = rw (below-top (f 0) w) (record {
+    sum-is = refl;
+    won = record { below = omega arith; least = λ m h. (let e : m ≡ 0 = omega arith in rw e (omega arith)); lowest = λ m h. absurd (omega arith) };
+  })
 
-  next : (n : ℕ) → Worth u (f n) (g n) → (best : Best) → Worth u (f (best .mask)) (g (best .mask)) → Won f g n best
-      → Won f g (suc n) (cond (lt (f n) (best .sum)) (record { sum = f n; mask = n }) best)
-  next n w best w′ W = by (lt (f n) (best .sum)) (sym (ap (λ (x : Float). lt (f n) x) (W .sum-is) ∙ lt-worth w w′))
+  next-mask : (n : ℕ) → Worth u (f n) (g n) → (best : Best) → Worth u (f (best .mask)) (g (best .mask)) → Winning f g n best
+      → Winning f g (suc n) (cond (lt (f n) (best .sum)) (record { sum = f n; mask = n }) best)
+  next-mask n w best w′ W = by (lt (f n) (best .sum)) (sym (ap (λ (x : Float). lt (f n) x) (W .sum-is) ∙ lt-worth w w′))
     where
-      by : (b : Bool) → ltb (g n .plus + g (best .mask) .less) (g (best .mask) .plus + g n .less) ≡ b → Won f g (suc n) (cond b (record { sum = f n; mask = n }) best)
+      by : (b : Bool) → ltb (g n .plus + g (best .mask) .less) (g (best .mask) .plus + g n .less) ≡ b → Winning f g (suc n) (cond b (record { sum = f n; mask = n }) best)
       by true e =
           let l : g n .plus + g (best .mask) .less < g (best .mask) .plus + g n .less = ltb-true _ _ e in
           record {
-            below = omega arith;
             sum-is = refl;
-            least = λ m h. elim (ℕ-discrete m n) [
-              | yes q ↦ rw q (omega arith)
-              | no q ↦ omega (arith, W .least m (omega arith))
-            ];
-            lowest = λ m h. omega (arith, W .least m h);
+            won = record {
+              below = omega arith;
+              least = λ m h. elim (ℕ-discrete m n) [
+                | yes q ↦ rw q (omega arith)
+                | no q ↦ omega (arith, W .won .least m (omega arith))
+              ];
+              lowest = λ m h. omega (arith, W .won .least m h);
+            };
           }
       by false e =
           let l : g (best .mask) .plus + g n .less ≤ g n .plus + g (best .mask) .less = ltb-false _ _ e in
           record {
-            below = omega (arith, W .below);
             sum-is = W .sum-is;
-            least = λ m h. elim (ℕ-discrete m n) [
-              | yes q ↦ rw q (omega arith)
-              | no q ↦ W .least m (omega arith)
-            ];
-            lowest = W .lowest;
+            won = record {
+              below = omega (arith, W .won .below);
+              least = λ m h. elim (ℕ-discrete m n) [
+                | yes q ↦ rw q (omega arith)
+                | no q ↦ W .won .least m (omega arith)
+              ];
+              lowest = W .won .lowest;
+            };
           }
 
-  won : (n : ℕ) → ((m : ℕ) → m < suc n → Worth u (f m) (g m)) → Won f g (suc n) (bestOf f (suc n))
+  all-masks : (n : ℕ) → ((m : ℕ) → m < suc n → Worth u (f m) (g m)) → Winning f g (suc n) (bestOf f (suc n))
   unfolding bestOf
-  won zero w = first (w 0 (omega arith))
-  won (suc n) w = let W = won n (λ m h. w m (omega arith)) in next (suc n) (w (suc n) (omega arith)) (bestOf f (suc n)) (w (bestOf f (suc n) .mask) (omega (arith, W .below))) W
+  all-masks zero w = one-mask (w 0 (omega arith))
+  all-masks (suc n) w =
+      let W = all-masks n (λ m h. w m (omega arith)) in
+      next-mask (suc n) (w (suc n) (omega arith)) (bestOf f (suc n)) (w (bestOf f (suc n) .mask) (omega (arith, W .won .below))) W
 
-  pub winner : (n : ℕ) → 0 < n → ((m : ℕ) → m < n → Worth u (f m) (g m)) → Won f g n (bestOf f n)
+  -- where every sum f is worth g, the lowest mask of least g wins
+  pub winner : (n : ℕ) → 0 < n → ((m : ℕ) → m < n → Worth u (f m) (g m)) → Won g n (lowest f n)
   winner zero h w = absurd (omega arith)
-  winner (suc n) h w = won n w
+  winner (suc n) h w = all-masks n w .won
 
 -- ---- whatever the sums are
 

@@ -1,12 +1,14 @@
 -- Masks of at most 10 bits; terms, each of which counts in the masks that have its required bits; the sum of each mask, and the lowest mask of least sum. Assumes nothing.
-use Prim.Native.Nat.{ℕ, zero, suc, _^_, _<_, _≤_}
+use Prim.Native.Nat.{ℕ, zero, suc, _+_, _/_, _%_, _^_, _<_, _≤_}
 use mathlib.Core.Path.{_≡_}
-use mathlib.Core.Bool.{Bool, cond}
+use mathlib.Core.Logic.{_⊎_}
+use mathlib.Core.Bool.{Bool, true, false, cond}
 use mathlib.Core.List.{List, [], _∷_}
 use lib.Bits.{bitAnd}
 use lib.Dec.{eqb}
 use lib.ListN.{length, getD}
 use lib.Ieee.{Float, nan, binary64, add, lt, ofBits}
+use Rattle.whole.specs.Whole.{Whole, _⊑_}
 use Rattle.weights.specs.Worth.{zero64}
 
 -- size is the number of masks of a few bits; "No objective table holds more than 1,024 sums"
@@ -69,3 +71,22 @@ bestOf g (suc n) = cond (lt (g n) (bestOf g n .sum)) (record { sum = g n; mask =
 
 abbrev pub lowest : (ℕ → Float) → ℕ → ℕ
 lowest g n = bestOf g n .mask
+
+-- ---- what the mask is that wins
+
+-- where mask m counts g m: of the masks below n none counts less than this one, and each lower one counts more
+pub record Won (g : ℕ → Whole) (n mask : ℕ) : Type 0 where
+  pub below : mask < n
+  pub least : (m : ℕ) → m < n → g mask ⊑ g m
+  pub lowest : (m : ℕ) → m < mask → g mask .plus + g m .less < g m .plus + g mask .less
+
+-- whatever the sums f are: of the masks below n none has a sum below this one's, each lower one has a NaN or a sum above it,
+-- and this one's is below plus infinity if any is
+pub record First (f : ℕ → Float) (n mask : ℕ) : Type 0 where
+  pub least : (m : ℕ) → m < n → lt (f m) (f mask) ≡ false
+  pub lowest : (m : ℕ) → m < mask → (f m ≡ nan) ⊎ (lt (f mask) (f m) ≡ true)
+  pub below-top : (m : ℕ) → m < n → lt (f m) top ≡ true → lt (f mask) top ≡ true
+
+-- in the values, member b has bit b of the mask
+abbrev pub HasBits : List ℕ → List ℕ → ℕ → Type 0
+HasBits values members mask = (b : ℕ) → b < length members → getD values (getD members b 0) 0 ≡ mask / 2 ^ b % 2

@@ -5,7 +5,7 @@ use mathlib.Core.Logic.{_≢_, _⊎_, inl, inr, ⊎-elim, _↔_}
 use mathlib.Core.Bool.{Bool, true, false}
 use mathlib.Core.List.{List, [], _∷_, _++_, map, append-assoc, List·Memᴰ, List·Memᴰ·head, List·Memᴰ·tail, List·Memᴰ·not-nil, List·Memᴰ·cases-cons, List·Memᴰ·append-cases}
 use native.Mathlib.Omega.{arith}
-use borrow.Author.Tests.{leb-true, leb-false, lt-leb}
+use borrow.Author.Tests.{leb-true, leb-false, le-leb, lt-leb}
 use lib.Dec.{T, leb}
 use lib.ListN.{length, getD, take, drop, take-append-drop}
 use lib.Seq.{take-at}
@@ -15,7 +15,7 @@ use Rattle.weights.specs.Worth.{zero64}
 use Rattle.scratch.specs.Cleared.{cleared}
 use Rattle.meaning.specs.Field.{Best}
 use Rattle.meaning.specs.Kinds.{Kind, Pair, pair, Meets, at-least-one, exactly-one, no-more-than-one, greater-than, less-than, equal}
-use Rattle.meaning.specs.Pair.{margin, greatest, dominated}
+use Rattle.meaning.specs.Pair.{dominated}
 use Rattle.meaning.specs.Steps.{Extends}
 use Rattle.field.specs.declared.Checked.{Checked}
 use Rattle.field.specs.declared.Checked.the-variants.{Passed, Failed}
@@ -33,18 +33,18 @@ use Rattle.field.proofs.Means.{ready-passes}
 use Rattle.field.proofs.Exact.{exact-means}
 use Rattle.margins.specs.Exact.{Exact}
 use Rattle.margins.specs.Model.{tolerance, boundsOf, pairKinds}
-use Rattle.margins.proofs.Four.{Four, four}
+use Rattle.margins.specs.Dominance.{Dominates, Four}
+use Rattle.margins.proofs.Four.{four}
 use Rattle.margins.proofs.Tolerance.{tolerance-positive}
 use Rattle.margins.proofs.Members.{in-left, in-right}
-use Rattle.margins.proofs.Verdict.{Dominates, kind-means, kind-sound, kind-pattern, kind-stays}
-use Rattle.constraints.specs.Triple.{Triple, room, triples, filled}
+use Rattle.margins.proofs.Verdict.{kind-means, kind-sound, kind-pattern, kind-stays}
+use Rattle.constraints.specs.Triple.{Triple, room, triples, filled, constraintOf}
 use Rattle.constraints.specs.Codes.{kindAt}
-use Rattle.constraints.proofs.Triples.{triples-filled}
-use Rattle.pairs.specs.declared.Paired.{Paired}
+use Rattle.constraints.proofs.Triples.{filled-rest, triples-filled}
 use Rattle.pairs.specs.declared.Paired.the-variants.{Done, Refused}
-use Rattle.pairs.specs.Listing.{freeOf, allowed, examined, pairCount, codeFor, tripleFor, pairTriples, foundIn, found}
-use Rattle.pairs.specs.Call.{Left, left, answered, leaves, pairsCall}
-use Rattle.pairs.proofs.Examined.{examined-count, longer, examined-free, still-examined}
+use Rattle.pairs.specs.Listing.{allowed, examined, pairCount, codeFor, tripleFor, pairTriples, foundIn, found}
+use Rattle.pairs.specs.Call.{Left, left, answered, leaves, pairsCall, listed, DoneSays}
+use Rattle.pairs.proofs.Examined.{examined-count, longer, FreePair, examined-free, still-examined}
 
 -- any two results that the promise permits are equal
 pub one-result : (F : Field) (s : List ℕ) (limit : ℕ) (l : List ℕ) (f : List Float) (u : List ℕ) (x y : Left) → x ≡ pairsCall F s limit l f u → y ≡ pairsCall F s limit l f u → x ≡ y
@@ -81,53 +81,59 @@ code-kind greater-than = refl
 code-kind less-than = refl
 code-kind equal = refl
 
+-- an examined pair gives the constraint c
+record GivenBy (F : Field) (s : List ℕ) (limit : ℕ) (c : Triple) : Type 0 where
+  at : Pair
+  kind : Kind
+  is-examined : List·Memᴰ at (examined limit s)
+  gives : List·Memᴰ kind (pairKinds F s (at .first) (at .second))
+  is : c ≡ tripleFor (at .first) (at .second) kind
+
+given-by : (F : Field) (s : List ℕ) (limit : ℕ) {c : Triple} → List·Memᴰ c (found F s limit) → GivenBy F s limit c
+unfolding found pairTriples
+given-by F s limit m =
+    let z = found-from F s (examined limit s) m in
+    let y = in-map (tripleFor (z .0 .first) (z .0 .second)) (pairKinds F s (z .0 .first) (z .0 .second)) (z .1 .1) in
+    record { at = z .0; kind = y .0; is-examined = z .1 .0; gives = y .1 .0; is = y .1 .1 }
+
 -- the constraint on (i, j) of kind k is found exactly if the pair is examined and gives it
-pub found-exactly : (F : Field) (s : List ℕ) (limit i j : ℕ) (k : Kind)
+found-exactly : (F : Field) (s : List ℕ) (limit i j : ℕ) (k : Kind)
     → List·Memᴰ (tripleFor i j k) (found F s limit) ↔ (List·Memᴰ (pair i j) (examined limit s) × List·Memᴰ k (pairKinds F s i j))
 unfolding found pairTriples
-found-exactly F s limit i j k = (to, λ h. found-of F s (examined limit s) (h .0) (map-in (tripleFor i j) (pairKinds F s i j) (h .1)))
+found-exactly F s limit i j k = (
+  λ m. same (given-by F s limit m),
+  λ h. found-of F s (examined limit s) (h .0) (map-in (tripleFor i j) (pairKinds F s i j) (h .1)),
+)
   where
-    to : List·Memᴰ (tripleFor i j k) (foundIn F s (examined limit s)) → List·Memᴰ (pair i j) (examined limit s) × List·Memᴰ k (pairKinds F s i j)
-    to m =
-        let z = found-from F s (examined limit s) m in
-        let y = in-map (tripleFor (z .0 .first) (z .0 .second)) (pairKinds F s (z .0 .first) (z .0 .second)) (z .1 .1) in
-        same (z .0) (y .0) (y .1 .1) (z .1 .0) (y .1 .0)
-      where
-        same : (p : Pair) (k′ : Kind) → tripleFor i j k ≡ tripleFor (p .first) (p .second) k′ → List·Memᴰ p (examined limit s) → List·Memᴰ k′ (pairKinds F s (p .first) (p .second))
-            → List·Memᴰ (pair i j) (examined limit s) × List·Memᴰ k (pairKinds F s i j)
-        same p k′ e m h =
-            let ei : i ≡ p .first = ap (λ (t : Triple). t .first) e in
-            let ej : j ≡ p .second = ap (λ (t : Triple). t .second) e in
-            let ek : k ≡ k′ = sym (code-kind k) ∙ ap (λ (t : Triple). kindAt (t .code)) e ∙ code-kind k′ in
-            (moved p ei ej m, there p k′ ei ej ek h)
-          where
-            moved : (p : Pair) → i ≡ p .first → j ≡ p .second → List·Memᴰ p (examined limit s) → List·Memᴰ (pair i j) (examined limit s)
-            moved p ei ej m = rw (ei, ej) m
+    same : GivenBy F s limit (tripleFor i j k) → List·Memᴰ (pair i j) (examined limit s) × List·Memᴰ k (pairKinds F s i j)
+    same z =
+        let ei : i ≡ z .at .first = ap (λ (t : Triple). t .first) (z .is) in
+        let ej : j ≡ z .at .second = ap (λ (t : Triple). t .second) (z .is) in
+        let ek : k ≡ z .kind = sym (code-kind k) ∙ ap (λ (t : Triple). kindAt (t .code)) (z .is) ∙ code-kind (z .kind) in
+        (rw (ei, ej) (z .is-examined), rw (ei, ej, ek) (z .gives))
 
-            there : (p : Pair) (k′ : Kind) → i ≡ p .first → j ≡ p .second → k ≡ k′ → List·Memᴰ k′ (pairKinds F s (p .first) (p .second)) → List·Memᴰ k (pairKinds F s i j)
-            there p k′ ei ej ek h = rw (ei, ej, ek) h
+-- what a smaller limit finds stands at the front of what a larger one does
+longer-found : (F : Field) (s : List ℕ) (limit more : ℕ) → limit ≤ more → (rest : List Triple) × (found F s more ≡ found F s limit ++ rest)
+unfolding found foundIn
+longer-found F s limit more h =
+    let front = take (allowed limit) (examined more s) in
+    let rest = drop (allowed limit) (examined more s) in (
+      foundIn F s rest,
+      sym (ap (foundIn F s) (take-append-drop (allowed limit) (examined more s))) ∙ found-append front rest ∙ ap (λ (z : List Pair). foundIn F s z ++ foundIn F s rest) (sym (longer limit more s h)),
+    )
+  where
+    found-append : (ps qs : List Pair) → foundIn F s (ps ++ qs) ≡ foundIn F s ps ++ foundIn F s qs
+    found-append [] qs = refl
+    found-append (p ∷ ps) qs = rw (found-append ps qs) (sym (append-assoc (pairTriples F s p) (foundIn F s ps) (foundIn F s qs)))
 
 -- ---- the answer
 
 clash : {A : Type 0} → _≡_ {A = ℕ} 0 1 → A
 clash z = absurd (omega arith)
 
--- what an answer of done says
-pub record DoneSays (F : Field) (s : List ℕ) (limit : ℕ) (l : List ℕ) (f : List Float) (u : List ℕ) (g : Grade) (items pairs : ℕ) : Type 0 where
-  pub ready : Ready F s (length f) (length u)
-  pub graded : g ≡ gradeOf F
-  pub items-are : items ≡ length (found F s limit)
-  pub pairs-are : pairs ≡ pairCount limit (length (freeOf s))
-  pub fits : length (found F s limit) ≤ room l
-  pub list-is : pairsCall F s limit l f u .list ≡ filled (found F s limit) l
-  pub rest-is : pairsCall F s limit l f u ≡ left (Done g items pairs) (filled (found F s limit) l) (cleared zero64 f) (cleared 0 u)
-
 module _ (F : Field) (s : List ℕ) (limit : ℕ) (l : List ℕ) (f : List Float) (u : List ℕ) where
   abbrev full : Bool
   full = leb (length (found F s limit)) (room l)
-
-  abbrev call : Left
-  call = pairsCall F s limit l f u
 
   abbrev checked : Checked
   checked = tested (readyTests F s (length f) (length u))
@@ -170,116 +176,134 @@ module _ (F : Field) (s : List ℕ) (limit : ℕ) (l : List ℕ) (f : List Float
   done-as g items pairs Passed true eb e = (refl, (eb, rw eb at e))
   done-as g items pairs Passed false eb e = let q : Refused Room ≡ Done g items pairs = rw eb at e in clash (cc)
 
-  -- Done: the grade, the list that the rule gives, the count of its constraints, and the count of pairs by the formula.
-  pub done-means : (g : Grade) (items pairs : ℕ) → pairsCall F s limit l f u .answer ≡ Done g items pairs → DoneSays F s limit l f u g items pairs
+  -- The call is done exactly if every test passes and the list has room, and then gives the grade, the number of constraints and the number of pairs by the formula.
+  pub done-when : (g : Grade) (items pairs : ℕ) → (pairsCall F s limit l f u .answer ≡ Done g items pairs) ↔ DoneSays F s limit l f u g items pairs
   unfolding pairsCall leaves answered
-  done-means g items pairs e =
-      let d = done-as g items pairs checked full refl e in
-      let q = d .1 .1 in
-      let eg : gradeOf F ≡ g = cc in
-      let ei : length (found F s limit) ≡ items = cc in
-      let ep : length (examined limit s) ≡ pairs = cc in
-      let whole : pairsCall F s limit l f u ≡ left (Done (gradeOf F) (length (found F s limit)) (length (examined limit s))) (filled (found F s limit) l) (cleared zero64 f) (cleared 0 u) = rw (d .0, d .1 .0) refl in
-      record {
-        ready = ready-passes F s (length f) (length u) .0 (d .0);
-        graded = sym eg;
-        items-are = sym ei;
-        pairs-are = sym ep ∙ examined-count limit s;
-        fits = leb-true (length (found F s limit)) (room l) (d .1 .0);
-        list-is = ap (λ (x : Left). x .list) whole;
-        rest-is = whole ∙ ap (λ (x : Paired). left x (filled (found F s limit) l) (cleared zero64 f) (cleared 0 u)) q;
-      }
+  done-when g items pairs =
+      let p = ready-passes F s (length f) (length u) in (
+        λ e.
+            let d = done-as g items pairs checked full refl e in
+            let q = d .1 .1 in
+            let eg : g ≡ gradeOf F = cc in
+            let ei : items ≡ length (found F s limit) = cc in
+            let ep : pairs ≡ length (examined limit s) = cc in
+            record { ready = p .0 (d .0); enough = leb-true _ _ (d .1 .0); graded = eg; counted = ei; pairs-counted = ep ∙ examined-count limit s },
+        λ h. rw (p .1 (h .ready), le-leb _ _ (h .enough), h .graded, h .counted, h .pairs-counted, examined-count limit s) refl,
+      )
 
-  -- The first of its triples are those constraints, no more and no fewer.
-  pub list-holds : (g : Grade) (items pairs : ℕ) → pairsCall F s limit l f u .answer ≡ Done g items pairs → take items (triples (pairsCall F s limit l f u .list)) ≡ found F s limit
-  list-holds g items pairs e =
-      let d = done-means g items pairs e in
-      rw (d .list-is, d .items-are, triples-filled (found F s limit) l) (take-at (found F s limit) (triples (drop (3 * length (found F s limit)) l)) (length (found F s limit)) refl)
+  module _ (g : Grade) (items pairs : ℕ) (e : pairsCall F s limit l f u .answer ≡ Done g items pairs) where
+    -- Then the constraints are at the front of the list, and both scratches are all zeros.
+    pub done-leaves : pairsCall F s limit l f u ≡ left (Done g items pairs) (filled (found F s limit) l) (cleared zero64 f) (cleared 0 u)
+    unfolding pairsCall leaves answered
+    done-leaves =
+        let d = done-when g items pairs .0 e in
+        rw (ready-passes F s (length f) (length u) .1 (d .ready), le-leb _ _ (d .enough), d .graded, d .counted, d .pairs-counted, examined-count limit s) refl
 
--- what an answer of done with the grade exact says of the field
-exact-field : (F : Field) (s : List ℕ) (limit : ℕ) (l : List ℕ) (f : List Float) (u : List ℕ) (items pairs : ℕ) → pairsCall F s limit l f u .answer ≡ Done ExactGrade items pairs
-    → Exact halves F × StartFor (variables F) s
-exact-field F s limit l f u items pairs e =
-    let d = done-means F s limit l f u ExactGrade items pairs e in
-    let r = d .ready .sound in
-    (record { unit = omega arith; exact = exact-means F (r .shaped .rows-long) .0 (sym (d .graded)); shaped = r .shaped }, r .start)
+    -- The first triples of the list are the constraints that the rule gives, no more and no fewer, and elements past the last of them are unchanged.
+    pub list-holds : listed items (pairsCall F s limit l f u) ≡ found F s limit
+    list-holds =
+        rw (ap (λ (x : Left). x .list) done-leaves, done-when g items pairs .0 e .counted, triples-filled (found F s limit) l)
+        (take-at (found F s limit) (triples (drop (3 * length (found F s limit)) l)) (length (found F s limit)) refl)
+
+    pub past-unchanged : drop (3 * items) (pairsCall F s limit l f u .list) ≡ drop (3 * items) l
+    past-unchanged = rw (ap (λ (x : Left). x .list) done-leaves, done-when g items pairs .0 e .counted) (filled-rest (found F s limit) l)
+
+    -- Every triple of the list is the constraint that forbids one pattern of some pair.
+    pub list-patterns : (c : Triple) → List·Memᴰ c (listed items (pairsCall F s limit l f u)) → (i : ℕ) × (j : ℕ) × (a : Bool) × (b : Bool) × (c ≡ tripleFor i j (dominated a b))
+    list-patterns c m =
+        let z = given-by F s limit (rw list-holds at m) in
+        let k = kind-pattern F s (z .at .first) (z .at .second) (z .gives) in
+        (z .at .first, z .at .second, k .0, k .1, z .is ∙ ap (tripleFor (z .at .first) (z .at .second)) (k .2))
+
+-- DEMAND 3. A larger limit only lengthens the list: where both calls are done, the constraints of the smaller limit stand at the front of those of the larger.
+pub longer-list : (F : Field) (s : List ℕ) (limit more : ℕ) → limit ≤ more
+    → (l l′ : List ℕ) (f f′ : List Float) (u u′ : List ℕ) (g g′ : Grade) (items items′ pairs pairs′ : ℕ)
+    → pairsCall F s limit l f u .answer ≡ Done g items pairs → pairsCall F s more l′ f′ u′ .answer ≡ Done g′ items′ pairs′
+    → (rest : List Triple) × (listed items′ (pairsCall F s more l′ f′ u′) ≡ listed items (pairsCall F s limit l f u) ++ rest)
+longer-list F s limit more h l l′ f f′ u u′ g g′ items items′ pairs pairs′ e e′ =
+    let z = longer-found F s limit more h in
+    (z .0, list-holds F s more l′ f′ u′ g′ items′ pairs′ e′ ∙ z .1 ∙ ap (λ (x : List Triple). x ++ z .0) (sym (list-holds F s limit l f u g items pairs e)))
 
 module _ (F : Field) (s : List ℕ) (limit : ℕ) (l : List ℕ) (f : List Float) (u : List ℕ) (items pairs : ℕ) (e : pairsCall F s limit l f u .answer ≡ Done ExactGrade items pairs) where
-  -- the constraint on (i, j) that forbids the pattern (a, b) is in the list
-  abbrev pub Listed : ℕ → ℕ → Bool → Bool → Type 0
-  Listed i j a b = List·Memᴰ (tripleFor i j (dominated a b)) (take items (triples (pairsCall F s limit l f u .list)))
+  -- what an answer of done with the grade exact says of the field and the start values
+  exact-field : Exact halves F
+  exact-field =
+      let d = done-when F s limit l f u ExactGrade items pairs .0 e in
+      let r = d .ready .sound .shaped in
+      record { unit = omega arith; exact = exact-means F (r .rows-long) .0 (sym (d .graded)); shaped = r }
 
-  listed-found : (i j : ℕ) (a b : Bool) → Listed i j a b ↔ (List·Memᴰ (pair i j) (examined limit s) × List·Memᴰ (dominated a b) (pairKinds F s i j))
-  listed-found i j a b = rw (list-holds F s limit l f u ExactGrade items pairs e) (found-exactly F s limit i j (dominated a b))
+  start : StartFor (variables F) s
+  start = done-when F s limit l f u ExactGrade items pairs .0 e .ready .sound .start
 
-  inside : (i j : ℕ) → List·Memᴰ (pair i j) (examined limit s) → (i < variables F) × ((j < variables F) × (i ≢ j))
-  inside i j m =
-      let p = examined-free limit s m in
-      let long = exact-field F s limit l f u items pairs e .1 .long in
-      (omega (arith, p .order, p .below), (omega (arith, p .below), λ z. omega (arith, p .order)))
+  holds : listed items (pairsCall F s limit l f u) ≡ found F s limit
+  holds = list-holds F s limit l f u ExactGrade items pairs e
+
+  -- what an examined pair gives
+  module _ {i j : ℕ} (m : List·Memᴰ (pair i j) (examined limit s)) where
+    free-pair : FreePair s i j
+    free-pair = examined-free limit s m
+
+    first-below : i < variables F
+    first-below = omega (arith, free-pair .order, free-pair .below, start .long)
+
+    second-below : j < variables F
+    second-below = omega (arith, free-pair .below, start .long)
+
+    apart : i ≢ j
+    apart z = omega (arith, free-pair .order)
+
+    gives-exactly : (a b : Bool) → List·Memᴰ (dominated a b) (pairKinds F s i j) ↔ Dominates halves F s i j a b
+    gives-exactly = kind-means exact-field start i j first-below second-below apart (free-pair .first) (free-pair .second)
+
+    -- each kind that it gives is one of a pattern
+    module _ {k : Kind} (h : List·Memᴰ k (pairKinds F s i j)) where
+      best-meets : (x : List ℕ) → Best (wholeOf halves F) s x → Meets x (record { first = i; second = j; kind = k })
+      best-meets =
+          let p = kind-pattern F s i j h in
+          rw (p .2) (kind-sound exact-field start i j first-below second-below apart (free-pair .first) (free-pair .second) (p .0) (p .1) (rw (p .2) at h))
+
+      still-gives : {s′ : List ℕ} → StartFor (variables F) s′ → Extends s s′ → getD s′ i 0 ≡ 2 → getD s′ j 0 ≡ 2 → List·Memᴰ k (pairKinds F s′ i j)
+      still-gives start′ more fi fj =
+          let p = kind-pattern F s i j h in
+          rw (p .2) (kind-stays exact-field start start′ more i j first-below second-below apart (free-pair .first) (free-pair .second) fi fj (p .0) (p .1) (rw (p .2) at h))
 
   -- DEMAND 2. On an exact field the constraint that forbids a pattern of (i, j) is in the list exactly if the pair is examined and f at the pattern
   -- less f at the opposite is above the tolerance for all values of the other free variables.
-  pub list-exact : (i j : ℕ) (a b : Bool) → Listed i j a b ↔ (List·Memᴰ (pair i j) (examined limit s) × Dominates halves F s i j a b)
-  list-exact i j a b =
-      let x = exact-field F s limit l f u items pairs e in
-      let t = listed-found i j a b in (
-        λ h. let q = t .0 h in (q .0, means x (q .0) .0 (q .1)),
-        λ h. t .1 (h .0, means x (h .0) .1 (h .1)),
-      )
+  pub list-exact : (i j : ℕ) (a b : Bool) → List·Memᴰ (tripleFor i j (dominated a b)) (listed items (pairsCall F s limit l f u))
+      ↔ (List·Memᴰ (pair i j) (examined limit s) × Dominates halves F s i j a b)
+  list-exact i j a b = rw holds (
+    λ h. let q = t .0 h in (q .0, gives-exactly (q .0) a b .0 (q .1)),
+    λ h. t .1 (h .0, gives-exactly (h .0) a b .1 (h .1)),
+  )
     where
-      means : Exact halves F × StartFor (variables F) s → List·Memᴰ (pair i j) (examined limit s) → List·Memᴰ (dominated a b) (pairKinds F s i j) ↔ Dominates halves F s i j a b
-      means x m = let p = examined-free limit s m in let n = inside i j m in kind-means (x .0) (x .1) i j (n .0) (n .1 .0) (n .1 .1) (p .first) (p .second) a b
+      t : List·Memᴰ (tripleFor i j (dominated a b)) (found F s limit) ↔ (List·Memᴰ (pair i j) (examined limit s) × List·Memᴰ (dominated a b) (pairKinds F s i j))
+      t = found-exactly F s limit i j (dominated a b)
 
-  -- The four bounds are worth the least and the greatest over all values of the other free variables, in halves, and the tolerance is above 0.
-  pub bounds-exact : (i j : ℕ) → List·Memᴰ (pair i j) (examined limit s) → T (positive (tolerance F i j)) × Four halves (boundsOf F s i j)
-      (margin true true (wholeOf halves F) s i j) (greatest true true (wholeOf halves F) s i j) (margin true false (wholeOf halves F) s i j) (greatest true false (wholeOf halves F) s i j)
-  bounds-exact i j m =
-      let x = exact-field F s limit l f u items pairs e in
-      let p = examined-free limit s m in
-      let n = inside i j m in
-      (tolerance-positive (x .0) i j (n .0) (n .1 .0), four (x .0) (x .1) i j (n .0) (n .1 .0) (p .first) (p .second))
-
-  -- every constraint of the list forbids one pattern
-  pub list-patterns : (i j : ℕ) (k : Kind) → List·Memᴰ (tripleFor i j k) (take items (triples (pairsCall F s limit l f u .list))) → (a : Bool) × (b : Bool) × (k ≡ dominated a b)
-  list-patterns i j k h = kind-pattern F s i j (found-exactly F s limit i j k .0 (rw (list-holds F s limit l f u ExactGrade items pairs e) at h) .1)
+  -- The four bounds are the least and the greatest over all values of the other free variables, in halves, and the tolerance is above 0.
+  pub bounds-exact : (i j : ℕ) → List·Memᴰ (pair i j) (examined limit s) → T (positive (tolerance F i j)) × Four halves F s i j (boundsOf F s i j)
+  bounds-exact i j m = (
+    tolerance-positive exact-field i j (first-below m) (second-below m),
+    four exact-field start i j (first-below m) (second-below m) (apart m) (free-pair m .first) (free-pair m .second),
+  )
 
   -- DEMAND 3. Every best completion of the start values meets every constraint of the list.
-  pub best-meets : (i j : ℕ) (a b : Bool) → Listed i j a b → (x : List ℕ) → Best (wholeOf halves F) s x → Meets x (record { first = i; second = j; kind = dominated a b })
-  best-meets i j a b h =
-      let x = exact-field F s limit l f u items pairs e in
-      let q = listed-found i j a b .0 h in
-      let p = examined-free limit s (q .0) in
-      let n = inside i j (q .0) in
-      kind-sound (x .0) (x .1) i j (n .0) (n .1 .0) (n .1 .1) (p .first) (p .second) a b (q .1)
+  pub best-meets-all : (x : List ℕ) → Best (wholeOf halves F) s x → (c : Triple) → List·Memᴰ c (listed items (pairsCall F s limit l f u)) → Meets x (constraintOf c)
+  best-meets-all x best c m =
+      let z = given-by F s limit (rw holds at m) in
+      rw (z .is, code-kind (z .kind)) (best-meets (z .is-examined) (z .gives) x best)
 
   -- A constraint stays with further start values that fix neither of its variables, in a call with the same limit.
-  pub further-keep : (s′ l′ : List ℕ) (f′ : List Float) (u′ : List ℕ) (items′ pairs′ : ℕ) (e′ : pairsCall F s′ limit l′ f′ u′ .answer ≡ Done ExactGrade items′ pairs′) → Extends s s′
-      → (i j : ℕ) (a b : Bool) → getD s′ i 0 ≡ 2 → getD s′ j 0 ≡ 2 → Listed i j a b
-      → List·Memᴰ (tripleFor i j (dominated a b)) (take items′ (triples (pairsCall F s′ limit l′ f′ u′ .list)))
-  further-keep s′ l′ f′ u′ items′ pairs′ e′ more i j a b fi fj h =
-      let x = exact-field F s limit l f u items pairs e in
-      let y = exact-field F s′ limit l′ f′ u′ items′ pairs′ e′ in
-      let q = listed-found i j a b .0 h in
-      let p = examined-free limit s (q .0) in
-      let n = inside i j (q .0) in
-      rw (list-holds F s′ limit l′ f′ u′ ExactGrade items′ pairs′ e′)
-      (found-exactly F s′ limit i j (dominated a b) .1
-      (still-examined more limit (q .0) fi fj, kind-stays (x .0) (x .1) (y .1) more i j (n .0) (n .1 .0) (n .1 .1) (p .first) (p .second) fi fj a b (q .1)))
-
--- ---- the limit
-
--- A larger limit only lengthens the list: what a smaller one finds stands at its front.
-pub longer-list : (F : Field) (s : List ℕ) (limit more : ℕ) → limit ≤ more → (rest : List Triple) × (found F s more ≡ found F s limit ++ rest)
-unfolding found foundIn
-longer-list F s limit more h = (foundIn F s (drop (allowed limit) (examined more s)), sym (found-parts F s (take (allowed limit) (examined more s)) (drop (allowed limit) (examined more s)) (take-append-drop (allowed limit) (examined more s))) ∙ ap (λ (z : List Pair). foundIn F s z ++ foundIn F s (drop (allowed limit) (examined more s))) (sym (longer limit more s h)))
-  where
-    found-append : (F : Field) (s : List ℕ) (ps qs : List Pair) → foundIn F s (ps ++ qs) ≡ foundIn F s ps ++ foundIn F s qs
-    found-append F s [] qs = refl
-    found-append F s (p ∷ ps) qs = rw (found-append F s ps qs) (sym (append-assoc (pairTriples F s p) (foundIn F s ps) (foundIn F s qs)))
-
-    found-parts : (F : Field) (s : List ℕ) (ps qs : List Pair) {all : List Pair} → ps ++ qs ≡ all → foundIn F s ps ++ foundIn F s qs ≡ foundIn F s all
-    found-parts F s ps qs e = sym (found-append F s ps qs) ∙ ap (foundIn F s) e
+  pub further-keep : (s′ l′ : List ℕ) (f′ : List Float) (u′ : List ℕ) (items′ pairs′ : ℕ) → pairsCall F s′ limit l′ f′ u′ .answer ≡ Done ExactGrade items′ pairs′ → Extends s s′
+      → (c : Triple) → getD s′ (c .first) 0 ≡ 2 → getD s′ (c .second) 0 ≡ 2
+      → List·Memᴰ c (listed items (pairsCall F s limit l f u)) → List·Memᴰ c (listed items′ (pairsCall F s′ limit l′ f′ u′))
+  further-keep s′ l′ f′ u′ items′ pairs′ e′ more c fi fj m =
+      let z = given-by F s limit (rw holds at m) in
+      let start′ = done-when F s′ limit l′ f′ u′ ExactGrade items′ pairs′ .0 e′ .ready .sound .start in
+      let gi : getD s′ (z .at .first) 0 ≡ 2 = ap (λ (t : Triple). getD s′ (t .first) 0) (sym (z .is)) ∙ fi in
+      let gj : getD s′ (z .at .second) 0 ≡ 2 = ap (λ (t : Triple). getD s′ (t .second) 0) (sym (z .is)) ∙ fj in
+      rw (list-holds F s′ limit l′ f′ u′ ExactGrade items′ pairs′ e′, z .is)
+      (found-exactly F s′ limit (z .at .first) (z .at .second) (z .kind) .1
+      (still-examined more limit (z .is-examined) gi gj, still-gives (z .is-examined) (z .gives) start′ more gi gj))
 
 -- "At limit 250,000, 707 free variables have all 249,571 pairs examined; 708 (250,278) stop short."
 pub counts-worked : (pairCount 250000 707 ≡ 249571) × ((pairCount 250000 708 ≡ 250000) × (708 * 707 / 2 ≡ 250278))

@@ -3,6 +3,7 @@ pub mod Going
 pub mod Walking
 pub mod Rest
 pub mod Partition
+pub mod Component
 pub mod Cells
 pub mod Moves
 pub mod Turns

@@ -21,6 +21,19 @@ same-tests true b f g = sym (f refl)
 same-tests false true f g = g refl
 same-tests false false f g = refl
 
+-- members that each entry that joins leads from to open ones: it has both ends among them or none, or an end that is not open
+pub both-ends : {F : Field} {zeros : Bool} (marks : List ℕ) (K : ℕ → Bool) → ((i j : ℕ) → Joined F zeros i j → Open marks j → K i ≡ true → K j ≡ true)
+    → (k : ℕ) → k < entries F → joins F zeros k ≡ true → (K (rowEnd F k) ≡ K (columnEnd F k)) ⊎ ((getD marks (rowEnd F k) 0 ≢ 2) ⊎ (getD marks (columnEnd F k) 0 ≢ 2))
+both-ends {F} {zeros} marks K on k h e =
+    let J : Joined F zeros (rowEnd F k) (columnEnd F k) = record { entry = k; below = h; joining = e; ends = inl (refl, refl) } in
+    elim (ℕ-discrete (getD marks (rowEnd F k) 0) 2) [
+      | no ne ↦ inr (inl ne)
+      | yes r ↦ elim (ℕ-discrete (getD marks (columnEnd F k) 0) 2) [
+        | no ne ↦ inr (inr ne)
+        | yes c ↦ inl (same-tests _ _ (on _ _ J c) (on _ _ (joined-back J) r))
+      ]
+    ]
+
 pub rest-start : {F : Field} {zeros : Bool} {marks : List ℕ} → length marks ≡ variables F → Rest F zeros marks marks
 rest-start long = record { long = long; fewer = λ i o. o; shut = λ i j J o ne p. absurd (ne o) }
 
@@ -40,15 +53,7 @@ module _ {F : Field} (S : Shaped F) {zeros : Bool} {marks₀ marks : List ℕ} (
 
   pub rest-closed : (k : ℕ) → k < entries F → joins F zeros k ≡ true
       → (has members (rowEnd F k) ≡ has members (columnEnd F k)) ⊎ ((getD marks₀ (rowEnd F k) 0 ≢ 2) ⊎ (getD marks₀ (columnEnd F k) 0 ≢ 2))
-  rest-closed k h e =
-      let J : Joined F zeros (rowEnd F k) (columnEnd F k) = record { entry = k; below = h; joining = e; ends = inl (refl, refl) } in
-      elim (ℕ-discrete (getD marks₀ (rowEnd F k) 0) 2) [
-        | no ne ↦ inr (inl ne)
-        | yes r ↦ elim (ℕ-discrete (getD marks₀ (columnEnd F k) 0) 2) [
-          | no ne ↦ inr (inr ne)
-          | yes c ↦ inl (same-tests _ _ (closed-one _ _ J c) (closed-one _ _ (joined-back J) r))
-        ]
-      ]
+  rest-closed = both-ends marks₀ (has members) closed-one
 
   earlier : {i : ℕ} → Reaches F zeros marks start i → Reaches F zeros marks₀ start i
   earlier (here e o) = here e (R .fewer start o)

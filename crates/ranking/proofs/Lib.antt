@@ -6,3 +6,4 @@ pub mod Sums
 pub mod Candidates
 pub mod Theorems
 pub mod Worked
+pub mod ExactMass

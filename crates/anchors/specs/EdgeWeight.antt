@@ -1,0 +1,26 @@
+-- A variable's weight in whole numbers, and the leader by it (document 01, "Anchors"). Assumes nothing.
+use Prim.Native.Nat.{ℕ, _≤_}
+use mathlib.Core.Path.{_≡_}
+use mathlib.Core.Logic.{_⊎_}
+use mathlib.Core.Bool.{true, not, _&&_, _||_}
+use mathlib.Core.List.{List}
+use lib.Dec.{eqb}
+use Rattle.whole.specs.Whole.{Whole, _⊖_, only, sum, size, _≈_, Above0}
+use Rattle.meaning.specs.Field.{Field}
+use Rattle.parts.specs.Part.{has}
+
+-- |q| of entry k, if it is off the diagonal and i is one of its ends
+abbrev pub edge : Field → ℕ → ℕ → Whole
+edge F i k = only (not (eqb (F .row k) (F .column k)) && (eqb (F .row k) i || eqb (F .column k) i)) (size (F .weight k))
+
+-- "sum of |q| off the diagonal"
+abbrev pub edge-weight : Field → ℕ → Whole
+edge-weight F i = sum (F .m) (edge F i)
+
+-- "the greatest sum of |q| off the diagonal, then the lowest index": a stands before i
+abbrev pub Outweighs : Field → ℕ → ℕ → Type 0
+Outweighs F a i = Above0 (edge-weight F a ⊖ edge-weight F i) ⊎ ((edge-weight F a ≈ edge-weight F i) × (a ≤ i))
+
+pub record LeadsByWeight (F : Field) (K : List ℕ) (a : ℕ) : Type 0 where
+  pub member : has K a ≡ true
+  pub first : (i : ℕ) → has K i ≡ true → Outweighs F a i
