@@ -8,7 +8,7 @@ use native.Mathlib.Omega.{arith}
 use borrow.Author.Tests.{eqb-true, eq-eqb, ne-eqb}
 use lib.Dec.{eqb}
 use lib.ListN.{length, getD}
-use lib.Ieee.{Float, binary64, add, mul, eq, ne}
+use lib.Ieee.{Float, binary64, mul, eq, ne}
 use Rattle.whole.specs.Whole.{Whole, nothing, _⊕_, _⊙_, only, sum, _≈_, Zero, Under}
 use Rattle.whole.proofs.Sums.{sum-add}
 use Rattle.weights.specs.Worth.{Worth, zero64, four64}

@@ -8,7 +8,7 @@ use native.Mathlib.Omega.{arith}
 use lib.ListN.{length, getD}
 use lib.Ieee.{Float, binary64, mul, ne}
 use lib.Ieee.Fits.{mul-fits}
-use Rattle.whole.specs.Whole.{nothing, Zero}
+use Rattle.whole.specs.Whole.{Zero}
 use Rattle.weights.specs.Worth.{zero64, two64, four64}
 use Rattle.expansion.specs.Sum.{Expansion, parts, plus}
 use Rattle.expansion.specs.Exact.{AllHeld, none-held, more-held, total, addAll}

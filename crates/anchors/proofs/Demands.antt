@@ -3,15 +3,17 @@ use Prim.Native.Nat.{ℕ, _<_, _≤_}
 use mathlib.Core.Path.{_≡_, refl, sym, ap, _∙_}
 use mathlib.Core.Logic.{_↔_, _⊎_, inl, inr}
 use mathlib.Core.Bool.{Bool, true, false}
-use mathlib.Core.List.{List, [], _∷_, _++_}
+use mathlib.Core.List.{List}
 use native.Mathlib.Omega.{arith}
 use borrow.Author.Tests.{leb-true, leb-false, le-leb, lt-leb}
 use lib.Dec.{leb}
-use lib.ListN.{length, getD, set, take, drop}
-use lib.Seq.{take-append-seam, getD-take}
+use lib.ListN.{length, getD, set, take}
+use lib.Seq.{getD-take}
 use lib.Ieee.{Float, eq}
 use Rattle.weights.specs.Worth.{zero64}
 use Rattle.scratch.specs.Cleared.{cleared}
+use Rattle.scratch.specs.Over.{over}
+use Rattle.scratch.proofs.Over.{over-front}
 use Rattle.whole.specs.Whole.{Zero}
 use Rattle.meaning.specs.Part.{Safe}
 use Rattle.meaning.specs.Symmetry.{balance}
@@ -34,7 +36,7 @@ use Rattle.field.proofs.Exact.{exact-means}
 use Rattle.parts.specs.Walk.{opened, components}
 use Rattle.anchors.specs.Sums.{balanceOf, balanced, plainSum}
 use Rattle.anchors.specs.Model.{anchorsOf}
-use Rattle.anchors.specs.Call.{anchorTests, Admitted, over, Left, left, listed, leaves, anchorsCall}
+use Rattle.anchors.specs.Call.{anchorTests, Admitted, Left, left, answered, leaves, anchorsCall}
 use Rattle.anchors.specs.Rule.{AnchorsOf, terms, HeldWeights}
 use Rattle.anchors.proofs.Laws.{admitted-passes}
 use Rattle.anchors.proofs.Ruling.{anchors-ruled, rule-one}
@@ -60,13 +62,6 @@ same-count {g} {h} {k} {l} e = let a : g ≡ h = cc in let b : k ≡ l = cc in (
 not-failed : {r : Refusal} {A : Type 0} → Passed ≡ Failed r → A
 not-failed e = let z : _≡_ {A = ℕ} 0 1 = cc in absurd (omega arith)
 
--- items over a list that has room for them
-over-is : (items list : List ℕ) → length items ≤ length list → over items list ≡ items ++ drop (length items) list
-unfolding over
-over-is [] list h = refl
-over-is (a ∷ items) [] h = absurd (omega arith)
-over-is (a ∷ items) (x ∷ list) h = ap (λ (l : List ℕ). a ∷ l) (over-is items list (omega arith))
-
 module _ (F : Field) (s : List ℕ) (least : ℕ) (list : List ℕ) (f : List Float) (u : List ℕ) where
   abbrev checked : Checked
   checked = tested (anchorTests F s (length f) (length u))
@@ -81,11 +76,11 @@ module _ (F : Field) (s : List ℕ) (least : ℕ) (list : List ℕ) (f : List Fl
   refuses e = rw e
 
   overflows : checked ≡ Passed → length list < length full → anchorsCall F s least list f u ≡ left (Refuses Room) (cleared 0 list) (cleared zero64 f) (cleared 0 u)
-  unfolding anchorsCall leaves listed
+  unfolding anchorsCall leaves answered
   overflows e l = rw (e, lt-leb (length full) (length list) l)
 
   counts : checked ≡ Passed → length full ≤ length list → anchorsCall F s least list f u ≡ left (Counts (gradeOf F) (length full)) (over full list) (cleared zero64 f) (cleared 0 u)
-  unfolding anchorsCall leaves listed
+  unfolding anchorsCall leaves answered
   counts e l = rw (e, le-leb (length full) (length list) l)
 
   -- one of them it is
@@ -135,12 +130,12 @@ module _ (F : Field) (s : List ℕ) (least : ℕ) (list : List ℕ) (f : List Fl
   refused-leaves r h = refuses (refused-exactly (anchorTests F s (length f) (length u)) r .1 h)
 
   -- Where there are more anchors than places, the list and both scratches are all zeros.
-  pub full-leaves : Admitted F s (length f) (length u) → length list < length full → anchorsCall F s least list f u ≡ left (Refuses Room) (cleared 0 list) (cleared zero64 f) (cleared 0 u)
-  full-leaves a l = overflows (admitted-passes F s (length f) (length u) .1 a) l
+  pub room-leaves : Admitted F s (length f) (length u) → length list < length full → anchorsCall F s least list f u ≡ left (Refuses Room) (cleared 0 list) (cleared zero64 f) (cleared 0 u)
+  room-leaves a l = overflows (admitted-passes F s (length f) (length u) .1 a) l
 
   -- It is done exactly if the field, the start values and both scratches are as the table asks, and the list has room; it then gives the grade and the count.
-  pub counted-when : (anchorsCall F s least list f u .answer ≡ Counts (gradeOf F) (length full)) ↔ (Admitted F s (length f) (length u) × (length full ≤ length list))
-  counted-when = (to way, λ h. sym (answers (counts (admitted-passes F s (length f) (length u) .1 (h .0)) (h .1))))
+  pub done-when : (anchorsCall F s least list f u .answer ≡ Counts (gradeOf F) (length full)) ↔ (Admitted F s (length f) (length u) × (length full ≤ length list))
+  done-when = (to way, λ h. sym (answers (counts (admitted-passes F s (length f) (length u) .1 (h .0)) (h .1))))
     where
       to : Way → anchorsCall F s least list f u .answer ≡ Counts (gradeOf F) (length full) → Admitted F s (length f) (length u) × (length full ≤ length list)
       to (by-test e) a = not-counted (sym (answers (refuses e) ∙ a))
@@ -164,11 +159,11 @@ module _ (F : Field) (s : List ℕ) (least : ℕ) (list : List ℕ) (f : List Fl
         go (by-count t l) = let a = same-count (answers (counts t l) ∙ e) in record { fits = admitted t; room = l; grade = a .0; count = a .1; leaves-all = counts t l }
 
     -- Then the anchors stand at the front of the list, what is past the last is unchanged, and both scratches are all zeros.
-    pub counted-leaves : anchorsCall F s least list f u ≡ left (Counts (gradeOf F) (length full)) (full ++ drop (length full) list) (cleared zero64 f) (cleared 0 u)
-    counted-leaves = done .leaves-all ∙ rw (over-is full list (done .room))
+    pub done-leaves : anchorsCall F s least list f u ≡ left (Counts (gradeOf F) (length full)) (over full list) (cleared zero64 f) (cleared 0 u)
+    done-leaves = done .leaves-all
 
     items : take k (anchorsCall F s least list f u .list) ≡ full
-    items = ap (λ (x : Left). take k (x .list)) counted-leaves ∙ rw (← done .count) (take-append-seam full (drop (length full) list))
+    items = ap (λ (x : Left). take k (x .list)) done-leaves ∙ over-front full list (done .count)
 
     -- DEMAND 2. They are those that the rule gives: of the components, in the order of their lowest variables, each that is symmetric, without a start value and large enough
     -- has one, the variable with the greatest weight, then the lowest index.

@@ -1,6 +1,6 @@
 -- From the tests to the answer: what passing means, and what the call leaves where a test fails, where the list has room, and where it has not. Assumes nothing.
 use Prim.Native.Nat.{ℕ, _<_, _≤_}
-use mathlib.Core.Path.{_≡_}
+use mathlib.Core.Path.{_≡_, _∙_}
 use mathlib.Core.Bool.{true, false}
 use mathlib.Core.Logic.{_↔_}
 use mathlib.Core.List.{List}
@@ -9,6 +9,7 @@ use lib.Dec.{leb}
 use lib.ListN.{length, replicate}
 use lib.Ieee.{Float}
 use Rattle.weights.specs.Worth.{zero64}
+use Rattle.scratch.proofs.Over.{over-sets}
 use Rattle.field.specs.declared.Counted.the-variants.{Counts, Refuses}
 use Rattle.field.specs.declared.Checked.the-variants.{Passed, Failed}
 use Rattle.field.specs.declared.Grade.{Grade}
@@ -21,7 +22,7 @@ use Rattle.field.specs.Grade.{gradeOf}
 use Rattle.field.proofs.Table.{group-is, pass-is, last-is}
 use Rattle.field.proofs.Means.{start-means, floats-mean, words-mean, loose-passes}
 use Rattle.anchors.specs.Model.{anchorsOf}
-use Rattle.anchors.specs.Call.{anchorTests, Admitted, left, listed, leaves, anchorsCall}
+use Rattle.anchors.specs.Call.{anchorTests, Admitted, left, answered, leaves, anchorsCall}
 use Rattle.anchors.specs.Cells.{Lists}
 
 pub admitted-passes : (F : Field) (s : List ℕ) (floats words : ℕ) → (tested (anchorTests F s floats words) ≡ Passed) ↔ Admitted F s floats words
@@ -43,14 +44,15 @@ module _ (F : Field) (s : List ℕ) (least : ℕ) (list : List ℕ) (f : List Fl
   module _ (k l : ℕ) {list₁ : List ℕ} {r : ℕ} (e : tested (anchorTests F s (length f) (length u)) ≡ Passed) (L : Lists F s least list list₁ r) where
     pub counted-call : {g : Grade} {f′ : List Float} {u′ : List ℕ} → g ≡ gradeOf F → r ≤ length list → f′ ≡ replicate k zero64 → k ≡ length f → u′ ≡ replicate l 0 → l ≡ length u
         → left (Counts g r) list₁ f′ u′ ≡ anchorsCall F s least list f u
-    unfolding anchorsCall leaves listed
+    unfolding anchorsCall leaves answered
     counted-call eg room ef lf eu lu =
-        let b : leb (length (anchorsOf F s least)) (length list) ≡ true = le-leb (length (anchorsOf F s least)) (length list) (rw (L .counted) at room) in
-        rw (e, b, eg, L .counted, L .stored, ef, lf, eu, lu)
+        let fits : length (anchorsOf F s least) ≤ length list = rw (L .counted) at room in
+        let b : leb (length (anchorsOf F s least)) (length list) ≡ true = le-leb (length (anchorsOf F s least)) (length list) fits in
+        rw (e, b, eg, L .counted, L .stored ∙ over-sets (anchorsOf F s least) list fits, ef, lf, eu, lu)
 
     pub full-call : {list₂ : List ℕ} {f′ : List Float} {u′ : List ℕ} (m : ℕ) → length list < r → list₂ ≡ replicate m 0 → m ≡ length list
         → f′ ≡ replicate k zero64 → k ≡ length f → u′ ≡ replicate l 0 → l ≡ length u → left (Refuses Room) list₂ f′ u′ ≡ anchorsCall F s least list f u
-    unfolding anchorsCall leaves listed
+    unfolding anchorsCall leaves answered
     full-call m full el ll ef lf eu lu =
         let b : leb (length (anchorsOf F s least)) (length list) ≡ false = lt-leb (length (anchorsOf F s least)) (length list) (rw (L .counted) at full) in
         rw (e, b, el, ll, ef, lf, eu, lu)

@@ -1,6 +1,6 @@
 -- The weights of variables are in order: none is a NaN, so each has a rank among the naturals. Assumes nothing.
-use Prim.Native.Nat.{ℕ, zero, suc, _+_, _*_, _^_, _<_}
-use mathlib.Core.Path.{_≡_, refl, sym, ap₂, _∙_, subst}
+use Prim.Native.Nat.{ℕ, suc, _+_, _<_}
+use mathlib.Core.Path.{_≡_, refl, sym, ap₂, _∙_}
 use mathlib.Core.Bool.{Bool, true, false, cond}
 use mathlib.Core.List.{List, [], _∷_}
 use native.Mathlib.Nat.{add-zero, ne-of-lt, ne-of-gt, le-of-lt, le-refl}
@@ -8,11 +8,12 @@ use native.Mathlib.Omega.{arith}
 use borrow.Author.Tests.{lt-ltb, le-ltb, eq-eqb, ne-eqb}
 use lib.Dec.{T, ltb, eqb}
 use lib.ListN.{length, getD}
-use lib.Ieee.{Float, nan, inf, fin, Format, binary64, prec, emax, low, up, down, odd, units, round, sum, add, lt, eq, ne, ofBits, fits}
-use lib.Ieee.Fits.{round-is, add-fits}
-use lib.Ieee.Scale.{finite, overflow}
+use lib.Ieee.{Float, nan, inf, fin, binary64, add, lt, eq, ne, ofBits, fits}
+use lib.Ieee.Fits.{add-fits}
+use lib.Ieee.Scale.{overflow}
 use Rattle.weights.specs.Counts.{Counts, minus}
 use Rattle.weights.specs.Worth.{Worth, read, clear, magnitude, zero64}
+use Rattle.weights.proofs.Sign.{add-clear, magnitude-clear}
 use Rattle.weights.proofs.Worth.{lt-worth, eq-worth, worth-read}
 use Rattle.expansion.specs.Exact.{Number}
 use Rattle.expansion.proofs.Exact.{held-number, number-worth}
@@ -21,45 +22,6 @@ use Rattle.field.specs.Tests.{Finite}
 use Rattle.places.specs.Places.{places}
 use Rattle.places.proofs.Places.{places-touch}
 use Rattle.anchors.specs.Sums.{onDiagonal, weightAt, weightOver, weightOf}
-
--- ---- a sum of numbers whose signs are clear has a clear sign
-
-odd-clear : (d q k l : ℕ) → T (clear (odd d false q k l))
-unfolding odd
-odd-clear d zero k l = tt
-odd-clear d (suc q) k l = tt
-
-units-clear : (f : Format) (q k : ℕ) → T (clear (units f false q k))
-unfolding units
-units-clear f q k = go (ltb (q * 2 ^ k) (2 ^ (low f + suc (emax f))))
-  where
-    go : (b : Bool) → T (clear (cond b (odd (suc (prec f)) false q k (low f)) (inf false)))
-    go true = odd-clear (suc (prec f)) q k (low f)
-    go false = tt
-
-round-clear : (f : Format) (num den : ℕ) → T (clear (round f false num den))
-round-clear f num den = subst (λ (x : Float). T (clear x)) (sym (round-is f false num den)) (units-clear f _ _)
-
-add-clear : (f : Format) (x y : Float) → T (clear x) → T (clear y) → T (clear (add f x y))
-unfolding add sum
-add-clear f nan y a b = absurd a
-add-clear f (inf true) y a b = absurd a
-add-clear f (inf false) nan a b = absurd b
-add-clear f (inf false) (inf true) a b = absurd b
-add-clear f (inf false) (inf false) a b = tt
-add-clear f (inf false) (fin t n d) a b = tt
-add-clear f (fin true m e) y a b = absurd a
-add-clear f (fin false m e) nan a b = absurd b
-add-clear f (fin false m e) (inf true) a b = absurd b
-add-clear f (fin false m e) (inf false) a b = tt
-add-clear f (fin false m e) (fin true n d) a b = absurd b
-add-clear f (fin false m e) (fin false n d) a b = round-clear f (m * up e * down d + n * up d * down e) (down e * down d)
-
-magnitude-clear : (x : Float) → T (finite x) → T (clear (magnitude x))
-unfolding magnitude
-magnitude-clear nan t = t
-magnitude-clear (inf s) t = tt
-magnitude-clear (fin s m e) t = tt
 
 -- ---- the weights
 

@@ -1,16 +1,17 @@
 -- From start to start: what one step leaves, and the loop over all. Assumes nothing.
-use Prim.Native.Nat.{ℕ, suc, _+_, _<_, _≤_}
+use Prim.Native.Nat.{ℕ, _+_, _<_, _≤_}
 use mathlib.Core.Path.{_≡_, refl, sym, ap, _∙_}
 use mathlib.Core.Bool.{Bool, true, false, cond, _&&_}
-use mathlib.Core.List.{List, [], _∷_, _++_, append-assoc, append-nil}
+use mathlib.Core.List.{List, [], _∷_}
 use native.Mathlib.Numerals.{add-one}
-use native.Mathlib.Nat.{le-antisymm}
+use native.Mathlib.Nat.{zero-add, le-antisymm}
 use native.Mathlib.Omega.{arith}
 use borrow.Author.Tests.{eq-eqb, ne-eqb, le-leb, lt-leb}
 use lib.Dec.{eqb, leb}
 use lib.ListN.{length, getD, set, length-append}
 use lib.Seq.{sets}
 use lib.Ieee.{Float}
+use Rattle.scratch.proofs.Over.{sets-then}
 use Rattle.scratch.proofs.Region.{length-region, region-at}
 use Rattle.field.specs.Field.{Field, variables}
 use Rattle.parts.specs.Walk.{opened, membersFrom}
@@ -18,7 +19,6 @@ use Rattle.parts.specs.Cells.{base, membersBase, marksIn, cells, Placed, Walked
 use Rattle.parts.proofs.Listed.{has-at}
 use Rattle.parts.proofs.Theorems.{members-open}
 use Rattle.anchors.specs.Model.{leads, allTurnable, anchorIn, marksAt, newAt, anchorAt, anchorsTo, anchorsOf}
-use Rattle.anchors.specs.Call.{over}
 use Rattle.anchors.specs.Cells.{membersIn, Members, Standing, Visits, Lists}
 
 -- ---- one start
@@ -78,27 +78,6 @@ module _ {F : Field} {i : ℕ} {u : List ℕ} (P : Placed F (cells u 0)) (h : i 
       unfolding anchorIn
       visit-found {a = a} z ea es = visit-open (a ∷ []) (rw (count-is, le-leb least count l, ← W .members, ← eb, z, ← ea)) es refl
 
--- ---- items over the front of a list
-
-over-long : (items list : List ℕ) → length (over items list) ≡ length list
-unfolding over
-over-long [] list = refl
-over-long (a ∷ items) [] = refl
-over-long (a ∷ items) (x ∷ list) = ap suc (over-long items list)
-
-over-one : (items list : List ℕ) (a : ℕ) → over (items ++ (a ∷ [])) list ≡ set (over items list) (length items) a
-unfolding over
-over-one [] [] a = refl
-over-one [] (x ∷ list) a = refl
-over-one (b ∷ items) [] a = refl
-over-one (b ∷ items) (x ∷ list) a = ap (λ (l : List ℕ). b ∷ l) (over-one items list a)
-
-over-sets : (new items list : List ℕ) → over (items ++ new) list ≡ sets (over items list) (length items) new
-over-sets [] items list = rw append-nil
-over-sets (a ∷ new) items list =
-    let k : length (items ++ (a ∷ [])) ≡ suc (length items) = length-append items (a ∷ []) ∙ omega arith in
-    ap (λ (l : List ℕ). over l list) (sym (append-assoc items (a ∷ []) new)) ∙ over-sets new (items ++ (a ∷ [])) list ∙ rw (k, over-one items list a)
-
 -- ---- the loop
 
 pub new-few : (F : Field) (s : List ℕ) (least : ℕ) (marks : List ℕ) (i : ℕ) → length (newAt F s least marks i) ≤ 1
@@ -114,7 +93,7 @@ new-few F s least marks i = go (eqb (getD marks i 0) 2) (leb least (length (memb
 pub record Searching (F : Field) (s : List ℕ) (least : ℕ) (list₀ : List ℕ) (f₀ : List Float) (u₀ : List ℕ) (i : ℕ) (list : List ℕ) (f : List Float) (u : List ℕ) (r : ℕ) : Type 0 where
   pub standing : Standing F s f u
   pub marks : marksIn F u ≡ anchorsTo F s least i .marks
-  pub stored : list ≡ over (anchorsTo F s least i .anchors) list₀
+  pub stored : list ≡ sets list₀ 0 (anchorsTo F s least i .anchors)
   pub counted : r ≡ length (anchorsTo F s least i .anchors)
   pub few : r ≤ i
   pub within : i ≤ variables F
@@ -123,7 +102,7 @@ pub record Searching (F : Field) (s : List ℕ) (least : ℕ) (list₀ : List �
   pub words-long : length u ≡ length u₀
 
 pub search-start : {F : Field} {s list : List ℕ} {f : List Float} {u : List ℕ} (least : ℕ) → Standing F s f u → marksIn F u ≡ opened true s → Searching F s least list f u 0 list f u 0
-unfolding anchorsTo over
+unfolding anchorsTo
 search-start least S e = record {
   standing = S;
   marks = e;
@@ -149,7 +128,7 @@ module _ {F : Field} {s : List ℕ} {least : ℕ} {list₀ : List ℕ} {f₀ : L
       record {
         standing = record { placed = v .placed; start-long = now .standing .start-long; floats-room = omega (arith, now .standing .floats-room) };
         marks = rw (add-one i) (v .marks ∙ ap (λ (k : List ℕ). marksAt F k i) (now .marks));
-        stored = rw (add-one i) (v-stored ∙ rw (now .stored, now .counted) (sym (over-sets (newAt F s least m i) old list₀)));
+        stored = rw (add-one i) (v-stored ∙ rw (now .stored, now .counted, ← zero-add (length old)) (sets-then old (newAt F s least m i) list₀ 0));
         counted = rw (add-one i) (v-counted ∙ rw (now .counted) (sym (length-append old (newAt F s least m i))));
         few = omega (arith, now .few, v-counted, new-few F s least m i);
         within = omega arith;
@@ -163,6 +142,6 @@ module _ {F : Field} {s : List ℕ} {least : ℕ} {list₀ : List ℕ} {f₀ : L
   search-done l =
       let e : i ≡ variables F = le-antisymm (now .within) l in
       record {
-        stored = now .stored ∙ ap (λ (k : ℕ). over (anchorsTo F s least k .anchors) list₀) e;
+        stored = now .stored ∙ ap (λ (k : ℕ). sets list₀ 0 (anchorsTo F s least k .anchors)) e;
         counted = now .counted ∙ ap (λ (k : ℕ). length (anchorsTo F s least k .anchors)) e;
       }

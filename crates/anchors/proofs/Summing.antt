@@ -13,7 +13,6 @@ use Rattle.expansion.specs.declared.ExactSum.the-variants.{Parts}
 use Rattle.expansion.specs.Sum.{Expansion, parts, plus, comesToZero, sumIn, countOf, isZero, Adds}
 use Rattle.expansion.proofs.Carrying.{zero-is}
 use Rattle.field.specs.Field.{Field, variables, entries, linearOf, rowEnd, columnEnd, quadOf}
-use Rattle.places.specs.Places.{places}
 use Rattle.places.proofs.Places.{places-le}
 use Rattle.places.proofs.Walk.{walk-turn, Along, along-start, along-turn, along-end, part-long}
 use Rattle.anchors.specs.Sums.{balanceAt, balanceOver, balanceOf, balanced, plainOver, plainSum, weightAt, weightOver, weightOf, AddsAt, Walkable}

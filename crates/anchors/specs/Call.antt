@@ -7,6 +7,7 @@ use lib.Dec.{leb}
 use lib.Ieee.{Float}
 use Rattle.weights.specs.Worth.{zero64}
 use Rattle.scratch.specs.Cleared.{cleared}
+use Rattle.scratch.specs.Over.{over}
 use Rattle.field.specs.declared.Counted.{Counted}
 use Rattle.field.specs.declared.Counted.the-variants.{Counts, Refuses}
 use Rattle.field.specs.declared.Checked.{Checked}
@@ -35,12 +36,6 @@ pub record Admitted (F : Field) (s : List ℕ) (floats words : ℕ) : Type 0 whe
   pub floats-room : 8 * variables F + 4 * entries F + 16 ≤ floats
   pub words-room : 16 * variables F + 8 * entries F + 16 ≤ words
 
--- items over the front of a list, as far as it reaches: "elements past an answer list's last item are unchanged"
-unfoldable pub over : List ℕ → List ℕ → List ℕ
-over [] list = list
-over (a ∷ more) [] = []
-over (a ∷ more) (x ∷ list) = a ∷ over more list
-
 -- the answer, and the three lent lists afterwards
 pub record Left : Type 0 where
   pub answer : Counted
@@ -51,14 +46,15 @@ pub record Left : Type 0 where
 abbrev pub left : Counted → List ℕ → List Float → List ℕ → Left
 left r l f u = record { answer = r; list = l; floats = f; words = u }
 
--- "9 is given exactly if a full answer has more items than its list has room for ..; then each answer list is all zeros"
-unfoldable pub listed : Bool → Field → List ℕ → List ℕ → List Float → List ℕ → Left
-listed true F found list f u = left (Counts (gradeOf F) (length found)) (over found list) (cleared zero64 f) (cleared 0 u)
-listed false F found list f u = left (Refuses Room) (cleared 0 list) (cleared zero64 f) (cleared 0 u)
+-- "9 is given exactly if a full answer has more items than its list has room for ..; then each answer list is all zeros";
+-- "elements past an answer list's last item are unchanged"
+unfoldable pub answered : Bool → Field → List ℕ → List ℕ → List Float → List ℕ → Left
+answered true F found list f u = left (Counts (gradeOf F) (length found)) (over found list) (cleared zero64 f) (cleared 0 u)
+answered false F found list f u = left (Refuses Room) (cleared 0 list) (cleared zero64 f) (cleared 0 u)
 
 -- "1 to 8 change nothing lent"; "After passing 8, scratch ends as all zeros"
 unfoldable pub leaves : Checked → Field → List ℕ → ℕ → List ℕ → List Float → List ℕ → Left
-leaves Passed F s least list f u = listed (leb (length (anchorsOf F s least)) (length list)) F (anchorsOf F s least) list f u
+leaves Passed F s least list f u = answered (leb (length (anchorsOf F s least)) (length list)) F (anchorsOf F s least) list f u
 leaves (Failed r) F s least list f u = left (Refuses r) list f u
 
 -- tests 1, 2, 3, 5, 6 and 8, then the anchors

@@ -10,7 +10,6 @@ use Rattle.field.specs.Field.{Field, variables, entries, Shaped}
 use Rattle.places.specs.Places.{Adjacent}
 use Rattle.parts.specs.Cells.{membersBase, marksIn, cells, Placed}
 use Rattle.anchors.specs.Model.{newAt, marksAt, anchorsOf}
-use Rattle.anchors.specs.Call.{over}
 
 abbrev pub membersIn : Field → ℕ → List ℕ → List ℕ
 membersIn F count u = region (membersBase F) count u
@@ -39,5 +38,5 @@ pub record Visits (F : Field) (s : List ℕ) (least i : ℕ) (u list : List ℕ)
 
 -- every start: the anchors are in the list, as far as it reaches
 pub record Lists (F : Field) (s : List ℕ) (least : ℕ) (list list′ : List ℕ) (r : ℕ) : Type 0 where
-  pub stored : list′ ≡ over (anchorsOf F s least) list
+  pub stored : list′ ≡ sets list 0 (anchorsOf F s least)
   pub counted : r ≡ length (anchorsOf F s least)

@@ -5,6 +5,7 @@ use mathlib.Core.List.{List, [], _∷_, _++_}
 use lib.Dec.{eqb, leb, ltb}
 use lib.ListN.{length, getD}
 use lib.Ieee.{Float, lt, eq}
+use Rattle.meaning.specs.Free.{isFree}
 use Rattle.field.specs.Field.{Field, variables}
 use Rattle.parts.specs.Walk.{opened, membersFrom, marksFrom}
 use Rattle.anchors.specs.declared.Leader.{Leader}
@@ -28,7 +29,7 @@ leads F start members = leadOver F (leader start (weightOf F start)) members .va
 
 -- without a start value, and symmetric
 unfoldable pub turnable : Field → List ℕ → ℕ → Bool
-turnable F s i = eqb (getD s i 0) 2 && balanced F i
+turnable F s i = isFree s i && balanced F i
 
 unfoldable pub allTurnable : Field → List ℕ → List ℕ → Bool
 allTurnable F s [] = true

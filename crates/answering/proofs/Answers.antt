@@ -18,9 +18,11 @@ use Rattle.field.specs.Answers.{numberOf}
 use Rattle.field.specs.Field.{Field, fieldOf, variables, entries}
 use Rattle.field.specs.Table.{Test, test, tested}
 use Rattle.field.specs.Tests.{floatsFit, wordsFit, standardTests, readyTests}
+use Rattle.field.specs.Call.{Left, left, leaves, valuesCall}
 use Rattle.field.proofs.Means.{floats-mean, words-mean}
 use Rattle.field.proofs.Table.{test-ok, none-left, group-no, group-ok}
-use Rattle.closure.specs.Call.{Left, left, leaves, closureCall}
+use Rattle.run.specs.Run.{closure}
+use Rattle.closure.specs.Call.{closureCall}
 use Rattle.scratch.specs.Over.{over}
 use Rattle.records.specs.Told.{Told, parsed}
 use Rattle.records.specs.Parsing.{answerOf, Parses}
@@ -68,18 +70,18 @@ scratch-fits F s {f} {u} floats words = go (tested (standardTests F s)) refl
 
 module _ (f : List Float) (u : List ℕ) {F : Field} {s v v′ : List ℕ} {f′ : List Float} {u′ : List ℕ} {k out : ℕ} {a : Answer}
     (fits : Fits F s k) (enough : Enough (length f) (length u) out) (same : v ≡ s) (call : left a v′ f′ u′ ≡ closureCall F v f u) where
-  decided : left a v′ f′ u′ ≡ leaves (tested (standardTests F s)) F s f u
-  unfolding closureCall
+  decided : left a v′ f′ u′ ≡ leaves (tested (standardTests F s)) closure F s f u
+  unfolding valuesCall
   decided =
       let floats : 8 * variables F + 4 * entries F + 16 ≤ length f = omega (arith, fits .few-variables, fits .few-entries, enough .floats) in
       let words : 16 * variables F + 8 * entries F + 16 ≤ length u = omega (arith, fits .few-variables, fits .few-entries, enough .words) in
-      call ∙ ap (λ (l : List ℕ). closureCall F l f u) same ∙ ap (λ (k : Checked). leaves k F s f u) (scratch-fits F s floats words)
+      call ∙ ap (λ (l : List ℕ). closureCall F l f u) same ∙ ap (λ (k : Checked). leaves k closure F s f u) (scratch-fits F s floats words)
 
   pub done-text : {g : Grade} → a ≡ Done g → answerText g s v′ ≡ fieldText F s
   unfolding fieldText checkedText leaves
   done-text {g} e = by (tested (standardTests F s)) decided
     where
-      by : (k : Checked) → left a v′ f′ u′ ≡ leaves k F s f u → answerText g s v′ ≡ checkedText k F s
+      by : (k : Checked) → left a v′ f′ u′ ≡ leaves k closure F s f u → answerText g s v′ ≡ checkedText k F s
       by Passed q = cc (ap (λ (l : Left). l .answer) q, ap (λ (l : Left). l .values) q)
       by (Failed r) q = let z : _≡_ {A = ℕ} 0 1 = cc (ap (λ (l : Left). l .answer) q) in absurd (omega arith)
 
@@ -87,7 +89,7 @@ module _ (f : List Float) (u : List ℕ) {F : Field} {s v v′ : List ℕ} {f′
   unfolding fieldText checkedText leaves
   refused-text {r} e = by (tested (standardTests F s)) decided
     where
-      by : (k : Checked) → left a v′ f′ u′ ≡ leaves k F s f u → refusedText (numberOf r) ≡ checkedText k F s
+      by : (k : Checked) → left a v′ f′ u′ ≡ leaves k closure F s f u → refusedText (numberOf r) ≡ checkedText k F s
       by Passed q = let z : _≡_ {A = ℕ} 0 1 = cc (ap (λ (l : Left). l .answer) q) in absurd (omega arith)
       by (Failed t) q = let z : r ≡ t = cc (ap (λ (l : Left). l .answer) q) in ap (λ (x : Refusal). refusedText (numberOf x)) z
 

@@ -35,5 +35,9 @@ output-g =
     ++ ((120 ∷ 32 ∷ 48 ∷ 32 ∷ 49 ∷ 10 ∷ []) ++ ((120 ∷ 32 ∷ 49 ∷ 32 ∷ 48 ∷ 10 ∷ []) ++ (101 ∷ 110 ∷ 100 ∷ 32 ∷ 50 ∷ 10 ∷ [])))
 
 pub case-g : answerBytes input-g ≡ output-g
-unfolding answerBytes parsed readFrom taken readAt markedAt weightAt entryAt givenAt floatAt numberAt valueOf fieldText checkedText tested standardTests shapeTests fewVariables listsMatch inOrder offDiagonal weightsFinite startFits endsBelow allRise allFinite bytesSmall allBelow gradeOf isExact allWeigh weighs wholeIn magnitude closure closureRun propagate work serve serveAll serveAt moveRow scanTo scanAt judged settle force upTo places placesFrom keep otherEnd rowOf rowTo atEntry atEnd addTerm add sub mul le lt ofInt ofBits decimal gradeLine forcedLine endLine forced forcedLines answerText
+unfolding answerBytes parsed readFrom taken readAt markedAt weightAt entryAt givenAt floatAt numberAt valueOf fieldText checkedText tested
+    standardTests shapeTests fewVariables listsMatch inOrder offDiagonal weightsFinite startFits endsBelow allRise allFinite bytesSmall allBelow
+    gradeOf isExact allWeigh weighs wholeIn magnitude closure closureRun propagate work serve serveAll serveAt moveRow scanTo scanAt judged settle
+    force upTo places placesFrom keep otherEnd rowOf rowTo atEntry atEnd addTerm add sub mul le lt ofInt ofBits decimal gradeLine forcedLine endLine
+    forced forcedLines answerText
 case-g = refl

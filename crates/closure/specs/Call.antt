@@ -1,36 +1,11 @@
 -- What the call `closure` answers and leaves, as one function of what it is given, for every input. Assumes nothing.
 use Prim.Native.Nat.{ℕ}
 use mathlib.Core.List.{List}
-use lib.ListN.{length}
 use lib.Ieee.{Float}
-use Rattle.weights.specs.Worth.{zero64}
-use Rattle.scratch.specs.Cleared.{cleared}
-use Rattle.field.specs.declared.Answer.{Answer}
-use Rattle.field.specs.declared.Answer.the-variants.{Done, Refused}
-use Rattle.field.specs.declared.Checked.{Checked}
-use Rattle.field.specs.declared.Checked.the-variants.{Passed, Failed}
 use Rattle.field.specs.Field.{Field}
-use Rattle.field.specs.Table.{tested}
-use Rattle.field.specs.Tests.{readyTests}
-use Rattle.field.specs.Grade.{gradeOf}
+use Rattle.field.specs.Call.{Left, valuesCall}
 use Rattle.run.specs.Run.{closure}
 
--- the answer, and the three lent lists afterwards
-pub record Left : Type 0 where
-  pub answer : Answer
-  pub values : List ℕ
-  pub floats : List Float
-  pub words : List ℕ
-
-abbrev pub left : Answer → List ℕ → List Float → List ℕ → Left
-left r s f u = record { answer = r; values = s; floats = f; words = u }
-
--- "Forced values go into the start values"; "On 0 a field call also gives this grade"; "After passing 8, scratch ends as all zeros";
--- "1 to 8 change nothing lent"
-unfoldable pub leaves : Checked → Field → List ℕ → List Float → List ℕ → Left
-leaves Passed F s f u = left (Done (gradeOf F)) (closure F s) (cleared zero64 f) (cleared 0 u)
-leaves (Failed r) F s f u = left (Refused r) s f u
-
 -- tests 1 to 6 and 8, then the closure
-unfoldable pub closureCall : Field → List ℕ → List Float → List ℕ → Left
-closureCall F s f u = leaves (tested (readyTests F s (length f) (length u))) F s f u
+abbrev pub closureCall : Field → List ℕ → List Float → List ℕ → Left
+closureCall = valuesCall closure

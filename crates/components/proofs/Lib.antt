@@ -1,6 +1,5 @@
 pub mod Staging
 pub mod Parted
-pub mod Laws
 pub mod Bridge
 pub mod Small
 pub mod Demands

@@ -6,8 +6,10 @@ use mathlib.Core.List.{List, [], _∷_, _++_, map, List·Memᴰ, List·Memᴰ·h
 use native.Mathlib.Nat.{div-add-mod', mod-lt}
 use native.Mathlib.Numerals.{add-one}
 use native.Mathlib.Omega.{arith}
-use lib.ListN.{length, getD, set, take, drop, length-set, length-append, length-drop}
-use lib.Seq.{sets-eq, take-at, drop-at, drop-drop}
+use lib.ListN.{length, getD, set, take, drop, length-set, length-append}
+use lib.Seq.{sets}
+use Rattle.scratch.specs.Over.{over}
+use Rattle.scratch.proofs.Over.{length-over, over-front, over-rest, over-sets, sets-then}
 use Rattle.meaning.specs.Kinds.{Constraint}
 use Rattle.constraints.specs.Triple.{Triple, triple, flat, room, tripleAt, triples, filled, stored, constraintOf, constraintsOf}
 
@@ -99,27 +101,28 @@ flat-triples l h = whole-flat l (omega (arith, length-triples l))
 -- ---- an answer list that is being filled
 
 pub filled-none : (list : List ℕ) → filled [] list ≡ list
-unfolding filled flat
+unfolding filled flat over
 filled-none list = refl
 
 module _ (items : List Triple) (list : List ℕ) where
   pub length-filled : 3 * length items ≤ length list → length (filled items list) ≡ length list
   unfolding filled
-  length-filled h = omega (arith, length-append (flat items) (drop (3 * length items) list), length-flat items, length-drop (3 * length items) list)
+  length-filled h = length-over (flat items) list (omega (arith, length-flat items))
 
   -- nothing behind the last item is written
   pub filled-rest : drop (3 * length items) (filled items list) ≡ drop (3 * length items) list
   unfolding filled
-  filled-rest = drop-at (flat items) (drop (3 * length items) list) (3 * length items) (length-flat items)
+  filled-rest = over-rest (flat items) list (length-flat items)
 
   -- the items stand at the front
   pub filled-front : take (3 * length items) (filled items list) ≡ flat items
   unfolding filled
-  filled-front = take-at (flat items) (drop (3 * length items) list) (3 * length items) (length-flat items)
+  filled-front = over-front (flat items) list (length-flat items)
 
   pub triples-filled : triples (filled items list) ≡ items ++ triples (drop (3 * length items) list)
-  unfolding filled
-  triples-filled = triples-append items (drop (3 * length items) list)
+  unfolding filled over
+  triples-filled =
+      triples-append items (drop (length (flat items)) list) ∙ ap (λ (k : ℕ). items ++ triples (drop k list)) (length-flat items)
 
   -- to put x behind the last item is to fill with one item more
   pub filled-put : (x : Triple) → 3 * length items + 2 < length list → stored (filled items list) (length items) x ≡ filled (items ++ x ∷ []) list
@@ -127,21 +130,15 @@ module _ (items : List Triple) (list : List ℕ) where
   filled-put x h =
       let k = 3 * length items in
       let two : k + 2 ≡ suc (suc k) = omega arith in
-      let long : length (items ++ x ∷ []) ≡ length items + 1 = length-append items (x ∷ []) in
-      let next : 3 * (length items + 1) ≡ k + 3 = omega arith in
       let part = x .first ∷ x .second ∷ x .code ∷ [] in
-      let room : k + 3 ≤ length (flat items ++ drop k list) = omega (arith, length-append (flat items) (drop k list), length-flat items, length-drop k list) in
+      let at : k ≡ 0 + length (flat items) = omega (arith, length-flat items) in
+      let fits : length (flat items ++ part) ≤ length list = omega (arith, length-append (flat items) part, length-flat items) in
       rw (two, add-one k)
-      (sets-eq part (flat items ++ drop k list) k room
-      ∙ rw (
-        take-at (flat items) (drop k list) k (length-flat items),
-        flat-append items (x ∷ []),
-        long,
-        next,
-        sym (drop-drop 3 k (flat items ++ drop k list)),
-        drop-at (flat items) (drop k list) k (length-flat items),
-        drop-drop 3 k list,
-      ))
+      (ap (λ (l : List ℕ). sets l k part) (sym (over-sets (flat items) list (omega (arith, length-flat items))))
+      ∙ ap (λ (j : ℕ). sets (sets list 0 (flat items)) j part) at
+      ∙ sets-then (flat items) part list 0
+      ∙ over-sets (flat items ++ part) list fits
+      ∙ ap (λ (l : List ℕ). over l list) (sym (flat-append items (x ∷ []))))
 
 -- ---- the constraints of a list
 

@@ -1,7 +1,8 @@
 -- A constraint as three numbers, and the flat list that holds constraints so. Assumes nothing.
 use Prim.Native.Nat.{ℕ, _+_, _*_, _/_}
-use mathlib.Core.List.{List, [], _∷_, _++_, map}
-use lib.ListN.{length, getD, set, drop}
+use mathlib.Core.List.{List, [], _∷_, map}
+use lib.ListN.{length, getD, set}
+use Rattle.scratch.specs.Over.{over}
 use Rattle.meaning.specs.Kinds.{Constraint}
 use Rattle.constraints.specs.Codes.{kindAt}
 
@@ -36,7 +37,7 @@ triples (a ∷ b ∷ c ∷ list) = triple a b c ∷ triples list
 
 -- the items at the front; "elements past an answer list's last item are unchanged"
 unfoldable pub filled : List Triple → List ℕ → List ℕ
-filled items list = flat items ++ drop (3 * length items) list
+filled items list = over (flat items) list
 
 -- the list with x as triple number t
 unfoldable pub stored : List ℕ → ℕ → Triple → List ℕ

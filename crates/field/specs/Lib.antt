@@ -4,3 +4,4 @@ pub mod Table
 pub mod Tests
 pub mod Grade
 pub mod Reading
+pub mod Call

@@ -1,5 +1,5 @@
 -- The front of an answer list, a part of the words, and both together. Assumes nothing.
-use Prim.Native.Nat.{ℕ, zero, suc, _+_, _*_, _-_, _<_, _≤_}
+use Prim.Native.Nat.{ℕ, zero, suc, _+_, _*_, _<_, _≤_}
 use mathlib.Core.Path.{_≡_, refl, sym, ap, _∙_}
 use mathlib.Core.List.{List, [], _∷_, _++_, map, append-assoc, map-append, Memᴰ·append-left, Memᴰ·append-right}
 use native.Mathlib.Omega.{arith}

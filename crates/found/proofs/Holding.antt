@@ -7,6 +7,7 @@ use native.Mathlib.Nat.{div-mul-le-self}
 use native.Mathlib.Omega.{arith}
 use lib.ListN.{length, getD, drop}
 use lib.Seq.{slice, length-slice, drop-append-add, drop-drop}
+use Rattle.scratch.specs.Over.{over}
 use Rattle.constraints.specs.Triple.{Triple, flat, room, filled}
 use Rattle.constraints.specs.Sorted.{sortedSet, SameSet}
 use Rattle.constraints.specs.Keys.{keyOf, unkey, Small}
@@ -28,16 +29,13 @@ one-result list held u lo hi x y p q = p ∙ sym q
 
 -- a list filled anew with no fewer items
 refilled : (items more : List Triple) (list : List ℕ) → length items ≤ length more → filled more (filled items list) ≡ filled more list
-unfolding filled
+unfolding filled over
 refilled items more list h =
-    let n = 3 * length more - 3 * length items in
-    let a : length (flat items) + n ≡ 3 * length more = omega (arith, length-flat items) in
-    let b : 3 * length items + n ≡ 3 * length more = omega arith in
-    let e : drop (3 * length more) (flat items ++ drop (3 * length items) list) ≡ drop (3 * length more) list =
-    ap (λ (k : ℕ). drop k (flat items ++ drop (3 * length items) list)) (sym a)
-    ∙ drop-append-add (flat items) (drop (3 * length items) list) n
-    ∙ drop-drop n (3 * length items) list
-    ∙ ap (λ (k : ℕ). drop k list) b in
+    let m = length (flat items) in
+    let n = length (flat more) - m in
+    let a : m + n ≡ length (flat more) = omega (arith, length-flat items, length-flat more) in
+    let e : drop (length (flat more)) (flat items ++ drop m list) ≡ drop (length (flat more)) list =
+    ap (λ (k : ℕ). drop k (flat items ++ drop m list)) (sym a) ∙ drop-append-add (flat items) (drop m list) n ∙ drop-drop n m list ∙ ap (λ (k : ℕ). drop k list) a in
     ap (λ (l : List ℕ). flat more ++ l) e
 
 -- the words from lo to hi stand for constraints

@@ -6,9 +6,10 @@ use native.Mathlib.Nat.{div-mul-le-self}
 use native.Mathlib.Omega.{arith}
 use lib.ListN.{length, take, drop, length-append, take-append-drop}
 use lib.Seq.{append-snoc}
+use Rattle.scratch.specs.Over.{over}
 use Rattle.constraints.specs.Triple.{Triple, flat, room, filled, stored}
 use Rattle.constraints.specs.Keys.{unkey}
-use Rattle.constraints.proofs.Triples.{has-room, length-stored, flat-append}
+use Rattle.constraints.proofs.Triples.{length-flat, has-room, length-stored, flat-append}
 use Rattle.found.specs.Joint.{front, Held, joint, Taking}
 use Rattle.found.proofs.Fronts.{front-length, front-fewer, front-stored, flat-front, drop-stored, held-fewer, held-same, joint-as, joint-long, joint-none}
 
@@ -123,7 +124,7 @@ module _ {held lo hi : ℕ} {u list₀ : List ℕ} {items keys n : ℕ} {list : 
 
   -- with no words left the items that are left stand where they stood
   pub laying-done : keys ≤ lo → list ≡ filled (joint held lo hi list₀ u) list₀
-  unfolding filled
+  unfolding filled over
   laying-done h =
       let e : keys ≡ lo = omega (arith, L .low) in
       let F = held-fewer items held list₀ (L .few) H in
@@ -137,3 +138,4 @@ module _ {held lo hi : ℕ} {u list₀ : List ℕ} {items keys n : ℕ} {list : 
       let all : take (3 * n) list ++ drop (3 * n) list ≡ flat f ++ (flat (L .rest) ++ d) = rw (front-is, L .back) in
       sym (take-append-drop (3 * n) list) ∙ all ∙ sym (append-assoc (flat f) (flat (L .rest)) d)
       ∙ ap (λ (l : List ℕ). l ++ d) (sym (flat-append f (L .rest)) ∙ ap flat (sym w))
+      ∙ ap (λ (k : ℕ). flat (joint held lo hi list₀ u) ++ drop k list₀) (sym (length-flat (joint held lo hi list₀ u)))

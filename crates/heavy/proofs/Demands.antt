@@ -1,6 +1,6 @@
 -- What the call `heavy` does, over its promise alone. Assumes nothing.
 use Prim.Native.Nat.{ℕ, zero, suc, _<_}
-use mathlib.Core.Path.{_≡_, refl, sym, ap, _∙_}
+use mathlib.Core.Path.{_≡_, refl, sym, _∙_}
 use mathlib.Core.Logic.{_↔_, inr}
 use mathlib.Core.Bool.{true}
 use mathlib.Core.List.{List}
@@ -14,24 +14,21 @@ use Rattle.meaning.proofs.Free.{frees-le}
 use Rattle.weights.specs.Worth.{zero64}
 use Rattle.scratch.specs.Cleared.{cleared}
 use Rattle.field.specs.declared.Answer.the-variants.{Done, Refused}
-use Rattle.field.specs.declared.Checked.{Checked}
-use Rattle.field.specs.declared.Checked.the-variants.{Passed, Failed}
 use Rattle.field.specs.declared.Grade.{Grade}
 use Rattle.field.specs.declared.Grade.the-variants.{Exact}
 use Rattle.field.specs.declared.Refusal.{Refusal}
 use Rattle.field.specs.Field.{Field, variables, linearOf}
-use Rattle.field.specs.Table.{tested, FirstToFail}
+use Rattle.field.specs.Table.{FirstToFail}
 use Rattle.field.specs.Tests.{readyTests, Sound, Ready}
 use Rattle.field.specs.Grade.{halves, gradeOf}
 use Rattle.field.specs.Reading.{wholeOf}
-use Rattle.field.proofs.Table.{refused-exactly}
-use Rattle.field.proofs.Means.{ready-passes}
+use Rattle.field.specs.Call.{Left, left}
+use Rattle.field.proofs.ValuesCall as values
 use Rattle.run.specs.Run.{closure}
-use Rattle.closure.specs.Call.{Left, left}
 use Rattle.no_effect.proofs.Listed.{NoEntry}
 use Rattle.preprocess.specs.Working.{preprocess}
 use Rattle.heavy.specs.Rounds.{round, rounds, allRounds, heavy}
-use Rattle.heavy.specs.Call.{leaves, heavyCall}
+use Rattle.heavy.specs.Call.{heavyCall}
 use Rattle.heavy.proofs.Added.{preprocess-start, preprocess-closes, preprocess-idle, rounds-extend, rounds-are, rounds-close, rounds-preprocess, rounds-stand}
 
 -- ---- the model
@@ -68,68 +65,33 @@ module _ {F : Field} {s : List ℕ} (S : Sound F s) where
 
 -- ---- the call
 
--- any two results that the promise permits are equal
-pub one-result : (F : Field) (s : List ℕ) (f : List Float) (u : List ℕ) (x y : Left) → x ≡ heavyCall F s f u → y ≡ heavyCall F s f u → x ≡ y
-one-result F s f u x y p q = p ∙ sym q
-
-same-refusal : {r t : Refusal} → Refused r ≡ Refused t → r ≡ t
-same-refusal e = cc
-
-not-done : {g : Grade} {r : Refusal} {A : Type 0} → Done g ≡ Refused r → A
-not-done e = let z : _≡_ {A = ℕ} 0 1 = cc in absurd (omega arith)
-
 module _ (F : Field) (s : List ℕ) (f : List Float) (u : List ℕ) where
-  abbrev checked : Checked
-  checked = tested (readyTests F s (length f) (length u))
-
-  refused : (r : Refusal) (k : Checked) → (leaves k F s f u .answer ≡ Refused r) ↔ (k ≡ Failed r)
-  unfolding leaves
-  refused r Passed = ((λ e. not-done e), λ e. let z : _≡_ {A = ℕ} 0 1 = cc in absurd (omega arith))
-  refused r (Failed t) = ((λ e. ap Failed (same-refusal e)), λ e. let z : t ≡ r = cc in ap Refused z)
+  -- any two results that the promise permits are equal
+  pub one-result : (x y : Left) → x ≡ heavyCall F s f u → y ≡ heavyCall F s f u → x ≡ y
+  one-result = values.one-result _ F s f u
 
   -- The call is refused with r exactly if the tests before r's own pass, and its own fails.
   pub refused-when : (r : Refusal) → (heavyCall F s f u .answer ≡ Refused r) ↔ FirstToFail (readyTests F s (length f) (length u)) r
-  unfolding heavyCall
-  refused-when r =
-      let p = refused r checked in
-      let t = refused-exactly (readyTests F s (length f) (length u)) r in
-      ((λ e. t .0 (p .0 e)), λ h. p .1 (t .1 h))
+  refused-when = values.refused-when _ F s f u
 
   -- A refusal changes nothing lent.
   pub refused-leaves : (r : Refusal) → heavyCall F s f u .answer ≡ Refused r → heavyCall F s f u ≡ left (Refused r) s f u
-  unfolding heavyCall leaves
-  refused-leaves r e = rw (refused r checked .0 e)
-
-  done : (g : Grade) (k : Checked) → leaves k F s f u .answer ≡ Done g → k ≡ Passed
-  unfolding leaves
-  done g Passed e = refl
-  done g (Failed t) e = not-done (sym e)
+  refused-leaves = values.refused-leaves _ F s f u
 
   -- It is done exactly if the field, the start values and both scratches are as the table asks, and then gives the grade.
   pub done-when : (heavyCall F s f u .answer ≡ Done (gradeOf F)) ↔ Ready F s (length f) (length u)
-  unfolding heavyCall leaves
-  done-when =
-      let t = ready-passes F s (length f) (length u) in
-      ((λ e. t .0 (done (gradeOf F) checked e)), λ h. rw (t .1 h))
+  done-when = values.done-when _ F s f u
 
   module _ (g : Grade) (e : heavyCall F s f u .answer ≡ Done g) where
-    passed : checked ≡ Passed
-    unfolding heavyCall
-    passed = done g checked e
-
-    sound : Sound F s
-    sound = ready-passes F s (length f) (length u) .0 passed .sound
-
     -- Then the values are in the start values, and both scratches are all zeros.
     pub done-leaves : heavyCall F s f u ≡ left (Done (gradeOf F)) (heavy F s) (cleared zero64 f) (cleared 0 u)
-    unfolding heavyCall leaves
-    done-leaves = rw passed
-
-    graded : gradeOf F ≡ g
-    graded = let a : Done (gradeOf F) ≡ Done g = sym (ap (λ (l : Left). l .answer) done-leaves) ∙ e in let z : gradeOf F ≡ g = cc in z
+    done-leaves = values.done-leaves _ F s f u g e
 
     pub values-are : heavyCall F s f u .values ≡ heavy F s
-    values-are = ap (λ (l : Left). l .values) done-leaves
+    values-are = values.values-are _ F s f u g e
+
+    sound : Sound F s
+    sound = values.ready _ F s f u g e .sound
 
     -- The start values are kept, a 1 of a variable of no effect too ..
     pub values-extend : Extends s (heavyCall F s f u .values)
@@ -156,4 +118,4 @@ module _ (F : Field) (s : List ℕ) (f : List Float) (u : List ℕ) where
 -- DEMAND 3. On an exact field some best completion of the start values agrees with all values.
 pub some-best-agrees : (F : Field) (s : List ℕ) (f : List Float) (u : List ℕ) → heavyCall F s f u .answer ≡ Done Exact
     → Safe (wholeOf halves F) s (heavyCall F s f u .values)
-some-best-agrees F s f u e = rw (values-are F s f u Exact e) (heavy-stands (sound F s f u Exact e) (graded F s f u Exact e))
+some-best-agrees F s f u e = rw (values-are F s f u Exact e) (heavy-stands (sound F s f u Exact e) (values.graded _ F s f u Exact e))

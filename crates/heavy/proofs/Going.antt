@@ -5,25 +5,15 @@ use mathlib.Core.Logic.{_≢_}
 use mathlib.Core.List.{List}
 use native.Mathlib.Omega.{arith}
 use borrow.Author.Tests.{eq-eqb, ne-eqb}
-use lib.ListN.{length, replicate}
-use lib.Ieee.{Float}
+use lib.ListN.{length}
 use Rattle.meaning.specs.Free.{frees}
-use Rattle.weights.specs.Worth.{zero64}
 use Rattle.scratch.specs.Region.{region}
-use Rattle.field.specs.declared.Answer.the-variants.{Done, Refused}
-use Rattle.field.specs.declared.Checked.the-variants.{Passed, Failed}
-use Rattle.field.specs.declared.Grade.{Grade}
-use Rattle.field.specs.declared.Refusal.{Refusal}
 use Rattle.field.specs.Field.{Field, variables, StartFor}
-use Rattle.field.specs.Table.{tested}
-use Rattle.field.specs.Tests.{readyTests, Ready}
-use Rattle.field.specs.Grade.{gradeOf}
-use Rattle.closure.specs.Call.{left}
+use Rattle.field.specs.Tests.{Ready}
 use Rattle.twin.specs.Twin.{valuesAt}
 use Rattle.walking.specs.Walk.{valuesLeft}
 use Rattle.preprocess.specs.Working.{preprocess}
 use Rattle.heavy.specs.Rounds.{laidOver, probeValues, round, rounds, heavy}
-use Rattle.heavy.specs.Call.{leaves, heavyCall}
 use Rattle.heavy.proofs.Added.{sound-still, preprocess-start, round-start, adds-none}
 
 -- ---- one round
@@ -95,16 +85,3 @@ module _ {F : Field} {s₀ s : List ℕ} {floats₀ words₀ k free floats words
       count = c;
       rest = rw e (rw (one-more, ne-eqb (frees (round F s)) (frees s) (λ z. other (c ∙ ap frees e ∙ z ∙ sym (now .count)))) at (now .rest));
     }
-
--- ---- the call
-
-module _ (F : Field) (s : List ℕ) (f : List Float) (u : List ℕ) where
-  pub refused-call : {r : Refusal} → tested (readyTests F s (length f) (length u)) ≡ Failed r → left (Refused r) s f u ≡ heavyCall F s f u
-  unfolding heavyCall leaves
-  refused-call e = rw e
-
-  pub done-call : {g : Grade} {s′ : List ℕ} {f′ : List Float} {u′ : List ℕ} (k l : ℕ) → tested (readyTests F s (length f) (length u)) ≡ Passed
-      → g ≡ gradeOf F → s′ ≡ heavy F s → f′ ≡ replicate k zero64 → k ≡ length f → u′ ≡ replicate l 0 → l ≡ length u
-      → left (Done g) s′ f′ u′ ≡ heavyCall F s f u
-  unfolding heavyCall leaves
-  done-call k l e eg es ef lf eu lu = rw (e, eg, es, ef, lf, eu, lu)

@@ -9,17 +9,17 @@ use lib.ListN.{length, getD, take}
 use lib.Seq.{ext-getD, take-take}
 use Rattle.scratch.specs.Region.{region}
 use Rattle.scratch.proofs.Region.{length-region, region-at}
+use Rattle.meaning.specs.Free.{freeTo}
+use Rattle.meaning.proofs.Free.{free-at}
 use Rattle.field.specs.Field.{Field, variables}
 use Rattle.field.specs.Tests.{Ready}
 use Rattle.probing.specs.Remembered.{Remembers}
-use Rattle.twin.specs.Finds.{valuesOf}
+use Rattle.finding.specs.Finds.{valuesOf}
 use Rattle.twin.specs.Twin.{firstAt}
 use Rattle.twin.proofs.Framed.{remembers-front}
 use Rattle.walking.specs.Walk.{candidatesAt, gatherAt, Walkable}
-use Rattle.probes.specs.Call.{freeTo, allValues}
+use Rattle.probes.specs.Call.{allValues}
 use Rattle.probes.specs.Listed.{Listed, Noned}
-use Rattle.probes.proofs.Members.{at-in}
-use Rattle.probes.proofs.Candidates.{full-free}
 use Rattle.heavy.specs.Rounds.{probeValues}
 
 -- room for the walk
@@ -53,7 +53,7 @@ module _ {F : Field} {s : List ℕ} {f : List Float} {u u₁ u₂ : List ℕ} {m
       let a : length (freeTo s (variables F)) ≡ count = ap length (sym candidates) ∙ length-region (candidatesAt F) count u₂ (omega (arith, few, long, space)) in
       let e : getD u₂ (candidatesAt F + h) 0 ≡ getD (freeTo s (variables F)) h 0
       = sym (region-at (candidatesAt F) count u₂ h 0 l) ∙ ap (λ (z : List ℕ). getD z h 0) candidates in
-      rw e (full-free s (variables F) (getD (freeTo s (variables F)) h 0) (at-in (freeTo s (variables F)) h (omega arith)))
+      rw e (free-at s (variables F) h (omega arith) .1)
 
   pub all-walkable : Walkable F s f u₂ many count
   all-walkable = record {

@@ -9,11 +9,11 @@ use borrow.Author.Tests.{lt-ltb, le-ltb}
 use lib.ListN.{length, getD, List·getD-eq-default}
 use Rattle.meaning.specs.Steps.{Valid, Extends}
 use Rattle.meaning.specs.Field.{Best}
+use Rattle.meaning.specs.Free.{freeTo}
 use Rattle.field.specs.Field.{Field, variables, Shaped, StartFor}
 use Rattle.field.specs.Grade.{ExactIn}
 use Rattle.field.specs.Reading.{wholeOf}
 use Rattle.rows.proofs.Upto.{length-upTo, getD-upTo}
-use Rattle.probes.specs.Call.{freeTo}
 use Rattle.probes.proofs.Gathered.{start-left-out}
 use Rattle.probes.proofs.Exact as exactly
 use Rattle.probes.proofs.Candidates.{full-free}

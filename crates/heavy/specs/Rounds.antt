@@ -4,11 +4,11 @@ use mathlib.Core.Bool.{cond}
 use mathlib.Core.List.{List}
 use lib.Dec.{eqb, ltb}
 use lib.ListN.{length, getD}
-use Rattle.meaning.specs.Free.{frees}
+use Rattle.meaning.specs.Free.{frees, freeTo}
 use Rattle.field.specs.Field.{Field, variables}
 use Rattle.rows.specs.Stored.{upTo}
 use Rattle.preprocess.specs.Working.{preprocess}
-use Rattle.probes.specs.Call.{freeTo, allValues}
+use Rattle.probes.specs.Call.{allValues}
 
 -- w where it is a value, and v where it is 2 for none
 unfoldable pub laidAt : ℕ → ℕ → ℕ

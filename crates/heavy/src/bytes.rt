@@ -1,30 +1,12 @@
-// Lists of values: copied, counted, and laid over one another.
+// Lists of values: counted, and laid over one another.
+use probes::listing::step;
 ghost use mathlib.Core.Path.{_≡_};
 ghost use Prim.Native.Nat.{_+_, _≤_};
 ghost use lib.ListN.{length};
 ghost use Rattle.meaning.specs.Free.{frees};
 ghost use Rattle.scratch.specs.Lent.{before, after};
 ghost use Rattle.scratch.specs.Region.{region};
-ghost use Rattle.probes.specs.Listed.{stepOf};
 ghost use Rattle.heavy.specs.Rounds.{laidAt, laidOver};
-
-// The start values go into the values.
-pub fn copy(start: &[u8], values: &mut [u8])
-    requires { ⌜ length (now values) ≡ length (now start) ⌝ }
-    ensures { λ _. ⌜ after values ≡ before start ⌝ }
-{
-    for i in 0..start.len() {
-        values[i] = start[i];
-    }
-}
-
-// 1 for a free variable.
-fn step(value: u8) -> usize
-    ensures { λ r. ⌜ r ≡ stepOf value ⌝ }
-    ensures { λ r. ⌜ r ≤ 1 ⌝ }
-{
-    if value == 2 { 1 } else { 0 }
-}
 
 // How many values are free.
 pub fn count_free(values: &[u8]) -> usize

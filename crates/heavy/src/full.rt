@@ -1,5 +1,5 @@
 // The values of a full probe, left in the words.
-use crate::bytes::copy;
+use probe::values::copy;
 use probes::listing::list_free;
 use probes::listing::set_none;
 use walking::walk_values;

@@ -8,6 +8,7 @@ use lib.ListN.{getD, set}
 use lib.Dec.{eqb}
 use Rattle.whole.specs.Whole.{Whole, nothing, _⊕_, _⊖_, _⊑_, only, sum, min0, max0, Above0}
 use Rattle.meaning.specs.Field.{Field, Completion, twice-f}
+use Rattle.meaning.specs.Free.{isFree}
 use Rattle.meaning.specs.Gradient.{view, share, gradient}
 use Rattle.meaning.specs.Kinds.{Kind, at-least-one, no-more-than-one, greater-than, less-than}
 
@@ -92,4 +93,4 @@ settled F s i = gradient (λ q. nothing) F (view s) i
 
 -- k is free, and neither i nor j
 abbrev pub third : List ℕ → ℕ → ℕ → ℕ → Bool
-third s i j k = other i j k && eqb (getD s k 0) 2
+third s i j k = other i j k && isFree s k

@@ -4,8 +4,8 @@ use mathlib.Core.Logic.{_⊎_}
 use mathlib.Core.Bool.{cond}
 use mathlib.Core.List.{List}
 use Prim.Native.Nat.{ℕ, zero, suc}
-use lib.ListN.{length, getD, set}
-use lib.Dec.{eqb}
+use lib.ListN.{length, set}
+use Rattle.meaning.specs.Free.{isFree}
 use Rattle.meaning.specs.Steps.{Rule}
 
 -- of the values that Q says are forced: v is 2 and none is, or v is
@@ -18,7 +18,7 @@ Decides R verdict = (s : List ℕ) (i : ℕ) → Decided (λ v. R s i v) (verdic
 
 -- a free variable takes its verdict
 unfoldable pub visit : (List ℕ → ℕ → ℕ) → List ℕ → ℕ → List ℕ
-visit verdict s i = cond (eqb (getD s i 0) 2) (set s i (verdict s i)) s
+visit verdict s i = cond (isFree s i) (set s i (verdict s i)) s
 
 -- the variables below k are visited in turn
 unfoldable pub pass : (List ℕ → ℕ → ℕ) → List ℕ → ℕ → List ℕ

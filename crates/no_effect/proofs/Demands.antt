@@ -6,11 +6,13 @@ use mathlib.Core.Bool.{Bool, true, false}
 use mathlib.Core.List.{List, [], _∷_, _++_}
 use native.Mathlib.Omega.{arith}
 use borrow.Author.Tests.{leb-true, le-leb}
-use lib.ListN.{length, getD, drop, List·getD-append}
+use lib.ListN.{length, getD}
 use lib.Ieee.{eq}
 use Rattle.meaning.specs.Part.{NoEffect}
 use Rattle.weights.specs.Worth.{zero64}
 use Rattle.scratch.specs.Cleared.{cleared}
+use Rattle.scratch.specs.Over.{over}
+use Rattle.scratch.proofs.Over.{over-at}
 use Rattle.field.specs.declared.Counted.{Counted}
 use Rattle.field.specs.declared.Counted.the-variants.{Counts, Refuses}
 use Rattle.field.specs.declared.Checked.{Checked}
@@ -135,7 +137,7 @@ module _ (F : Field) (l u : List ℕ) where
     finished = done checked (fits F l) refl e
 
     -- Then the variables of no effect are at the front of the list, the rest of it is unchanged, and the scratch is all zeros.
-    pub done-leaves : noEffectCall F l u ≡ left (Counts (gradeOf F) (length (noEffect F))) (noEffect F ++ drop (length (noEffect F)) l) (cleared 0 u)
+    pub done-leaves : noEffectCall F l u ≡ left (Counts (gradeOf F) (length (noEffect F))) (over (noEffect F) l) (cleared 0 u)
     unfolding noEffectCall leaves answered
     done-leaves = rw (finished .0, finished .1)
 
@@ -150,7 +152,7 @@ module _ (F : Field) (l u : List ℕ) where
     item t = getD (noEffectCall F l u .list) t 0
 
     item-is : (t : ℕ) → t < m → item t ≡ getD (noEffect F) t 0
-    item-is t h = ap (λ (x : Left). getD (x .list) t 0) done-leaves ∙ List·getD-append (noEffect F) (drop (length (noEffect F)) l) 0 t (omega (arith, answer-is .1))
+    item-is t h = ap (λ (x : Left). getD (x .list) t 0) done-leaves ∙ over-at (noEffect F) l t 0 (omega (arith, answer-is .1))
 
     -- Each of the m items is a variable with no entry and c = 0 ..
     pub items-idle : (t : ℕ) → t < m → (item t < variables F) × (NoEntry F (item t) × (eq (linearOf F (item t)) zero64 ≡ true))

@@ -1,16 +1,17 @@
 -- From the marks to the variables of no effect, and from the tests to the answer. Assumes nothing.
-use Prim.Native.Nat.{ℕ, _+_, _<_, _≤_}
+use Prim.Native.Nat.{ℕ, _<_, _≤_}
 use mathlib.Core.Path.{_≡_, ap, _∙_}
 use mathlib.Core.Logic.{_↔_}
 use mathlib.Core.Bool.{Bool, _&&_}
-use mathlib.Core.List.{List, _++_}
-use native.Mathlib.Nat.{zero-add}
+use mathlib.Core.List.{List}
 use native.Mathlib.Omega.{arith}
 use borrow.Author.Tests.{le-leb, lt-leb}
-use lib.ListN.{length, getD, drop, replicate}
-use lib.Seq.{sets, sets-eq}
+use lib.ListN.{length, getD, replicate}
+use lib.Seq.{sets}
 use lib.Ieee.{Float, nan, eq}
 use Rattle.weights.specs.Worth.{zero64}
+use Rattle.scratch.specs.Over.{over}
+use Rattle.scratch.proofs.Over.{over-sets}
 use Rattle.field.specs.declared.Counted.the-variants.{Counts, Refuses}
 use Rattle.field.specs.declared.Checked.the-variants.{Passed, Failed}
 use Rattle.field.specs.declared.Grade.{Grade}
@@ -54,12 +55,9 @@ module _ (F : Field) (l u : List ℕ) where
     unfolding found putAll noEffect
     count-is = ap (λ (s : Putting). s .count) e
 
-    list-is : k ≤ length l → l′ ≡ noEffect F ++ drop (length (noEffect F)) l
+    list-is : k ≤ length l → l′ ≡ over (noEffect F) l
     unfolding found putAll noEffect
-    list-is h =
-        ap (λ (s : Putting). s .list) e
-        ∙ sets-eq (noEffect F) l 0 (omega (arith, count-is))
-        ∙ ap (λ (j : ℕ). noEffect F ++ drop j l) (zero-add (length (noEffect F)))
+    list-is h = ap (λ (s : Putting). s .list) e ∙ over-sets (noEffect F) l (omega (arith, count-is))
 
     pub done-call : {g : Grade} {u′ : List ℕ} (j : ℕ) → g ≡ gradeOf F → k ≤ length l → u′ ≡ replicate j 0 → j ≡ length u → left (Counts g k) l′ u′ ≡ noEffectCall F l u
     unfolding noEffectCall leaves answered fits

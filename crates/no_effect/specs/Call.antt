@@ -3,8 +3,9 @@ use Prim.Native.Nat.{ℕ, _+_, _*_, _≤_}
 use mathlib.Core.Bool.{Bool, true, false}
 use mathlib.Core.List.{List, [], _∷_, _++_}
 use lib.Dec.{leb}
-use lib.ListN.{length, drop}
+use lib.ListN.{length}
 use Rattle.scratch.specs.Cleared.{cleared}
+use Rattle.scratch.specs.Over.{over}
 use Rattle.field.specs.declared.Counted.{Counted}
 use Rattle.field.specs.declared.Counted.the-variants.{Counts, Refuses}
 use Rattle.field.specs.declared.Checked.{Checked}
@@ -45,7 +46,7 @@ noEffectTests F l words = wordTests F words ++ test Room (fits F l) ∷ []
 -- "elements past an answer list's last item are unchanged"; "9 is given exactly if a full answer has more items than its list has room for";
 -- "then each answer list is all zeros"
 unfoldable pub answered : Bool → Field → List ℕ → List ℕ → Left
-answered true F l u = left (Counts (gradeOf F) (length (noEffect F))) (noEffect F ++ drop (length (noEffect F)) l) (cleared 0 u)
+answered true F l u = left (Counts (gradeOf F) (length (noEffect F))) (over (noEffect F) l) (cleared 0 u)
 answered false F l u = left (Refuses Room) (cleared 0 l) (cleared 0 u)
 
 -- "After passing 8, scratch ends as all zeros"; "1 to 8 change nothing lent"

@@ -86,10 +86,10 @@ anchors-within F s least (suc i) =
 
 module _ (F : Field) (s : List ℕ) (least : ℕ) (list : List ℕ) (f : List Float) (u : List ℕ) where
   pub anchors-fit : countOf (anchoring.anchorsCall F s least list f u .answer) < 0x1000_0000
-  unfolding anchoring.anchorsCall anchoring.leaves anchoring.listed anchorsOf
+  unfolding anchoring.anchorsCall anchoring.leaves anchoring.answered anchorsOf
   anchors-fit = go (tested (anchoring.anchorTests F s (length f) (length u))) refl
     where
-      put : (b : Bool) → variables F ≤ 4096 → countOf (anchoring.listed b F (anchorsOf F s least) list f u .answer) < 0x1000_0000
+      put : (b : Bool) → variables F ≤ 4096 → countOf (anchoring.answered b F (anchorsOf F s least) list f u .answer) < 0x1000_0000
       put true few = omega (arith, few, anchors-within F s least (variables F))
       put false few = omega arith
 

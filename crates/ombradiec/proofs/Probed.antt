@@ -1,13 +1,14 @@
 -- What probes count has room in its number: at most n constraints of each of at most n candidates. Assumes nothing.
 use Prim.Native.Nat.{ℕ, zero, suc, _+_, _*_, _≤_, _<_}
 use mathlib.Core.Path.{_≡_, refl, ap}
-use mathlib.Core.Bool.{Bool, true, false, cond}
-use mathlib.Core.List.{List, [], _∷_, _++_}
+use mathlib.Core.Bool.{Bool, true, false}
+use mathlib.Core.List.{List}
 use native.Mathlib.Nat.{suc-mul, mul-comm, mul-le-mul-right}
 use native.Mathlib.Omega.{arith}
-use lib.Dec.{eqb}
-use lib.ListN.{length, getD, take, length-append, length-take}
+use lib.ListN.{length, getD, take, length-take}
 use lib.Ieee.{Float}
+use Rattle.meaning.specs.Free.{freeTo}
+use Rattle.meaning.proofs.Free.{free-few}
 use Rattle.constraints.specs.Triple.{Triple}
 use Rattle.field.specs.declared.Checked.{Checked}
 use Rattle.field.specs.declared.Checked.the-variants.{Passed, Failed}
@@ -18,9 +19,10 @@ use Rattle.field.specs.Tests.{readyTests}
 use Rattle.field.proofs.Means.{ready-passes}
 use Rattle.probe.specs.Found.{Finding, nothing, value, constraint}
 use Rattle.sorting.proofs.Numbers.{set-length}
-use Rattle.ranking.specs.Ranking.{freeIn, insert, ordered, freeBelow, ranks, ahead, massOf}
-use Rattle.twin.specs.Finds.{added, finding, constraintsTo, constraintsOf}
-use Rattle.probes.specs.Call.{freeTo, allConstraints, Left, left, fits, given, leaves, candidatesCall, probeCall, probeLimitedCall}
+use Rattle.ranking.specs.Ranking.{ranks, ahead, massOf}
+use Rattle.ranking.proofs.Ordered.{ordered-length}
+use Rattle.finding.specs.Finds.{added, finding, constraintsTo, constraintsOf}
+use Rattle.probes.specs.Call.{allConstraints, Left, left, fits, answered, leaves, candidatesCall, probeCall, probeLimitedCall}
 use Rattle.packing.specs.Layout.{countOf}
 
 -- ---- the constraints of some candidates
@@ -48,48 +50,19 @@ few-by-few k n a b =
 
 -- ---- the candidates
 
-one-more : (l : List ℕ) (n : ℕ) (b : Bool) → length l ≤ n → length (l ++ cond b (n ∷ []) []) ≤ suc n
-one-more l n true h = omega (arith, h, length-append l (n ∷ []))
-one-more l n false h = omega (arith, h, length-append l [])
-
-free-few : (s : List ℕ) (n : ℕ) → length (freeTo s n) ≤ n
-unfolding freeTo
-free-few s zero = omega arith
-free-few s (suc n) = one-more (freeTo s n) n (eqb (getD s n 0) 2) (free-few s n)
-
-below-few : (s : List ℕ) (n : ℕ) → length (freeBelow s n) ≤ n
-unfolding freeBelow
-below-few s zero = omega arith
-below-few s (suc n) = one-more (freeBelow s n) n (freeIn s n) (below-few s n)
-
-module _ (first : ℕ → ℕ → Bool) where
-  insert-length : (x : ℕ) (l : List ℕ) → length (insert first x l) ≡ suc (length l)
-  unfolding insert
-  insert-length x [] = refl
-  insert-length x (y ∷ l) = go (first y x) (insert-length x l)
-    where
-      go : (b : Bool) → length (insert first x l) ≡ suc (length l) → length (cond b (y ∷ insert first x l) (x ∷ y ∷ l)) ≡ suc (suc (length l))
-      go true h = ap suc h
-      go false h = refl
-
-  ordered-length : (l : List ℕ) → length (ordered first l) ≡ length l
-  unfolding ordered
-  ordered-length [] = refl
-  ordered-length (x ∷ l) = omega (arith, insert-length x (ordered first l), ordered-length l)
-
 ranks-few : (F : Field) (s : List ℕ) (limit : ℕ) → length (take limit (ranks F s)) ≤ variables F
 unfolding ranks
 ranks-few F s limit =
-    omega (arith, length-take limit (ranks F s), ordered-length (ahead (massOf F s)) (freeBelow s (variables F)), below-few s (variables F))
+    omega (arith, length-take limit (ranks F s), ordered-length (ahead (massOf F s)) (freeTo s (variables F)), free-few s (variables F))
 
 -- ---- the calls
 
 module _ (F : Field) (s cands t k : List ℕ) (f : List Float) (u : List ℕ) (few : length cands ≤ variables F) where
   candidates-fit : countOf (candidatesCall F s cands t k f u .answer) < 0x1000_0000
-  unfolding candidatesCall leaves given allConstraints
+  unfolding candidatesCall leaves answered allConstraints
   candidates-fit = go (tested (readyTests F s (length f) (length u))) refl
     where
-      put : (b : Bool) → variables F ≤ 4096 → countOf (given b F s cands t k f u .answer) < 0x1000_0000
+      put : (b : Bool) → variables F ≤ 4096 → countOf (answered b F s cands t k f u .answer) < 0x1000_0000
       put true small =
           omega (arith, set-length (constraintsOf F s cands (length cands)), of-all F s cands (length cands), few-by-few (length cands) (variables F) few small)
       put false small = omega arith

@@ -7,6 +7,7 @@ use Rattle.field.specs.declared.Answer.{Answer}
 use Rattle.field.specs.declared.Counted.{Counted}
 use Rattle.field.specs.Answers.{checkedNumber, answerNumber, countedNumber}
 use Rattle.field.specs.Field.{Field}
+use Rattle.field.specs.Call as values
 use Rattle.closure.specs.Call as closing
 use Rattle.components.specs.Call as components
 use Rattle.preprocess.specs.Call as preprocess
@@ -54,17 +55,17 @@ abbrev pub CountRead : Counted → ℕ → Type 0
 CountRead a r = Reads r (countedNumber a) (countedGrade a) (countOf a) 0
 
 module _ (F : Field) (s : List ℕ) (f : List Float) (u : List ℕ) {s′ : List ℕ} {f′ : List Float} {u′ : List ℕ} {r : ℕ} where
-  pub closure-reads : Exported packedAnswer (λ a. closing.left a s′ f′ u′) r (closing.closureCall F s f u) → AnswerRead (closing.closureCall F s f u .answer) r
-  closure-reads e = rw (number-is (λ (x : closing.Left). x .answer) (λ a. refl) e) (answer-reads (closing.closureCall F s f u .answer))
+  pub closure-reads : Exported packedAnswer (λ a. values.left a s′ f′ u′) r (closing.closureCall F s f u) → AnswerRead (closing.closureCall F s f u .answer) r
+  closure-reads e = rw (number-is (λ (x : values.Left). x .answer) (λ a. refl) e) (answer-reads (closing.closureCall F s f u .answer))
 
-  pub components-reads : Exported packedAnswer (λ a. closing.left a s′ f′ u′) r (components.componentsCall F s f u) → AnswerRead (components.componentsCall F s f u .answer) r
-  components-reads e = rw (number-is (λ (x : closing.Left). x .answer) (λ a. refl) e) (answer-reads (components.componentsCall F s f u .answer))
+  pub components-reads : Exported packedAnswer (λ a. values.left a s′ f′ u′) r (components.componentsCall F s f u) → AnswerRead (components.componentsCall F s f u .answer) r
+  components-reads e = rw (number-is (λ (x : values.Left). x .answer) (λ a. refl) e) (answer-reads (components.componentsCall F s f u .answer))
 
-  pub preprocess-reads : Exported packedAnswer (λ a. closing.left a s′ f′ u′) r (preprocess.preprocessCall F s f u) → AnswerRead (preprocess.preprocessCall F s f u .answer) r
-  preprocess-reads e = rw (number-is (λ (x : closing.Left). x .answer) (λ a. refl) e) (answer-reads (preprocess.preprocessCall F s f u .answer))
+  pub preprocess-reads : Exported packedAnswer (λ a. values.left a s′ f′ u′) r (preprocess.preprocessCall F s f u) → AnswerRead (preprocess.preprocessCall F s f u .answer) r
+  preprocess-reads e = rw (number-is (λ (x : values.Left). x .answer) (λ a. refl) e) (answer-reads (preprocess.preprocessCall F s f u .answer))
 
-  pub heavy-reads : Exported packedAnswer (λ a. closing.left a s′ f′ u′) r (heavy.heavyCall F s f u) → AnswerRead (heavy.heavyCall F s f u .answer) r
-  heavy-reads e = rw (number-is (λ (x : closing.Left). x .answer) (λ a. refl) e) (answer-reads (heavy.heavyCall F s f u .answer))
+  pub heavy-reads : Exported packedAnswer (λ a. values.left a s′ f′ u′) r (heavy.heavyCall F s f u) → AnswerRead (heavy.heavyCall F s f u .answer) r
+  heavy-reads e = rw (number-is (λ (x : values.Left). x .answer) (λ a. refl) e) (answer-reads (heavy.heavyCall F s f u .answer))
 
   pub probe-one-reads : (i v : ℕ) (t : List ℕ) → Exported packedAnswer (λ a. probing.left a s′ f′ u′) r (probing.probeOneCall F s i v t f u)
       → AnswerRead (probing.probeOneCall F s i v t f u .answer) r

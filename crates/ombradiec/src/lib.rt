@@ -5,6 +5,7 @@ use packing::pack_counted;
 use packing::pack_paired;
 ghost use Rattle.scratch.specs.Lent.{before, after};
 ghost use Rattle.field.specs.Field.{given};
+ghost use Rattle.field.specs.Call.{left};
 ghost use Rattle.closure.specs.Call as closing;
 ghost use Rattle.components.specs.Call as components;
 ghost use Rattle.preprocess.specs.Call as preprocess;
@@ -31,7 +32,7 @@ pub extern "C" fn ombradiec_closure(
     f: &mut [f64],
     u: &mut [u32],
 ) -> u64
-    ensures { λ r. ⌜ Exported packedAnswer (λ a. closing.left a (after start) (after f) (after u)) r (closing.closureCall (given c rows cols q) (before start) (before f) (before u)) ⌝ }
+    ensures { λ r. ⌜ Exported packedAnswer (λ a. left a (after start) (after f) (after u)) r (closing.closureCall (given c rows cols q) (before start) (before f) (before u)) ⌝ }
 {
     pack_answer(closure::closure(c, rows, cols, q, start, f, u))
 }
@@ -47,7 +48,7 @@ pub extern "C" fn ombradiec_components(
     f: &mut [f64],
     u: &mut [u32],
 ) -> u64
-    ensures { λ r. ⌜ Exported packedAnswer (λ a. closing.left a (after start) (after f) (after u)) r (components.componentsCall (given c rows cols q) (before start) (before f) (before u)) ⌝ }
+    ensures { λ r. ⌜ Exported packedAnswer (λ a. left a (after start) (after f) (after u)) r (components.componentsCall (given c rows cols q) (before start) (before f) (before u)) ⌝ }
 {
     pack_answer(components::components(c, rows, cols, q, start, f, u))
 }
@@ -63,7 +64,7 @@ pub extern "C" fn ombradiec_preprocess(
     f: &mut [f64],
     u: &mut [u32],
 ) -> u64
-    ensures { λ r. ⌜ Exported packedAnswer (λ a. closing.left a (after start) (after f) (after u)) r (preprocess.preprocessCall (given c rows cols q) (before start) (before f) (before u)) ⌝ }
+    ensures { λ r. ⌜ Exported packedAnswer (λ a. left a (after start) (after f) (after u)) r (preprocess.preprocessCall (given c rows cols q) (before start) (before f) (before u)) ⌝ }
 {
     pack_answer(preprocess::preprocess(c, rows, cols, q, start, f, u))
 }
@@ -79,7 +80,7 @@ pub extern "C" fn ombradiec_heavy(
     f: &mut [f64],
     u: &mut [u32],
 ) -> u64
-    ensures { λ r. ⌜ Exported packedAnswer (λ a. closing.left a (after start) (after f) (after u)) r (heavy.heavyCall (given c rows cols q) (before start) (before f) (before u)) ⌝ }
+    ensures { λ r. ⌜ Exported packedAnswer (λ a. left a (after start) (after f) (after u)) r (heavy.heavyCall (given c rows cols q) (before start) (before f) (before u)) ⌝ }
 {
     pack_answer(heavy::heavy(c, rows, cols, q, start, f, u))
 }

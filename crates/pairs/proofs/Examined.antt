@@ -12,9 +12,9 @@ use borrow.Author.Tests.{eqb-true, eq-eqb}
 use Rattle.meaning.specs.Kinds.{Pair, pair}
 use Rattle.meaning.specs.Steps.{Extends}
 use Rattle.meaning.proofs.Values.{free-back}
-use Rattle.neighbours.specs.Rows.{isFree}
-use Rattle.pairs.specs.Listing.{freeTo, freeOf, withEach, pairsOf, freePairs, allowed, examined, pairCount}
-use Rattle.pairs.proofs.FreeLaws.{free-below, free-rises}
+use Rattle.meaning.specs.Free.{isFree, freeTo}
+use Rattle.meaning.proofs.Free.{free-at, free-rises}
+use Rattle.pairs.specs.Listing.{freeOf, withEach, pairsOf, freePairs, allowed, examined, pairCount}
 
 -- ---- how many
 
@@ -90,9 +90,9 @@ pub record FreePair (s : List ℕ) (i j : ℕ) : Type 0 where
 free-pair : (s : List ℕ) (a b : ℕ) → a < b → b < length (freeOf s) → {i j : ℕ} → i ≡ getD (freeOf s) a 0 → j ≡ getD (freeOf s) b 0 → FreePair s i j
 free-pair s a b l h ei ej = rw (ei, ej) record {
   order = free-rises s (length s) a b l h;
-  below = free-below s (length s) b h .0;
-  first = eqb-true (getD s (getD (freeOf s) a 0) 0) 2 (free-below s (length s) a (omega arith) .1);
-  second = eqb-true (getD s (getD (freeOf s) b 0) 0) 2 (free-below s (length s) b h .1);
+  below = free-at s (length s) b h .0;
+  first = free-at s (length s) a (omega arith) .1;
+  second = free-at s (length s) b h .1;
 }
 
 pub examined-free : (limit : ℕ) (s : List ℕ) {i j : ℕ} → List·Memᴰ (pair i j) (examined limit s) → FreePair s i j

@@ -1,5 +1,5 @@
--- The list of free variables: where the loop that makes it stands, and what stands in it. Assumes nothing.
-use Prim.Native.Nat.{ℕ, zero, suc, _+_, _<_, _≤_}
+-- Where the loop that lists the free variables stands. Assumes nothing.
+use Prim.Native.Nat.{ℕ, _+_, _<_, _≤_}
 use mathlib.Core.Path.{_≡_, refl, sym, ap, _∙_}
 use mathlib.Core.Logic.{_⊎_, inl, inr}
 use mathlib.Core.Bool.{Bool, true, false, cond}
@@ -7,60 +7,13 @@ use mathlib.Core.List.{List, [], _∷_, _++_, append-nil}
 use native.Mathlib.Nat.{eq-or-lt-of-le}
 use native.Mathlib.Numerals.{add-one}
 use native.Mathlib.Omega.{arith}
+use borrow.Author.Tests.{eq-eqb}
 use lib.ListN.{length, getD, set, length-set, length-append, List·getD-append}
 use lib.Seq.{getD-set-same, getD-set-other, take-set-le, getD-append-seam}
-use Rattle.neighbours.specs.Rows.{isFree}
-use Rattle.pairs.specs.Listing.{freeTo, freeOf}
+use Rattle.meaning.specs.Free.{isFree, freeTo}
+use Rattle.meaning.proofs.Free.{free-few, free-at}
+use Rattle.pairs.specs.Listing.{freeOf}
 use Rattle.pairs.specs.Walk.{Freed}
-
--- ---- what stands in it
-
-pub free-few : (s : List ℕ) (n : ℕ) → length (freeTo s n) ≤ n
-unfolding freeTo
-free-few s zero = omega arith
-free-few s (suc n) = omega (arith, length-append (freeTo s n) (cond (isFree s n) (n ∷ []) []), one (isFree s n), free-few s n)
-  where
-    one : (b : Bool) → length (cond b (n ∷ []) []) ≤ 1
-    one true = omega arith
-    one false = omega arith
-
--- each is below n and free
-pub free-below : (s : List ℕ) (n a : ℕ) → a < length (freeTo s n) → (getD (freeTo s n) a 0 < n) × (isFree s (getD (freeTo s n) a 0) ≡ true)
-unfolding freeTo
-free-below s zero a h = absurd (omega arith)
-free-below s (suc n) a h = go (isFree s n) refl (free-below s n a)
-  where
-    go : (b : Bool) → isFree s n ≡ b → (a < length (freeTo s n) → (getD (freeTo s n) a 0 < n) × (isFree s (getD (freeTo s n) a 0) ≡ true))
-        → (getD (freeTo s n ++ cond (isFree s n) (n ∷ []) []) a 0 < suc n) × (isFree s (getD (freeTo s n ++ cond (isFree s n) (n ∷ []) []) a 0) ≡ true)
-    go true e ih = rw e (at (eq-or-lt-of-le (within (length-append (freeTo s n) (n ∷ [])) (rw e at h))))
-      where
-        within : length (freeTo s n ++ n ∷ []) ≡ length (freeTo s n) + 1 → a < length (freeTo s n ++ n ∷ []) → a ≤ length (freeTo s n)
-        within l q = omega arith
-
-        at : (a ≡ length (freeTo s n)) ⊎ (a < length (freeTo s n)) → (getD (freeTo s n ++ n ∷ []) a 0 < suc n) × (isFree s (getD (freeTo s n ++ n ∷ []) a 0) ≡ true)
-        at (inl z) = rw (z, getD-append-seam (freeTo s n) n [] 0) (omega arith, e)
-        at (inr z) = rw (List·getD-append (freeTo s n) (n ∷ []) 0 a z) (let r = ih z in (omega (arith, r .0), r .1))
-    go false e ih = rw (e, append-nil (freeTo s n)) (let r = ih (rw (e, append-nil (freeTo s n)) at h) in (omega (arith, r .0), r .1))
-
--- they rise
-pub free-rises : (s : List ℕ) (n a b : ℕ) → a < b → b < length (freeTo s n) → getD (freeTo s n) a 0 < getD (freeTo s n) b 0
-unfolding freeTo
-free-rises s zero a b l h = absurd (omega arith)
-free-rises s (suc n) a b l h = go (isFree s n) refl (free-rises s n a b l)
-  where
-    go : (c : Bool) → isFree s n ≡ c → (b < length (freeTo s n) → getD (freeTo s n) a 0 < getD (freeTo s n) b 0)
-        → getD (freeTo s n ++ cond (isFree s n) (n ∷ []) []) a 0 < getD (freeTo s n ++ cond (isFree s n) (n ∷ []) []) b 0
-    go true e ih = rw e (at (eq-or-lt-of-le (within (length-append (freeTo s n) (n ∷ [])) (rw e at h))))
-      where
-        within : length (freeTo s n ++ n ∷ []) ≡ length (freeTo s n) + 1 → b < length (freeTo s n ++ n ∷ []) → b ≤ length (freeTo s n)
-        within l q = omega arith
-
-        at : (b ≡ length (freeTo s n)) ⊎ (b < length (freeTo s n)) → getD (freeTo s n ++ n ∷ []) a 0 < getD (freeTo s n ++ n ∷ []) b 0
-        at (inl z) = rw (z, getD-append-seam (freeTo s n) n [] 0, List·getD-append (freeTo s n) (n ∷ []) 0 a (omega arith)) (free-below s n a (omega arith) .0)
-        at (inr z) = rw (List·getD-append (freeTo s n) (n ∷ []) 0 a (omega arith), List·getD-append (freeTo s n) (n ∷ []) 0 b z) (ih z)
-    go false e ih = rw (e, append-nil (freeTo s n)) (ih (rw (e, append-nil (freeTo s n)) at h))
-
--- ---- the loop
 
 pub freed-start : (s : List ℕ) (base : ℕ) (u : List ℕ) → Freed s base 0 u u 0
 unfolding freeTo
@@ -118,4 +71,4 @@ module _ {s : List ℕ} {base k : ℕ} {u₀ u : List ℕ} (E : Freed s base (le
   free-is = e ∙ E .at a h
 
   pub free-in : (i < length s) × (isFree s i ≡ true)
-  free-in = rw free-is (free-below s (length s) a (omega (arith, E .many)))
+  free-in = let z = free-at s (length s) a (omega (arith, E .many)) in rw free-is (z .0, eq-eqb _ 2 (z .1))

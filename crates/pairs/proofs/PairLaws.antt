@@ -7,13 +7,14 @@ use native.Mathlib.Omega.{arith}
 use lib.ListN.{length, getD, take, drop, length-drop}
 use lib.Seq.{take-all}
 use lib.Ieee.{Float, nan}
+use Rattle.meaning.specs.Free.{isFree}
 use Rattle.field.specs.Field.{Field, variables}
 use Rattle.margins.specs.declared.bounds.Bounds.{Bounds}
 use Rattle.margins.specs.Model.{startFrom, boundsTo, mergedWeight, mass, tolerance, toleranceFrom, signsOf, pairSigns}
 use Rattle.margins.specs.Merge.{rowsOf, Fit, Rises, Looked, Listed, walkAll}
 use Rattle.margins.proofs.Search.{looked-weight}
 use Rattle.margins.proofs.Merged.{walk-is}
-use Rattle.neighbours.specs.Rows.{keysAt, weightsAt, endOf, isFree, size}
+use Rattle.neighbours.specs.Rows.{keysAt, weightsAt, endOf, size}
 use Rattle.pairs.specs.Walk.{Prepared}
 
 -- the part of a list from b on, as the code takes it

@@ -11,11 +11,11 @@ use lib.Dec.{ltb}
 use lib.ListN.{length, getD, take, drop, length-append, length-take, length-drop, drop-of-length-le}
 use lib.Seq.{take-suc, drop-cons, take-all}
 use Rattle.meaning.specs.Kinds.{Pair, pair}
+use Rattle.meaning.proofs.Free.{free-few}
 use Rattle.field.specs.Field.{Field}
 use Rattle.pairs.specs.declared.listing.Cursor.{Cursor}
 use Rattle.pairs.specs.Listing.{freeOf, withEach, pairsOf, freePairs, allowed, examined, pairTriples, foundIn, found, Appended, written}
 use Rattle.pairs.specs.Walk.{nextOf, isLeft, pairsFrom, Walking, Walked}
-use Rattle.pairs.proofs.FreeLaws.{free-few}
 use Rattle.pairs.proofs.ListLaws.{append-written, written-none, few-found, found-more}
 
 -- ---- the pairs from a cursor on

@@ -1,22 +1,17 @@
 -- The pairs that are examined, and the constraints that they give (document 01, "Pair dominance"). Assumes nothing.
-use Prim.Native.Nat.{ℕ, zero, suc, _+_, _*_, _-_, _/_, min}
+use Prim.Native.Nat.{ℕ, suc, _+_, _*_, _-_, _/_, min}
 use mathlib.Core.Bool.{cond}
 use mathlib.Core.List.{List, [], _∷_, _++_, map}
 use mathlib.Core.Path.{_≡_}
 use lib.Dec.{ltb}
 use lib.ListN.{length, take}
 use Rattle.meaning.specs.Kinds.{Kind, at-least-one, exactly-one, no-more-than-one, greater-than, less-than, equal, Pair, pair}
+use Rattle.meaning.specs.Free.{freeTo}
 use Rattle.field.specs.Field.{Field}
 use Rattle.margins.specs.Model.{pairKinds}
 use Rattle.constraints.specs.Triple.{Triple, triple, room, filled, stored}
-use Rattle.neighbours.specs.Rows.{isFree}
 
 -- ---- the pairs
-
--- the free variables below n, rising
-unfoldable pub freeTo : List ℕ → ℕ → List ℕ
-freeTo s zero = []
-freeTo s (suc n) = freeTo s n ++ cond (isFree s n) (n ∷ []) []
 
 abbrev pub freeOf : List ℕ → List ℕ
 freeOf s = freeTo s (length s)

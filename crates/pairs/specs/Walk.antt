@@ -8,13 +8,14 @@ use lib.Dec.{ltb}
 use lib.ListN.{length, getD, take, drop}
 use lib.Ieee.{Float}
 use Rattle.meaning.specs.Kinds.{Pair}
+use Rattle.meaning.specs.Free.{isFree, freeTo}
 use Rattle.field.specs.Field.{Field, variables, entries}
 use Rattle.margins.specs.Merge.{Listed}
 use Rattle.pairs.specs.declared.listing.Cursor.{Cursor}
 use Rattle.pairs.specs.declared.listing.Tally.{Tally}
 use Rattle.neighbours.specs.Parts.{Parted}
-use Rattle.neighbours.specs.Rows.{keysAt, weightsAt, endOf, isFree, size, Laid}
-use Rattle.pairs.specs.Listing.{freeTo, freeOf, withEach, pairsOf, freePairs, allowed, examined, foundIn, found, written}
+use Rattle.neighbours.specs.Rows.{keysAt, weightsAt, endOf, size, Laid}
+use Rattle.pairs.specs.Listing.{freeOf, withEach, pairsOf, freePairs, examined, foundIn, found, written}
 
 -- what the pairs are worked from: linear parts, masses, and merged rows
 pub record Prepared (F : Field) (s : List ℕ) (f : List Float) (u : List ℕ) : Type 0 where

@@ -16,11 +16,11 @@ ghost use lib.Dec.{eqb};
 ghost use lib.ListN.{length};
 ghost use Rattle.meaning.specs.Kinds.{pair};
 ghost use Rattle.scratch.specs.Lent.{before, after};
+ghost use Rattle.meaning.specs.Free.{isFree};
 ghost use Rattle.field.specs.Field.{given, lent, variables};
 ghost use Rattle.margins.specs.Model.{sumKinds, diffKinds, signsOf, pairSigns, tolerance as toleranceOf};
 ghost use Rattle.constraints.specs.Codes.{codeOf};
 ghost use Rattle.constraints.specs.Triple.{triple};
-ghost use Rattle.neighbours.specs.Rows.{isFree};
 ghost use Rattle.pairs.specs.Listing.{allowed, tripleFor, pairTriples, Appended};
 ghost use Rattle.pairs.specs.Walk.{Prepared, freeAt, Freed, nextOf, isLeft, Walked};
 

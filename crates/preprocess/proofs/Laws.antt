@@ -1,25 +1,14 @@
--- What each stage leaves is what the next asks, and from the tests to the answer. Assumes nothing.
+-- What each stage leaves is what the next asks. Assumes nothing.
 use Prim.Native.Nat.{ℕ}
 use mathlib.Core.Path.{_≡_, _∙_}
 use mathlib.Core.List.{List}
 use native.Mathlib.Omega.{arith}
-use lib.ListN.{length, replicate}
-use lib.Ieee.{Float}
-use Rattle.weights.specs.Worth.{zero64}
-use Rattle.field.specs.declared.Answer.the-variants.{Done, Refused}
-use Rattle.field.specs.declared.Checked.the-variants.{Passed, Failed}
-use Rattle.field.specs.declared.Grade.{Grade}
-use Rattle.field.specs.declared.Refusal.{Refusal}
+use lib.ListN.{length}
 use Rattle.field.specs.Field.{Field}
-use Rattle.field.specs.Table.{tested}
-use Rattle.field.specs.Tests.{readyTests, Ready}
-use Rattle.field.specs.Grade.{gradeOf}
-use Rattle.run.specs.Run.{closure}
+use Rattle.field.specs.Tests.{Ready}
 use Rattle.run.proofs.Theorems.{closure-extends}
-use Rattle.closure.specs.Call.{left}
 use Rattle.components.specs.Stages.{Solvable, Solved}
 use Rattle.preprocess.specs.Working.{withNoEffect, preprocess, Closes}
-use Rattle.preprocess.specs.Call.{leaves, preprocessCall}
 use Rattle.preprocess.proofs.Idle.{idle-start}
 
 module _ {F : Field} {s t : List ℕ} {floats words : ℕ} (R : Ready F s floats words) (fixed : t ≡ withNoEffect F s) where
@@ -49,14 +38,3 @@ module _ {F : Field} {s t : List ℕ} {floats words : ℕ} (R : Ready F s floats
     pub preprocessed : {t″ u″ : List ℕ} → Solved F t′ u′ t″ u″ → t″ ≡ preprocess F s
     unfolding preprocess
     preprocessed E = E .values ∙ rw (D .values, fixed)
-
-module _ (F : Field) (s : List ℕ) (f : List Float) (u : List ℕ) where
-  pub refused-call : {r : Refusal} → tested (readyTests F s (length f) (length u)) ≡ Failed r → left (Refused r) s f u ≡ preprocessCall F s f u
-  unfolding preprocessCall leaves
-  refused-call e = rw e
-
-  pub done-call : {g : Grade} {s′ : List ℕ} {f′ : List Float} {u′ : List ℕ} (k l : ℕ) → tested (readyTests F s (length f) (length u)) ≡ Passed
-      → g ≡ gradeOf F → s′ ≡ preprocess F s → f′ ≡ replicate k zero64 → k ≡ length f → u′ ≡ replicate l 0 → l ≡ length u
-      → left (Done g) s′ f′ u′ ≡ preprocessCall F s f u
-  unfolding preprocessCall leaves
-  done-call k l e eg es ef lf eu lu = rw (e, eg, es, ef, lf, eu, lu)

@@ -36,7 +36,7 @@ use Rattle.field.proofs.Exact.{exact-means}
 use Rattle.rows.proofs.Upto.{getD-upTo}
 use Rattle.run.specs.Run.{closure}
 use Rattle.run.proofs.Theorems as run
-use Rattle.probe.specs.Call.{probeTests, probeTable, Probable, newAt, newOnly, probeOne, Gives, Left, left, filled, leaves, probeOneCall}
+use Rattle.probe.specs.Call.{probeTests, probeTable, Probable, newAt, newOnly, probeOne, Gives, Left, left, answered, leaves, probeOneCall}
 use Rattle.probe.proofs.Laws.{probe-passes}
 
 -- any two results that the promise permits are equal
@@ -83,8 +83,8 @@ module _ (F : Field) (s : List ℕ) (i v : ℕ) (t : List ℕ) (f : List Float) 
 
   -- ---- DEMAND 1
 
-  room-last : (r : Refusal) (b : Bool) → (filled b F s i v t f u .answer ≡ Refused r) ↔ (tested (test Room b ∷ []) ≡ Failed r)
-  unfolding filled tested
+  room-last : (r : Refusal) (b : Bool) → (answered b F s i v t f u .answer ≡ Refused r) ↔ (tested (test Room b ∷ []) ≡ Failed r)
+  unfolding answered tested
   room-last r true = ((λ e. not-done e), λ e. let z : _≡_ {A = ℕ} 0 1 = cc in absurd (omega arith))
   room-last r false = ((λ e. ap Failed (same-refusal e)), λ e. ap Refused (same-failed e))
 
@@ -102,10 +102,10 @@ module _ (F : Field) (s : List ℕ) (i v : ℕ) (t : List ℕ) (f : List Float) 
       ((λ e. w .0 (p .0 e)), λ h. p .1 (w .1 h))
 
   early : (r : Refusal) (k : Checked) → leaves k F s i v t f u .answer ≡ Refused r → r ≢ Room → leaves k F s i v t f u ≡ left (Refused r) t f u
-  unfolding leaves filled
+  unfolding leaves answered
   early r Passed e n = go fits e
     where
-      go : (b : Bool) → filled b F s i v t f u .answer ≡ Refused r → filled b F s i v t f u ≡ left (Refused r) t f u
+      go : (b : Bool) → answered b F s i v t f u .answer ≡ Refused r → answered b F s i v t f u ≡ left (Refused r) t f u
       go true e = not-done e
       go false e = absurd (n (sym (same-refusal e)))
   early r (Failed k) e n = rw (same-refusal e)
@@ -116,11 +116,11 @@ module _ (F : Field) (s : List ℕ) (i v : ℕ) (t : List ℕ) (f : List Float) 
   refused-leaves r e n = early r checked e n
 
   late : (k : Checked) → checked ≡ k → leaves k F s i v t f u .answer ≡ Refused Room → leaves k F s i v t f u ≡ left (Refused Room) (cleared 0 t) (cleared zero64 f) (cleared 0 u)
-  unfolding leaves filled
+  unfolding leaves answered
   late Passed c e = go fits e
     where
-      go : (b : Bool) → filled b F s i v t f u .answer ≡ Refused Room
-          → filled b F s i v t f u ≡ left (Refused Room) (cleared 0 t) (cleared zero64 f) (cleared 0 u)
+      go : (b : Bool) → answered b F s i v t f u .answer ≡ Refused Room
+          → answered b F s i v t f u ≡ left (Refused Room) (cleared 0 t) (cleared zero64 f) (cleared 0 u)
       go true e = not-done e
       go false e = refl
   late (Failed k) c e =
@@ -133,17 +133,17 @@ module _ (F : Field) (s : List ℕ) (i v : ℕ) (t : List ℕ) (f : List Float) 
   room-leaves e = late checked refl e
 
   done : (g : Grade) (k : Checked) → leaves k F s i v t f u .answer ≡ Done g → (k ≡ Passed) × (length t ≡ variables F)
-  unfolding leaves filled
+  unfolding leaves answered
   done g Passed e = (refl, go fits refl e)
     where
-      go : (b : Bool) → fits ≡ b → filled b F s i v t f u .answer ≡ Done g → length t ≡ variables F
+      go : (b : Bool) → fits ≡ b → answered b F s i v t f u .answer ≡ Done g → length t ≡ variables F
       go true p e = eqb-true _ _ p
       go false p e = not-done (sym e)
   done g (Failed k) e = not-done (sym e)
 
   -- It is done exactly if the field, the start values, the variable, the value, both scratches and the list are as the table asks, and then gives the grade.
   pub done-when : (probeOneCall F s i v t f u .answer ≡ Done (gradeOf F)) ↔ (Probable F s i v (length f) (length u) × (length t ≡ variables F))
-  unfolding probeOneCall leaves filled
+  unfolding probeOneCall leaves answered
   done-when =
       let p = probe-passes F s i v (length f) (length u) in
       ((λ e. let d = done (gradeOf F) checked e in (p .0 (d .0), d .1)), λ h. rw (p .1 (h .0), eq-eqb _ _ (h .1)))
@@ -158,7 +158,7 @@ module _ (F : Field) (s : List ℕ) (i v : ℕ) (t : List ℕ) (f : List Float) 
 
     -- Then the probe is in the list, and both scratches are all zeros.
     pub done-leaves : probeOneCall F s i v t f u ≡ left (Done (gradeOf F)) (probeOne F s i v) (cleared zero64 f) (cleared 0 u)
-    unfolding probeOneCall leaves filled
+    unfolding probeOneCall leaves answered
     done-leaves = rw (passed .0, eq-eqb _ _ (passed .1))
 
     graded : gradeOf F ≡ g

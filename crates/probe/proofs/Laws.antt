@@ -25,7 +25,7 @@ use Rattle.field.proofs.Table.{pass-is, last-is, group-is}
 use Rattle.field.proofs.Means.{standard-passes, floats-mean, words-mean}
 use Rattle.rows.specs.Stored.{upTo}
 use Rattle.rows.proofs.Upto.{length-upTo, getD-upTo}
-use Rattle.probe.specs.Call.{mayProbe, probeTests, Probable, probeOne, left, filled, leaves, probeOneCall}
+use Rattle.probe.specs.Call.{mayProbe, probeTests, Probable, probeOne, left, answered, leaves, probeOneCall}
 
 -- ---- one value a turn
 
@@ -93,9 +93,9 @@ module _ (F : Field) (s : List ℕ) (i v : ℕ) (t : List ℕ) (f : List Float) 
   module _ {t′ : List ℕ} {f′ : List Float} {u′ : List ℕ} (k l : ℕ) (e : tested (probeTests F s i v (length f) (length u)) ≡ Passed)
       (ef : f′ ≡ replicate k zero64) (lf : k ≡ length f) (eu : u′ ≡ replicate l 0) (lu : l ≡ length u) where
     pub room-call : length t ≢ variables F → t′ ≡ replicate (length t) 0 → left (Refused Room) t′ f′ u′ ≡ probeOneCall F s i v t f u
-    unfolding probeOneCall leaves filled
+    unfolding probeOneCall leaves answered
     room-call n et = rw (e, ne-eqb _ _ n, et, ef, lf, eu, lu)
 
     pub done-call : {g : Grade} → length t ≡ variables F → g ≡ gradeOf F → t′ ≡ probeOne F s i v → left (Done g) t′ f′ u′ ≡ probeOneCall F s i v t f u
-    unfolding probeOneCall leaves filled
+    unfolding probeOneCall leaves answered
     done-call n eg et = rw (e, eq-eqb _ _ n, eg, et, ef, lf, eu, lu)

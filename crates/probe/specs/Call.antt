@@ -9,6 +9,7 @@ use lib.Ieee.{Float}
 use Rattle.weights.specs.Worth.{zero64}
 use Rattle.scratch.specs.Cleared.{cleared}
 use Rattle.meaning.specs.Field as meaning
+use Rattle.meaning.specs.Free.{isFree}
 use Rattle.meaning.specs.Probe.{Probed}
 use Rattle.field.specs.declared.Answer.{Answer}
 use Rattle.field.specs.declared.Answer.the-variants.{Done, Refused}
@@ -26,7 +27,7 @@ use Rattle.run.specs.Run.{closure}
 
 -- 7: "probed variable not below n or not free, or probed value above 1"
 unfoldable pub mayProbe : ℕ → List ℕ → ℕ → ℕ → Bool
-mayProbe n s i v = ltb i n && (eqb (getD s i 0) 2 && leb v 1)
+mayProbe n s i v = ltb i n && (isFree s i && leb v 1)
 
 -- 1 to 8
 unfoldable pub probeTests : Field → List ℕ → ℕ → ℕ → ℕ → ℕ → List Test
@@ -81,13 +82,13 @@ abbrev pub left : Answer → List ℕ → List Float → List ℕ → Left
 left r t f u = record { answer = r; values = t; floats = f; words = u }
 
 -- "9 is given exactly if .. the probe value list is not n long; then each answer list is all zeros"
-unfoldable pub filled : Bool → Field → List ℕ → ℕ → ℕ → List ℕ → List Float → List ℕ → Left
-filled true F s i v t f u = left (Done (gradeOf F)) (probeOne F s i v) (cleared zero64 f) (cleared 0 u)
-filled false F s i v t f u = left (Refused Room) (cleared 0 t) (cleared zero64 f) (cleared 0 u)
+unfoldable pub answered : Bool → Field → List ℕ → ℕ → ℕ → List ℕ → List Float → List ℕ → Left
+answered true F s i v t f u = left (Done (gradeOf F)) (probeOne F s i v) (cleared zero64 f) (cleared 0 u)
+answered false F s i v t f u = left (Refused Room) (cleared 0 t) (cleared zero64 f) (cleared 0 u)
 
 -- "After passing 8, scratch ends as all zeros"; "1 to 8 change nothing lent"
 unfoldable pub leaves : Checked → Field → List ℕ → ℕ → ℕ → List ℕ → List Float → List ℕ → Left
-leaves Passed F s i v t f u = filled (eqb (length t) (variables F)) F s i v t f u
+leaves Passed F s i v t f u = answered (eqb (length t) (variables F)) F s i v t f u
 leaves (Failed r) F s i v t f u = left (Refused r) t f u
 
 -- tests 1 to 8, then 9, then the probe of i at v; t is the list that the values go into

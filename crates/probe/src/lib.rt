@@ -1,6 +1,6 @@
 // The public call: a single probe.
 mod testing;
-mod values;
+pub mod values;
 
 use crate::testing::ready_to_probe;
 use crate::values::assume;

@@ -6,7 +6,7 @@ ghost use Rattle.scratch.specs.Lent.{before, after};
 ghost use Rattle.probe.specs.Call.{newAt, newOnly};
 
 // The start values go into the values.
-fn copy(start: &[u8], values: &mut [u8])
+pub fn copy(start: &[u8], values: &mut [u8])
     requires { ⌜ length (now values) ≡ length (now start) ⌝ }
     ensures { λ _. ⌜ after values ≡ before start ⌝ }
 {

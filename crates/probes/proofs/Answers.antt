@@ -23,8 +23,8 @@ use Rattle.field.specs.Tests.{readyTests, Ready}
 use Rattle.field.specs.Grade.{gradeOf}
 use Rattle.field.proofs.Means.{ready-passes}
 use Rattle.twin.specs.Twin.{valuesAt}
-use Rattle.probes.specs.Call.{Left, left, allConstraints, fits, given, leaves, candidatesCall}
-use Rattle.probes.specs.Standing.{answered}
+use Rattle.probes.specs.Call.{Left, left, allConstraints, fits, answered, leaves, candidatesCall}
+use Rattle.probes.specs.Standing.{settled}
 use Rattle.probes.proofs.Standing.{AllHeld}
 
 -- ---- past the tests
@@ -32,28 +32,28 @@ use Rattle.probes.proofs.Standing.{AllHeld}
 module _ (F : Field) (s cands t k : List ℕ) (f : List Float) (u : List ℕ) (long : length t ≡ variables F) where
   pub done-answer : (k₁ u₁ : List ℕ) {t′ u′ : List ℕ} {f′ : List Float} {held : ℕ} {g : Grade} (a b d : ℕ) → AllHeld F s cands k held k₁ u₁ → g ≡ gradeOf F
       → t′ ≡ region (valuesAt F) a u₁ → a ≡ length t → f′ ≡ replicate b zero64 → b ≡ length f → u′ ≡ replicate d 0 → d ≡ length u
-      → left (Counts g held) t′ k₁ f′ u′ ≡ answered F s cands t k f u
-  unfolding fits given
+      → left (Counts g held) t′ k₁ f′ u′ ≡ settled F s cands t k f u
+  unfolding fits answered
   done-answer k₁ u₁ a b d A eg et lt ef lf eu lu =
       rw (eq-eqb _ _ long, le-leb _ _ (A .fits), eg, A .count, A .list-is, et, lt, long, A .values-are, ef, lf, eu, lu) refl
 
   pub full-answer : {x : Left} (a e b d : ℕ) → room k < length (allConstraints F s cands)
       → x ≡ left (Refuses Room) (replicate a 0) (replicate e 0) (replicate b zero64) (replicate d 0) → a ≡ length t → e ≡ length k → b ≡ length f → d ≡ length u
-      → x ≡ answered F s cands t k f u
-  unfolding fits given
+      → x ≡ settled F s cands t k f u
+  unfolding fits answered
   full-answer a e b d more is lt lk lf lu = rw (eq-eqb _ _ long, lt-leb _ _ more, is, lt, lk, lf, lu) refl
 
--- what is answered depends on the lengths of what was lent alone
-given-same : (b : Bool) (F : Field) (s cands k : List ℕ) (t t′ : List ℕ) (f f′ : List Float) (u u′ : List ℕ)
-    → length t ≡ length t′ → length f ≡ length f′ → length u ≡ length u′ → given b F s cands t k f u ≡ given b F s cands t′ k f′ u′
-unfolding given
-given-same true F s cands k t t′ f f′ u u′ lt lf lu = rw (lf, lu) refl
-given-same false F s cands k t t′ f f′ u u′ lt lf lu = rw (lt, lf, lu) refl
+-- what is settled depends on the lengths of what was lent alone
+answered-same : (b : Bool) (F : Field) (s cands k : List ℕ) (t t′ : List ℕ) (f f′ : List Float) (u u′ : List ℕ)
+    → length t ≡ length t′ → length f ≡ length f′ → length u ≡ length u′ → answered b F s cands t k f u ≡ answered b F s cands t′ k f′ u′
+unfolding answered
+answered-same true F s cands k t t′ f f′ u u′ lt lf lu = rw (lf, lu) refl
+answered-same false F s cands k t t′ f f′ u u′ lt lf lu = rw (lt, lf, lu) refl
 
-pub answered-as : (F : Field) (s k cands cands′ t t′ : List ℕ) (f f′ : List Float) (u u′ : List ℕ) {x : Left} → x ≡ answered F s cands t k f u
-    → cands ≡ cands′ → length t ≡ length t′ → length f ≡ length f′ → length u ≡ length u′ → x ≡ answered F s cands′ t′ k f′ u′
+pub settled-as : (F : Field) (s k cands cands′ t t′ : List ℕ) (f f′ : List Float) (u u′ : List ℕ) {x : Left} → x ≡ settled F s cands t k f u
+    → cands ≡ cands′ → length t ≡ length t′ → length f ≡ length f′ → length u ≡ length u′ → x ≡ settled F s cands′ t′ k f′ u′
 unfolding fits
-answered-as F s k cands cands′ t t′ f f′ u u′ e ec lt lf lu = e ∙ rw (ec, lt) (given-same (fits F s cands′ t′ k) F s cands′ k t t′ f f′ u u′ lt lf lu)
+settled-as F s k cands cands′ t t′ f f′ u u′ e ec lt lf lu = e ∙ rw (ec, lt) (answered-same (fits F s cands′ t′ k) F s cands′ k t t′ f f′ u u′ lt lf lu)
 
 -- ---- the tests
 
@@ -67,9 +67,9 @@ module _ (F : Field) (s cands t k : List ℕ) (f : List Float) (u : List ℕ) {x
 
   module _ (passed : x ≡ Passed) {y : Left} where
     pub room-call : length t ≢ variables F → y ≡ left (Refuses Room) (cleared 0 t) (cleared 0 k) (cleared zero64 f) (cleared 0 u) → y ≡ candidatesCall F s cands t k f u
-    unfolding candidatesCall leaves fits given
+    unfolding candidatesCall leaves fits answered
     room-call n e = rw (sym is ∙ passed, ne-eqb _ _ n, e) refl
 
-    pub answered-call : y ≡ answered F s cands t k f u → y ≡ candidatesCall F s cands t k f u
+    pub settled-call : y ≡ settled F s cands t k f u → y ≡ candidatesCall F s cands t k f u
     unfolding candidatesCall leaves
-    answered-call e = rw (sym is ∙ passed, e) refl
+    settled-call e = rw (sym is ∙ passed, e) refl

@@ -1,6 +1,6 @@
 -- Demands 2 and 3 for the probe calls, over their promises alone: what an answer of the grade exact says. Assumes nothing.
 use Prim.Native.Nat.{ℕ, _<_}
-use mathlib.Core.Path.{_≡_, sym, ap, _∙_}
+use mathlib.Core.Path.{_≡_, refl, sym, ap, _∙_}
 use mathlib.Core.Logic.{_↔_}
 use mathlib.Core.List.{List, List·Memᴰ}
 use native.Mathlib.Omega.{arith}
@@ -9,6 +9,7 @@ use lib.Ieee.{Float}
 use Rattle.meaning.specs.Field as meaning
 use Rattle.meaning.specs.Kinds.{Meets}
 use Rattle.meaning.proofs.Values.{inside}
+use Rattle.meaning.specs.Free.{freeTo}
 use Rattle.constraints.specs.Triple.{Triple, triples, constraintOf}
 use Rattle.constraints.specs.Sorted.{Rising}
 use Rattle.field.specs.declared.Counted.the-variants.{Counts}
@@ -16,9 +17,12 @@ use Rattle.field.specs.declared.Grade.the-variants.{Exact}
 use Rattle.field.specs.Field.{Field, variables, Shaped, StartFor}
 use Rattle.field.specs.Grade.{halves, ExactIn}
 use Rattle.field.specs.Reading.{wholeOf}
+use Rattle.field.specs.Tests.{Finite}
 use Rattle.field.proofs.Exact.{exact-means}
 use Rattle.ranking.specs.Ranking.{ranks}
-use Rattle.probes.specs.Call.{freeTo, allConstraints, allValues, Left, candidatesCall, probeCall, probeLimitedCall}
+use Rattle.ranking.specs.EdgeMass.{RankedByMass}
+use Rattle.ranking.proofs.ExactMass.{ranks-exact}
+use Rattle.probes.specs.Call.{allConstraints, allValues, Left, candidatesCall, probeCall, probeLimitedCall}
 use Rattle.probes.specs.Rule.{FreeCandidates, Given, GivesValue, LastGives, NoneGives, GreatestGives, NoFreeGives}
 use Rattle.probes.proofs.Gathered.{list-rising}
 use Rattle.probes.proofs.Exact as exact
@@ -40,6 +44,9 @@ module _ (F : Field) (s cands t k : List ℕ) (f : List Float) (u : List ℕ) (f
 
   is-exact : ExactIn halves F
   is-exact = exact-means F (shaped .rows-long) .0 (sym (said .graded))
+
+  finite-weights : Finite F
+  finite-weights = said .ready .sound .finite-weights
 
   start : StartFor (variables F) s
   start = said .ready .sound .start
@@ -164,6 +171,12 @@ module _ (F : Field) (s : List ℕ) (limit : ℕ) (t k : List ℕ) (f : List Flo
 
   chosen-free : FreeCandidates s chosen
   chosen-free = limited-free F s limit
+
+  -- The candidates are the free variables by falling edge mass over whole numbers, then rising index.
+  pub limited-by-mass : RankedByMass (wholeOf halves F) s (ranks F s)
+  unfolding probeLimitedCall
+  limited-by-mass =
+      ranks-exact (shaped F s chosen t k f u chosen-free e) (finite-weights F s chosen t k f u chosen-free e) (is-exact F s chosen t k f u chosen-free e) s (ranks F s) .0 refl
 
   -- DEMAND 2. A triple is in the list exactly if the probes of one of the first candidates give it over whole numbers; the list is sorted, without repeats.
   pub limited-list-exact : (x : Triple) → List·Memᴰ x limitedList ↔ Given (wholeOf halves F) s (λ i. List·Memᴰ i (take limit (ranks F s))) x

@@ -1,37 +1,27 @@
 -- The candidates of both calls are free; those of the full call are all free variables, rising. Assumes nothing.
 use Prim.Native.Nat.{ℕ, zero, suc, _<_, _≤_}
-use mathlib.Core.Path.{_≡_, refl, sym, ap, _∙_, subst}
+use mathlib.Core.Path.{_≡_, sym, ap, _∙_, subst}
 use mathlib.Core.Logic.{_⊎_, inl, inr, ⊎-elim, _↔_}
-use mathlib.Core.Bool.{Bool, true, false, cond}
-use mathlib.Core.List.{List, [], _∷_, _++_, List·Memᴰ, List·Memᴰ·head, List·Memᴰ·tail, List·Memᴰ·not-nil, List·Memᴰ·cases-cons, List·Memᴰ·append-cases}
-use mathlib.Core.List.{List·Memᴰ·eq-of-singleton, Memᴰ·append-left, Memᴰ·append-right}
+use mathlib.Core.Bool.{cond}
+use mathlib.Core.List.{List, [], _∷_, _++_, List·Memᴰ, List·Memᴰ·head, List·Memᴰ·tail, List·Memᴰ·not-nil, List·Memᴰ·cases-cons}
+use mathlib.Core.List.{Memᴰ·append-left, Memᴰ·append-right}
 use native.Mathlib.Omega.{arith}
 use native.Mathlib.Decide.{ℕ-discrete, decLt}
-use borrow.Author.Tests.{eq-eqb, eqb-true}
-use lib.Dec.{eqb}
-use lib.ListN.{length, getD, take, length-append, List·getD-append}
-use lib.Seq.{getD-at}
+use borrow.Author.Tests.{eq-eqb}
+use lib.ListN.{length, getD, take}
+use Rattle.meaning.specs.Free.{isFree, freeTo}
+use Rattle.meaning.proofs.Free.{free-at, free-rises}
 use Rattle.meaning.proofs.Values.{below-or-at, inside}
 use Rattle.constraints.specs.Triple.{Triple}
-use Rattle.field.specs.Field.{Field, variables}
-use Rattle.ranking.specs.Ranking.{freeIn, ahead, massOf, freeBelow, ranks}
-use Rattle.ranking.proofs.Ordered.{Every, every-append, ordered-every}
-use Rattle.probes.specs.Call.{freeTo, allConstraints}
+use Rattle.field.specs.Field.{Field}
+use Rattle.ranking.specs.Ranking.{ranks}
+use Rattle.probes.specs.Call.{allConstraints}
 use Rattle.probes.specs.Rule.{FreeCandidates, LastGives, NoneGives, GreatestGives, NoFreeGives}
 use Rattle.probes.proofs.Members.{at-in, PlaceOf, in-at, every-in}
 use Rattle.probes.proofs.Gathered.{more-candidates}
+use Rattle.probes.proofs.Chosen.{Free, ranked-free}
 
 -- ---- the candidates of the full call
-
--- each is below n and free
-pub free-in : (s : List ℕ) (n : ℕ) {i : ℕ} → List·Memᴰ i (freeTo s n) → (i < n) × (getD s i 0 ≡ 2)
-unfolding freeTo
-free-in s zero m = absurd (List·Memᴰ·not-nil m)
-free-in s (suc n) {i} m = ⊎-elim (λ q. let z = free-in s n q in (omega (arith, z .0), z .1)) (λ q. go (eqb (getD s n 0) 2) refl q) (List·Memᴰ·append-cases (freeTo s n) m)
-  where
-    go : (b : Bool) → eqb (getD s n 0) 2 ≡ b → List·Memᴰ i (cond b (n ∷ []) []) → (i < suc n) × (getD s i 0 ≡ 2)
-    go true e q = let z = List·Memᴰ·eq-of-singleton q in (omega arith, rw z (eqb-true _ _ e))
-    go false e q = absurd (List·Memᴰ·not-nil q)
 
 -- each variable below n that is free is one
 pub in-free : (s : List ℕ) (n i : ℕ) → i < n → getD s i 0 ≡ 2 → List·Memᴰ i (freeTo s n)
@@ -39,57 +29,19 @@ unfolding freeTo
 in-free s zero i h f = absurd (omega arith)
 in-free s (suc n) i h f = go (below-or-at h) (λ b. in-free s n i b f)
   where
-    go : (i < n) ⊎ (i ≡ n) → (i < n → List·Memᴰ i (freeTo s n)) → List·Memᴰ i (freeTo s n ++ cond (eqb (getD s n 0) 2) (n ∷ []) [])
-    go (inl b) ih = Memᴰ·append-left (cond (eqb (getD s n 0) 2) (n ∷ []) []) (ih b)
+    go : (i < n) ⊎ (i ≡ n) → (i < n → List·Memᴰ i (freeTo s n)) → List·Memᴰ i (freeTo s n ++ cond (isFree s n) (n ∷ []) [])
+    go (inl b) ih = Memᴰ·append-left (cond (isFree s n) (n ∷ []) []) (ih b)
     go (inr e) ih =
         let z : getD s n 0 ≡ 2 = ap (λ (k : ℕ). getD s k 0) (sym e) ∙ f in
         rw (eq-eqb (getD s n 0) 2 z) (Memᴰ·append-right (freeTo s n) (List·Memᴰ·head e))
 
--- they rise
-free-rises : (s : List ℕ) (n a b : ℕ) → a < b → b < length (freeTo s n) → getD (freeTo s n) a 0 < getD (freeTo s n) b 0
-unfolding freeTo
-free-rises s zero a b h l = absurd (omega arith)
-free-rises s (suc n) a b h l = go (eqb (getD s n 0) 2) l (λ q. free-rises s n a b h q)
-  where
-    inner : (z : List ℕ) → b < length (freeTo s n) → getD (freeTo s n) a 0 < getD (freeTo s n) b 0 → getD (freeTo s n ++ z) a 0 < getD (freeTo s n ++ z) b 0
-    inner z q r = omega (arith, List·getD-append (freeTo s n) z 0 a (omega arith), List·getD-append (freeTo s n) z 0 b q)
-
-    last : b ≡ length (freeTo s n) → getD (freeTo s n ++ n ∷ []) a 0 < getD (freeTo s n ++ n ∷ []) b 0
-    last e =
-        let q : a < length (freeTo s n) = omega arith in
-        omega (arith, List·getD-append (freeTo s n) (n ∷ []) 0 a q, getD-at (freeTo s n) n [] 0 b (sym e), free-in s n (at-in (freeTo s n) a q) .0)
-
-    go : (c : Bool) → b < length (freeTo s n ++ cond c (n ∷ []) []) → (b < length (freeTo s n) → getD (freeTo s n) a 0 < getD (freeTo s n) b 0)
-        → getD (freeTo s n ++ cond c (n ∷ []) []) a 0 < getD (freeTo s n ++ cond c (n ∷ []) []) b 0
-    go true q ih = ⊎-elim (λ r. inner (n ∷ []) r (ih r)) last (below-or-at (omega (arith, length-append (freeTo s n) (n ∷ []))))
-    go false q ih = let r : b < length (freeTo s n) = omega (arith, length-append (freeTo s n) []) in inner [] r (ih r)
-
--- a part at the front of a list has what the list has
-front-in : (k : ℕ) (l : List ℕ) {i : ℕ} → List·Memᴰ i (take k l) → List·Memᴰ i l
-front-in zero l m = absurd (List·Memᴰ·not-nil m)
-front-in (suc k) [] m = absurd (List·Memᴰ·not-nil m)
-front-in (suc k) (x ∷ l) m = ⊎-elim (λ e. List·Memᴰ·head e) (λ r. List·Memᴰ·tail (front-in k l r)) (List·Memᴰ·cases-cons m)
-
-every-free : (s : List ℕ) (n : ℕ) → Every (λ i. getD s i 0 ≡ 2) (freeBelow s n)
-unfolding freeBelow
-every-free s zero = tt
-every-free s (suc n) = every-append (λ i. getD s i 0 ≡ 2) (freeBelow s n) _ (every-free s n) (go (freeIn s n) refl)
-  where
-    go : (b : Bool) → freeIn s n ≡ b → Every (λ i. getD s i 0 ≡ 2) (cond b (n ∷ []) [])
-    go true e = (eqb-true _ _ e, tt)
-    go false e = tt
-
 -- Every candidate of the full call is free.
 pub full-free : (s : List ℕ) (n : ℕ) → FreeCandidates s (freeTo s n)
-full-free s n i m = free-in s n m .1
+full-free s n i m = let p = in-at (freeTo s n) m in rw (p .is) at (free-at s n (p .at) (p .within) .1)
 
 -- Every candidate of the limited call is free.
 pub limited-free : (F : Field) (s : List ℕ) (limit : ℕ) → FreeCandidates s (take limit (ranks F s))
-unfolding ranks
-limited-free F s limit i m =
-    every-in (λ i. getD s i 0 ≡ 2) (ranks F s)
-    (ordered-every (ahead (massOf F s)) (λ i. getD s i 0 ≡ 2) (freeBelow s (variables F)) (every-free s (variables F)))
-    (front-in limit (ranks F s) m)
+limited-free F s limit i m = every-in (Free s) (take limit (ranks F s)) (ranked-free F s limit) m
 
 front-more : (a b : ℕ) (l : List ℕ) → a ≤ b → {i : ℕ} → List·Memᴰ i (take a l) → List·Memᴰ i (take b l)
 front-more zero b l h m = absurd (List·Memᴰ·not-nil m)

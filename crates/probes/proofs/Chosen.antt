@@ -1,17 +1,16 @@
 -- The candidates in their place: every free variable, or the first of the ranks. Assumes nothing.
 use Prim.Native.Nat.{ℕ, zero, suc, _+_, _-_, _<_, _≤_}
 use mathlib.Core.Path.{_≡_, refl, sym, ap, _∙_}
-use mathlib.Core.Bool.{Bool, true, false, cond}
 use mathlib.Core.List.{List, [], _∷_}
 use native.Mathlib.Omega.{arith}
-use borrow.Author.Tests.{eqb-true}
 use borrow.Rule.Slice.PartMut.{putMid, midOf, mid-len, same-len-mid, take-put}
-use lib.Dec.{eqb}
 use lib.Ieee.{Float, nan}
-use lib.ListN.{length, getD, take, drop, length-append}
+use lib.ListN.{length, getD, take, drop}
 use lib.Seq.{ext-getD, take-take, take-all, getD-take, getD-drop, length-take-le}
 use Rattle.scratch.specs.Region.{region}
 use Rattle.scratch.proofs.Region.{length-region, region-at}
+use Rattle.meaning.specs.Free.{freeTo}
+use Rattle.meaning.proofs.Free.{free-few, free-at}
 use Rattle.field.specs.Field.{Field, variables}
 use Rattle.field.specs.Tests.{Ready}
 use Rattle.rows.specs.Stored.{rowOn}
@@ -20,41 +19,28 @@ use Rattle.probing.specs.Remembered.{Remembers}
 use Rattle.twin.specs.Twin.{firstAt}
 use Rattle.twin.proofs.Framed.{remembers-front}
 use Rattle.walking.specs.Walk.{candidatesAt, gatherAt}
-use Rattle.ranking.specs.Ranking.{freeIn, massOf, ahead, freeBelow, ranks}
+use Rattle.ranking.specs.Ranking.{massOf, ahead, ranks}
 use Rattle.ranking.specs.Masses.{Rankable, Ranked}
-use Rattle.ranking.proofs.Ordered.{Every, every-at, every-append, ordered-every, ordered-length}
-use Rattle.probes.specs.Call.{freeTo}
+use Rattle.ranking.proofs.Ordered.{Every, every-at, every-from, ordered-every, ordered-length}
 use Rattle.probes.specs.Listed.{Listed}
 use Rattle.probes.specs.Standing.{Standing, Chosen}
 
 -- ---- every candidate is free
 
-abbrev Free : List ℕ → ℕ → Type 0
+abbrev pub Free : List ℕ → ℕ → Type 0
 Free s i = getD s i 0 ≡ 2
 
-free-one : (s : List ℕ) (n : ℕ) (b : Bool) → eqb (getD s n 0) 2 ≡ b → Every (Free s) (cond b (n ∷ []) [])
-free-one s n true e = (eqb-true (getD s n 0) 2 e, tt)
-free-one s n false e = tt
-
 all-free : (s : List ℕ) (n : ℕ) → Every (Free s) (freeTo s n)
-unfolding freeTo
-all-free s zero = tt
-all-free s (suc n) = every-append (Free s) (freeTo s n) _ (all-free s n) (free-one s n (eqb (getD s n 0) 2) refl)
-
--- both crates list the free variables alike
-pub free-same : (s : List ℕ) (n : ℕ) → freeBelow s n ≡ freeTo s n
-unfolding freeTo freeBelow
-free-same s zero = refl
-free-same s (suc n) = rw (free-same s n)
-
-ranks-free : (F : Field) (s : List ℕ) → Every (Free s) (ranks F s)
-unfolding ranks
-ranks-free F s = ordered-every (ahead (massOf F s)) (Free s) (freeBelow s (variables F)) (rw (free-same s (variables F)) (all-free s (variables F)))
+all-free s n = every-from (Free s) (freeTo s n) (λ a h. free-at s n a h .1)
 
 take-every : (P : ℕ → Type 0) (k : ℕ) (l : List ℕ) → Every P l → Every P (take k l)
 take-every P zero l h = tt
 take-every P (suc k) [] h = tt
 take-every P (suc k) (x ∷ l) h = (h .0, take-every P k l (h .1))
+
+pub ranked-free : (F : Field) (s : List ℕ) (limit : ℕ) → Every (Free s) (take limit (ranks F s))
+unfolding ranks
+ranked-free F s limit = take-every (Free s) limit (ranks F s) (ordered-every (ahead (massOf F s)) (Free s) (freeTo s (variables F)) (all-free s (variables F)))
 
 -- ---- the workspace with them
 
@@ -127,7 +113,7 @@ module _ (F : Field) (s : List ℕ) (limit : ℕ) (f f′ : List Float) (u u′ 
 
   pub chosen-standing : {many floats words : ℕ} → Ready F s floats words → Remembers F s f u many → length u ≡ words → Standing F s f′ u′ many count
   chosen-standing A R long =
-      standing-of (chosen-remembers R) (C .within) (omega (arith, space-enough A, long, C .words-long)) (C .are) (take-every (Free s) limit (ranks F s) (ranks-free F s))
+      standing-of (chosen-remembers R) (C .within) (omega (arith, space-enough A, long, C .words-long)) (C .are) (ranked-free F s limit)
 
 -- ---- the ranks in their place
 
@@ -140,15 +126,6 @@ front-as b u u′ h long same =
 -- where the masses stand
 abbrev pub massesAt : Field → ℕ
 massesAt F = variables F + variables F + (variables F + variables F)
-
-few-free : (s : List ℕ) (n : ℕ) → length (freeBelow s n) ≤ n
-unfolding freeBelow
-few-free s zero = omega arith
-few-free s (suc n) = omega (arith, few-free s n, length-append (freeBelow s n) (cond (freeIn s n) (n ∷ []) []), one (freeIn s n))
-  where
-    one : (b : Bool) → length (cond b (n ∷ []) []) ≤ 1
-    one true = omega arith
-    one false = omega arith
 
 module _ {F : Field} {s : List ℕ} (f : List Float) (u : List ℕ) (A : Ready F s (length f) (length u)) where
   pub choose-rankable : Rankable F s (midOf (massesAt F) (massesAt F + variables F - massesAt F) f) u (candidatesAt F)
@@ -167,7 +144,7 @@ module _ {F : Field} {s : List ℕ} (f : List Float) (u : List ℕ) (A : Ready F
       (long : length w ≡ length (midOf (massesAt F) (massesAt F + variables F - massesAt F) f)) where
     count-few : count ≤ variables F
     unfolding ranks
-    count-few = omega (arith, R .counted, ordered-length (ahead (massOf F s)) (freeBelow s (variables F)), few-free s (variables F))
+    count-few = omega (arith, R .counted, ordered-length (ahead (massOf F s)) (freeTo s (variables F)), free-few s (variables F))
 
     chosen : (limit r : ℕ) → r ≤ variables F → region (candidatesAt F) r u′ ≡ take limit (ranks F s)
         → Chosen F s limit f (putMid (massesAt F) (massesAt F + variables F - massesAt F) f w) u u′ r

@@ -14,6 +14,7 @@ use lib.Ieee.{Float}
 use Rattle.weights.specs.Worth.{zero64}
 use Rattle.scratch.specs.Cleared.{cleared}
 use Rattle.scratch.proofs.All.{both}
+use Rattle.meaning.specs.Free.{freeTo}
 use Rattle.constraints.specs.Triple.{room, triples, filled}
 use Rattle.constraints.proofs.Triples.{filled-rest, triples-filled}
 use Rattle.field.specs.declared.Counted.the-variants.{Counts, Refuses}
@@ -30,7 +31,7 @@ use Rattle.field.specs.Grade.{gradeOf}
 use Rattle.field.proofs.Table.{refused-exactly, group-no, group-ok}
 use Rattle.field.proofs.Means.{ready-passes}
 use Rattle.ranking.specs.Ranking.{ranks}
-use Rattle.probes.specs.Call.{freeTo, allConstraints, allValues, Left, left, fits, candidatesTable, given, leaves, candidatesCall, probeCall, probeLimitedCall}
+use Rattle.probes.specs.Call.{allConstraints, allValues, Left, left, fits, candidatesTable, answered, leaves, candidatesCall, probeCall, probeLimitedCall}
 
 -- ---- both calls are calls with a list of candidates
 
@@ -125,8 +126,8 @@ module _ (F : Field) (s cands t k : List ℕ) (f : List Float) (u : List ℕ) wh
 
   -- ---- refusals
 
-  room-last : (r : Refusal) (b : Bool) → (given b F s cands t k f u .answer ≡ Refuses r) ↔ (tested (test Room b ∷ []) ≡ Failed r)
-  unfolding given tested
+  room-last : (r : Refusal) (b : Bool) → (answered b F s cands t k f u .answer ≡ Refuses r) ↔ (tested (test Room b ∷ []) ≡ Failed r)
+  unfolding answered tested
   room-last r true = ((λ e. not-done e), λ e. not-passed e)
   room-last r false = ((λ e. ap Failed (same-refusal e)), λ e. ap Refuses (same-failed e))
 
@@ -145,10 +146,10 @@ module _ (F : Field) (s cands t k : List ℕ) (f : List Float) (u : List ℕ) wh
       ((λ e. w .0 (p .0 e)), λ h. p .1 (w .1 h))
 
   early : (r : Refusal) (x : Checked) → leaves x F s cands t k f u .answer ≡ Refuses r → r ≢ Room → leaves x F s cands t k f u ≡ left (Refuses r) t k f u
-  unfolding leaves given
+  unfolding leaves answered
   early r Passed e n = go (fits F s cands t k) e
     where
-      go : (b : Bool) → given b F s cands t k f u .answer ≡ Refuses r → given b F s cands t k f u ≡ left (Refuses r) t k f u
+      go : (b : Bool) → answered b F s cands t k f u .answer ≡ Refuses r → answered b F s cands t k f u ≡ left (Refuses r) t k f u
       go true e = not-done e
       go false e = absurd (n (sym (same-refusal e)))
   early r (Failed x) e n = rw (same-refusal e)
@@ -159,10 +160,10 @@ module _ (F : Field) (s cands t k : List ℕ) (f : List Float) (u : List ℕ) wh
   refused-leaves r e n = early r checked e n
 
   late : (x : Checked) → checked ≡ x → leaves x F s cands t k f u .answer ≡ Refuses Room → (x ≡ Passed) × (fits F s cands t k ≡ false)
-  unfolding leaves given
+  unfolding leaves answered
   late Passed c e = (refl, go (fits F s cands t k) refl e)
     where
-      go : (b : Bool) → fits F s cands t k ≡ b → given b F s cands t k f u .answer ≡ Refuses Room → fits F s cands t k ≡ false
+      go : (b : Bool) → fits F s cands t k ≡ b → answered b F s cands t k f u .answer ≡ Refuses Room → fits F s cands t k ≡ false
       go true p e = not-done e
       go false p e = p
   late (Failed x) c e =
@@ -172,7 +173,7 @@ module _ (F : Field) (s cands t k : List ℕ) (f : List Float) (u : List ℕ) wh
   -- 9 is given exactly if the tests before it pass, and the value list is not n long or more constraints are found, without repeats, than the list has room for.
   pub room-when : (candidatesCall F s cands t k f u .answer ≡ Refuses Room)
       ↔ (Ready F s (length f) (length u) × ((length t ≢ variables F) ⊎ (room k < length (allConstraints F s cands))))
-  unfolding candidatesCall leaves given
+  unfolding candidatesCall leaves answered
   room-when =
       let p = ready-passes F s (length f) (length u) in
       ((λ e. let w = late checked refl e in (p .0 (w .0), no-fit (w .1))), λ h. rw (p .1 (h .0), fit-no (h .1)) refl)
@@ -180,17 +181,17 @@ module _ (F : Field) (s cands t k : List ℕ) (f : List Float) (u : List ℕ) wh
   -- It leaves both answer lists and both scratches all zeros.
   pub room-leaves : candidatesCall F s cands t k f u .answer ≡ Refuses Room
       → candidatesCall F s cands t k f u ≡ left (Refuses Room) (cleared 0 t) (cleared 0 k) (cleared zero64 f) (cleared 0 u)
-  unfolding candidatesCall leaves given
+  unfolding candidatesCall leaves answered
   room-leaves e = let w = late checked refl e in rw (w .0, w .1) refl
 
   -- ---- done
 
   done-as : (g : Grade) (items : ℕ) (x : Checked) → leaves x F s cands t k f u .answer ≡ Counts g items
       → (x ≡ Passed) × ((fits F s cands t k ≡ true) × (Counts (gradeOf F) (length (allConstraints F s cands)) ≡ Counts g items))
-  unfolding leaves given
+  unfolding leaves answered
   done-as g items Passed e = (refl, go (fits F s cands t k) refl e)
     where
-      go : (b : Bool) → fits F s cands t k ≡ b → given b F s cands t k f u .answer ≡ Counts g items
+      go : (b : Bool) → fits F s cands t k ≡ b → answered b F s cands t k f u .answer ≡ Counts g items
           → (fits F s cands t k ≡ true) × (Counts (gradeOf F) (length (allConstraints F s cands)) ≡ Counts g items)
       go true p e = (p, e)
       go false p e = not-done (sym e)
@@ -198,7 +199,7 @@ module _ (F : Field) (s cands t k : List ℕ) (f : List Float) (u : List ℕ) wh
 
   -- The call is done exactly if every test passes, and then gives the grade and the number of constraints.
   pub done-when : (g : Grade) (items : ℕ) → (candidatesCall F s cands t k f u .answer ≡ Counts g items) ↔ DoneSays F s cands t k f u g items
-  unfolding candidatesCall leaves given
+  unfolding candidatesCall leaves answered
   done-when g items =
       let p = ready-passes F s (length f) (length u) in (
         λ e.
@@ -214,7 +215,7 @@ module _ (F : Field) (s cands t k : List ℕ) (f : List Float) (u : List ℕ) wh
   module _ (g : Grade) (items : ℕ) (e : candidatesCall F s cands t k f u .answer ≡ Counts g items) where
     -- Then the probe values are in the value list, the constraints at the front of their list, and both scratches are all zeros.
     pub done-leaves : candidatesCall F s cands t k f u ≡ left (Counts g items) (allValues F s cands) (filled (allConstraints F s cands) k) (cleared zero64 f) (cleared 0 u)
-    unfolding candidatesCall leaves given
+    unfolding candidatesCall leaves answered
     done-leaves =
         let d = done-when g items .0 e in
         rw (ready-passes F s (length f) (length u) .1 (d .ready), fit-both (d .values-long) (d .enough), d .graded, d .counted) refl

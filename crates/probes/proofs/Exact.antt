@@ -18,8 +18,8 @@ use Rattle.run.proofs.Theorems as run
 use Rattle.workspace.proofs.Theorems.{start-with}
 use Rattle.probe.specs.Found.{found}
 use Rattle.probe.proofs.Found.{none-value, none-constraint, found-value, value-holds, constraint-holds}
-use Rattle.twin.specs.Finds.{tripleOf, finding}
-use Rattle.twin.proofs.Codes.{triple-says}
+use Rattle.finding.specs.Finds.{tripleOf, finding}
+use Rattle.finding.proofs.Codes.{triple-says}
 use Rattle.probes.specs.Call.{allConstraints, allValues}
 use Rattle.probes.specs.Rule.{FreeCandidates, ordered, BothGive, Given, GivesValue, Finds, FindsValue, LastGives, NoneGives}
 use Rattle.probes.proofs.Members.{at-in}

@@ -14,8 +14,8 @@ use Rattle.field.specs.Field.{Field, variables}
 use Rattle.rows.proofs.Upto.{length-upTo, getD-upTo}
 use Rattle.probe.specs.Found.{Finding, nothing, value, constraint}
 use Rattle.probe.proofs.Found.{none-value, none-constraint, found-value}
-use Rattle.twin.specs.Finds.{tripleOf, added, wins, findingOf, finding, constraintsTo, valuesAfter, constraintsOf, valuesOf}
-use Rattle.twin.proofs.Codes.{code-is}
+use Rattle.finding.specs.Finds.{tripleOf, added, wins, findingOf, finding, constraintsTo, valuesAfter, constraintsOf, valuesOf}
+use Rattle.finding.proofs.Codes.{code-is}
 use Rattle.probes.specs.Call.{allConstraints, allValues}
 use Rattle.probes.specs.Rule.{FreeCandidates, Finds, FindsValue, Proper, LastGives, NoneGives}
 use Rattle.probes.proofs.Members.{at-in, in-at}

@@ -10,6 +10,7 @@ use lib.Seq.{take-all}
 use lib.Ieee.{Float}
 use Rattle.weights.specs.Worth.{zero64}
 use Rattle.scratch.specs.Cleared.{cleared}
+use Rattle.meaning.specs.Free.{freeTo}
 use Rattle.constraints.specs.Sorted.{sortedSet}
 use Rattle.constraints.proofs.Triples.{filled-none}
 use Rattle.field.specs.declared.Checked.{Checked}
@@ -19,13 +20,12 @@ use Rattle.field.specs.Field.{Field, variables}
 use Rattle.field.specs.Table.{tested}
 use Rattle.field.specs.Tests.{readyTests, Ready}
 use Rattle.field.specs.Grade.{gradeOf}
-use Rattle.ranking.specs.Ranking.{massOf, ahead, insert, ordered, freeBelow, ranks}
+use Rattle.ranking.specs.Ranking.{massOf, ahead, insert, ordered, ranks}
 use Rattle.ranking.proofs.Ordered.{Every, every-from, ordered-every, ordered-length}
-use Rattle.twin.specs.Finds.{constraintsOf, valuesOf}
-use Rattle.probes.specs.Call.{freeTo, allConstraints, allValues, Left, left, fits, given, leaves, candidatesCall, probeCall, probeLimitedCall}
+use Rattle.finding.specs.Finds.{constraintsOf, valuesOf}
+use Rattle.probes.specs.Call.{allConstraints, allValues, Left, left, fits, answered, leaves, candidatesCall, probeCall, probeLimitedCall}
 use Rattle.probes.proofs.Members.{at-in, every-in}
 use Rattle.probes.proofs.Gathered.{same-candidates}
-use Rattle.probes.proofs.Chosen.{free-same}
 use Rattle.probes.proofs.Demands.{done-when, done-leaves, limited-is}
 
 -- ---- no candidate
@@ -61,15 +61,15 @@ module _ (F : Field) (s : List ℕ) where
   ranks-free i m =
       let all = freeTo s (variables F) in
       let each : Every (λ i. List·Memᴰ i all) all = every-from (λ i. List·Memᴰ i all) all (at-in all) in
-      every-in (λ i. List·Memᴰ i all) (ranks F s) (ordered-every (ahead (massOf F s)) (λ i. List·Memᴰ i all) (freeBelow s (variables F)) (rw (free-same s (variables F)) each)) m
+      every-in (λ i. List·Memᴰ i all) (ranks F s) (ordered-every (ahead (massOf F s)) (λ i. List·Memᴰ i all) (freeTo s (variables F)) each) m
 
   pub free-ranks : (i : ℕ) → List·Memᴰ i (freeTo s (variables F)) → List·Memᴰ i (ranks F s)
   unfolding ranks
-  free-ranks i m = ordered-in (ahead (massOf F s)) (freeBelow s (variables F)) (rw (free-same s (variables F)) m)
+  free-ranks i m = ordered-in (ahead (massOf F s)) (freeTo s (variables F)) m
 
   ranks-long : length (ranks F s) ≡ length (freeTo s (variables F))
   unfolding ranks
-  ranks-long = ordered-length (ahead (massOf F s)) (freeBelow s (variables F)) ∙ ap length (free-same s (variables F))
+  ranks-long = ordered-length (ahead (massOf F s)) (freeTo s (variables F))
 
   -- A limit of at least the number of free variables finds the same constraints as the full probe.
   pub limit-all : (limit : ℕ) → length (freeTo s (variables F)) ≤ limit → allConstraints F s (take limit (ranks F s)) ≡ allConstraints F s (freeTo s (variables F))
@@ -83,8 +83,8 @@ pub record SameButValues (x y : Left) : Type 0 where
   pub both-words : x .words ≡ y .words
 
 given-same : (b : Bool) (F : Field) (s cands other t k : List ℕ) (f : List Float) (u : List ℕ) → allConstraints F s cands ≡ allConstraints F s other
-    → SameButValues (given b F s cands t k f u) (given b F s other t k f u)
-unfolding given
+    → SameButValues (answered b F s cands t k f u) (answered b F s other t k f u)
+unfolding answered
 given-same true F s cands other t k f u e = record { answers = rw e; lists = rw e; both-floats = refl; both-words = refl }
 given-same false F s cands other t k f u e = record { answers = refl; lists = refl; both-floats = refl; both-words = refl }
 

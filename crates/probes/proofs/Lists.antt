@@ -6,12 +6,11 @@ use mathlib.Core.List.{List, [], _∷_, _++_, append-nil}
 use native.Mathlib.Nat.{le-refl, add-zero}
 use native.Mathlib.Numerals.{add-one}
 use native.Mathlib.Omega.{arith}
-use lib.Dec.{eqb}
 use lib.ListN.{length, getD, set, take, drop, length-set, length-drop}
 use lib.Seq.{take-set-le, drop-set-add, take-suc-set}
 use Rattle.scratch.specs.Region.{region}
 use Rattle.scratch.proofs.Region.{region-above}
-use Rattle.probes.specs.Call.{freeTo}
+use Rattle.meaning.specs.Free.{isFree, freeTo}
 use Rattle.probes.specs.Listed.{stepOf, Listed}
 
 pub record Listing (s : List ℕ) (at j : ℕ) (u₀ u : List ℕ) (count : ℕ) : Type 0 where
@@ -40,7 +39,7 @@ module _ {s u₀ u : List ℕ} {at j count : ℕ} (L : Listing s at j u₀ u cou
       few = omega (arith, L .listed .few);
       long = length-set u (at + count) j ∙ L .listed .long;
       front = take-set-le at u (at + count) j (omega arith) ∙ L .listed .front;
-      is = rw (e, add-one j) (go (eqb (getD s j 0) 2));
+      is = rw (e, add-one j) (go (isFree s j));
     };
   }
     where

@@ -6,7 +6,7 @@ use lib.Ieee.{Float}
 use lib.ListN.{replicate}
 use Rattle.constraints.specs.Sorted.{sortedSet}
 use Rattle.field.specs.Field.{Field, variables}
-use Rattle.twin.specs.Finds.{constraintsOf, valuesOf}
+use Rattle.finding.specs.Finds.{constraintsOf, valuesOf}
 use Rattle.probes.specs.Call.{allConstraints, allValues, Left, probeCall}
 
 -- With no candidate, as a limit of 0 leaves, no constraint is found,

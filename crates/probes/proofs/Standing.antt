@@ -15,7 +15,7 @@ use Rattle.field.specs.Field.{Field, variables}
 use Rattle.rows.specs.Stored.{upTo}
 use Rattle.rows.proofs.Upto.{length-upTo, getD-upTo}
 use Rattle.probe.specs.Found.{found}
-use Rattle.twin.specs.Finds.{wins, findingOf, finding, valuesAfter, valuesOf}
+use Rattle.finding.specs.Finds.{wins, findingOf, finding, valuesAfter, valuesOf}
 use Rattle.twin.specs.Twin.{firstAt, valuesAt}
 use Rattle.twin.proofs.Framed.{remembers-front}
 use Rattle.walking.specs.Walk.{candidatesAt, Walkable, Walked, holds, full}

@@ -16,7 +16,7 @@ use Rattle.run.specs.Run.{closure}
 use Rattle.probe.specs.Call.{newAt}
 use Rattle.probe.specs.Found.{Finding, nothing, value, constraint, joining, between, found}
 use Rattle.probe.proofs.Found.{none-constraint}
-use Rattle.twin.specs.Finds.{givesAt, findingOf, finding}
+use Rattle.finding.specs.Finds.{givesAt, findingOf, finding}
 use Rattle.probes.specs.Rule.{ordered}
 
 -- ---- the executable table is document 01's

@@ -1,12 +1,13 @@
 -- What the calls `probe` and `probe_limited` answer and leave, as one function of what they are given, for every input. Assumes nothing.
-use Prim.Native.Nat.{ℕ, zero, suc}
-use mathlib.Core.Bool.{Bool, true, false, cond, _&&_}
+use Prim.Native.Nat.{ℕ}
+use mathlib.Core.Bool.{Bool, true, false, _&&_}
 use mathlib.Core.List.{List, [], _∷_, _++_}
 use lib.Dec.{eqb, leb}
-use lib.ListN.{length, getD, take}
+use lib.ListN.{length, take}
 use lib.Ieee.{Float}
 use Rattle.weights.specs.Worth.{zero64}
 use Rattle.scratch.specs.Cleared.{cleared}
+use Rattle.meaning.specs.Free.{freeTo}
 use Rattle.constraints.specs.Triple.{Triple, room, filled}
 use Rattle.constraints.specs.Sorted.{sortedSet}
 use Rattle.field.specs.declared.Counted.{Counted}
@@ -19,14 +20,7 @@ use Rattle.field.specs.Table.{Test, test, tested}
 use Rattle.field.specs.Tests.{readyTests}
 use Rattle.field.specs.Grade.{gradeOf}
 use Rattle.ranking.specs.Ranking.{ranks}
-use Rattle.twin.specs.Finds.{constraintsOf, valuesOf}
-
--- ---- the candidates
-
--- the free variables below n, rising
-unfoldable pub freeTo : List ℕ → ℕ → List ℕ
-freeTo s zero = []
-freeTo s (suc n) = freeTo s n ++ cond (eqb (getD s n 0) 2) (n ∷ []) []
+use Rattle.finding.specs.Finds.{constraintsOf, valuesOf}
 
 -- ---- what the candidates find
 
@@ -60,14 +54,14 @@ unfoldable pub candidatesTable : Field → List ℕ → List ℕ → List ℕ �
 candidatesTable F s cands t k floats words = readyTests F s floats words ++ test Room (fits F s cands t k) ∷ []
 
 -- "then each answer list is all zeros"; "On success, elements past an answer list's last item are unchanged"
-unfoldable pub given : Bool → Field → List ℕ → List ℕ → List ℕ → List ℕ → List Float → List ℕ → Left
-given true F s cands t k f u =
+unfoldable pub answered : Bool → Field → List ℕ → List ℕ → List ℕ → List ℕ → List Float → List ℕ → Left
+answered true F s cands t k f u =
     left (Counts (gradeOf F) (length (allConstraints F s cands))) (allValues F s cands) (filled (allConstraints F s cands) k) (cleared zero64 f) (cleared 0 u)
-given false F s cands t k f u = left (Refuses Room) (cleared 0 t) (cleared 0 k) (cleared zero64 f) (cleared 0 u)
+answered false F s cands t k f u = left (Refuses Room) (cleared 0 t) (cleared 0 k) (cleared zero64 f) (cleared 0 u)
 
 -- "After passing 8, scratch ends as all zeros"; "1 to 8 change nothing lent"
 unfoldable pub leaves : Checked → Field → List ℕ → List ℕ → List ℕ → List ℕ → List Float → List ℕ → Left
-leaves Passed F s cands t k f u = given (fits F s cands t k) F s cands t k f u
+leaves Passed F s cands t k f u = answered (fits F s cands t k) F s cands t k f u
 leaves (Failed r) F s cands t k f u = left (Refuses r) t k f u
 
 -- the call over any list of candidates

@@ -6,7 +6,7 @@ use mathlib.Core.List.{List}
 use lib.Dec.{eqb}
 use lib.ListN.{length, getD, take}
 use Rattle.scratch.specs.Region.{region}
-use Rattle.probes.specs.Call.{freeTo}
+use Rattle.meaning.specs.Free.{freeTo}
 
 unfoldable pub stepOf : ℕ → ℕ
 stepOf v = cond (eqb v 2) 1 0

@@ -10,7 +10,7 @@ use Rattle.meaning.specs.Probe.{Probed, Found}
 use Rattle.constraints.specs.Triple.{Triple}
 use Rattle.field.specs.Field.{Field, variables}
 use Rattle.probe.specs.Found.{value, constraint, joining, between}
-use Rattle.twin.specs.Finds.{tripleOf, finding}
+use Rattle.finding.specs.Finds.{tripleOf, finding}
 
 -- every candidate is free
 abbrev pub FreeCandidates : List ℕ → List ℕ → Type 0

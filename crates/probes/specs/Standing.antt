@@ -9,7 +9,7 @@ use Rattle.field.specs.Field.{Field, variables}
 use Rattle.probing.specs.Remembered.{Remembers}
 use Rattle.walking.specs.Walk.{candidatesAt, gatherAt}
 use Rattle.ranking.specs.Ranking.{ranks}
-use Rattle.probes.specs.Call.{Left, fits, given}
+use Rattle.probes.specs.Call.{Left, fits, answered}
 
 -- n words from `at` on, each of them a byte
 pub record Bytes (at n : ℕ) (u : List ℕ) : Type 0 where
@@ -32,6 +32,6 @@ pub record Chosen (F : Field) (s : List ℕ) (limit : ℕ) (f f′ : List Float)
   pub within : count ≤ variables F
   pub are : region (candidatesAt F) count u′ ≡ take limit (ranks F s)
 
--- what is answered past test 8
-abbrev pub answered : Field → List ℕ → List ℕ → List ℕ → List ℕ → List Float → List ℕ → Left
-answered F s cands t k f u = given (fits F s cands t k) F s cands t k f u
+-- what is settled past test 8
+abbrev pub settled : Field → List ℕ → List ℕ → List ℕ → List ℕ → List Float → List ℕ → Left
+settled F s cands t k f u = answered (fits F s cands t k) F s cands t k f u

@@ -8,18 +8,19 @@ use crate::choosing::choose;
 use crate::listing::list_free;
 use crate::settling::no_room;
 use crate::settling::settle;
-use crate::values::copy;
 use field::Checked;
 use field::Counted;
+use probe::values::copy;
 ghost use mathlib.Core.Path.{_≡_};
 ghost use lib.ListN.{length, take};
 ghost use Rattle.scratch.specs.Lent.{before, after};
+ghost use Rattle.meaning.specs.Free.{freeTo};
 ghost use Rattle.field.specs.Field.{lent, given, variables};
 ghost use Rattle.field.specs.Tests.{Ready};
 ghost use Rattle.probing.specs.Remembered.{Remembers};
 ghost use Rattle.ranking.specs.Ranking.{ranks};
-ghost use Rattle.probes.specs.Call.{freeTo, left, probeCall, probeLimitedCall};
-ghost use Rattle.probes.specs.Standing.{answered};
+ghost use Rattle.probes.specs.Call.{left, probeCall, probeLimitedCall};
+ghost use Rattle.probes.specs.Standing.{settled};
 
 // The start values go into the values, and the workspace is made.
 fn prepare(
@@ -55,7 +56,7 @@ fn probe_all(
 ) -> Counted
     requires { ⌜ Ready (lent c rows cols q) (now start) (length (now f)) (length (now u)) ⌝ }
     requires { ⌜ length (now values) ≡ variables (lent c rows cols q) ⌝ }
-    ensures { λ r. ⌜ left r (after values) (after constraints) (after f) (after u) ≡ answered (given c rows cols q) (before start) (freeTo (before start) (variables (given c rows cols q))) (before values) (before constraints) (before f) (before u) ⌝ }
+    ensures { λ r. ⌜ left r (after values) (after constraints) (after f) (after u) ≡ settled (given c rows cols q) (before start) (freeTo (before start) (variables (given c rows cols q))) (before values) (before constraints) (before f) (before u) ⌝ }
 {
     let n = c.len();
     let many = prepare(c, rows, cols, q, start, values, f, u);
@@ -90,7 +91,7 @@ fn probe_some(
 ) -> Counted
     requires { ⌜ Ready (lent c rows cols q) (now start) (length (now f)) (length (now u)) ⌝ }
     requires { ⌜ length (now values) ≡ variables (lent c rows cols q) ⌝ }
-    ensures { λ r. ⌜ left r (after values) (after constraints) (after f) (after u) ≡ answered (given c rows cols q) (before start) (take candidates (ranks (given c rows cols q) (before start))) (before values) (before constraints) (before f) (before u) ⌝ }
+    ensures { λ r. ⌜ left r (after values) (after constraints) (after f) (after u) ≡ settled (given c rows cols q) (before start) (take candidates (ranks (given c rows cols q) (before start))) (before values) (before constraints) (before f) (before u) ⌝ }
 {
     let many = prepare(c, rows, cols, q, start, values, f, u);
     let count = choose(c, rows, cols, q, start, candidates, f, u);

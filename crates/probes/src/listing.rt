@@ -6,7 +6,7 @@ ghost use Rattle.scratch.specs.Lent.{before, after};
 ghost use Rattle.probes.specs.Listed.{stepOf, Listed, Noned};
 
 // 1 for a free variable.
-fn step(value: u8) -> usize
+pub fn step(value: u8) -> usize
     ensures { λ r. ⌜ r ≡ stepOf value ⌝ }
     ensures { λ r. ⌜ r ≤ 1 ⌝ }
 {

@@ -15,7 +15,7 @@ ghost use Rattle.field.specs.declared.Refusal.the-variants.{Room};
 ghost use Rattle.field.specs.Field.{lent, given, variables};
 ghost use Rattle.walking.specs.Walk.{candidatesAt, Walked};
 ghost use Rattle.probes.specs.Call.{left};
-ghost use Rattle.probes.specs.Standing.{Bytes, Standing, answered};
+ghost use Rattle.probes.specs.Standing.{Bytes, Standing, settled};
 
 // 9: zeros in both answer lists and both scratches.
 pub fn no_room(values: &mut [u8], constraints: &mut [u16], f: &mut [f64], u: &mut [u32]) -> Counted
@@ -91,7 +91,7 @@ pub fn settle(
 ) -> Counted
     requires { ⌜ Standing (lent c rows cols q) (now start) (now f) (now u) many count ⌝ }
     requires { ⌜ now values ≡ now start ⌝ }
-    ensures { λ r. ⌜ left r (after values) (after constraints) (after f) (after u) ≡ answered (given c rows cols q) (before start) (region (candidatesAt (given c rows cols q)) count (before u)) (before values) (before constraints) (before f) (before u) ⌝ }
+    ensures { λ r. ⌜ left r (after values) (after constraints) (after f) (after u) ≡ settled (given c rows cols q) (before start) (region (candidatesAt (given c rows cols q)) count (before u)) (before values) (before constraints) (before f) (before u) ⌝ }
 {
     let n = c.len();
     let at = n + 1 + 2 * rows.len() + n + n + n;

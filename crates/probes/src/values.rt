@@ -1,19 +1,9 @@
-// The values: the start values while candidates are probed, then the probe values.
+// The probe values, taken from the words.
 ghost use mathlib.Core.Path.{_≡_};
 ghost use lib.ListN.{length};
 ghost use Rattle.scratch.specs.Lent.{before, after};
 ghost use Rattle.scratch.specs.Region.{region};
 ghost use Rattle.probes.specs.Standing.{Bytes};
-
-// The start values go into the values.
-pub fn copy(start: &[u8], values: &mut [u8])
-    requires { ⌜ length (now values) ≡ length (now start) ⌝ }
-    ensures { λ _. ⌜ after values ≡ before start ⌝ }
-{
-    for i in 0..start.len() {
-        values[i] = start[i];
-    }
-}
 
 // The words from `at` on go into the values.
 pub fn take_values(values: &mut [u8], u: &[u32], at: usize)

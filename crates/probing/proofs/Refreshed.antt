@@ -1,24 +1,20 @@
 -- Rows made afresh in the cells are rows made afresh in the run; the turns of the loops over places. Assumes nothing.
 use Prim.Native.Nat.{ℕ, _+_, _<_, _≤_}
-use mathlib.Core.Path.{_≡_, refl, sym, ap}
+use mathlib.Core.Path.{_≡_, sym, ap}
 use mathlib.Core.Logic.{_≢_}
 use mathlib.Core.List.{List}
-use native.Mathlib.Nat.{le-refl}
-use native.Mathlib.Omega.{arith}
 use borrow.Author.Tests.{eq-eqb, ne-eqb}
 use lib.Ieee.{Float}
 use lib.ListN.{getD}
-use Rattle.field.specs.Field.{Field, variables, entries, Shaped, Standard}
+use Rattle.field.specs.Field.{Field, variables, entries, Standard}
 use Rattle.rows.specs.declared.Row.{Row}
 use Rattle.rows.specs.Model.{rowOf}
 use Rattle.rows.specs.Stored.{putRow}
-use Rattle.rows.proofs.Stored.{length-put, rest-put, put-rows}
 use Rattle.places.specs.Places.{otherEnd}
-use Rattle.places.proofs.Places.{other-below}
-use Rattle.places.proofs.Shape.{ends-below}
 use Rattle.places.proofs.Walk.{Along, along-start, along-turn, along-front, along-end}
-use Rattle.run.specs.Run.{Run}
+use Rattle.run.specs.Run.{Run, withRow}
 use Rattle.run.specs.Cells.{Cells, cells, runIn, Placed, Kept, Does}
+use Rattle.run.proofs.Moves.{put-does, target-below}
 use Rattle.run.proofs.Cells.{kept-same, kept-then, does-same, does-as}
 use Rattle.probing.specs.Remembered.{Readable, freshRow, freshAt, freshAll, fresh}
 
@@ -26,53 +22,20 @@ use Rattle.probing.specs.Remembered.{Readable, freshRow, freshAt, freshA
 pub readable : {F : Field} {s : Cells} → Placed F s → Standard F → Readable F (s .values) (s .words)
 readable P off = record { shaped = P .shaped; standard = off; values-long = P .values-long; adjacent = P .adjacent }
 
--- the other end of an entry is a variable
-pub end-below : {F : Field} → Shaped F → (i : ℕ) {k : ℕ} → k < entries F → otherEnd (F .rows) (F .cols) i k < variables F
-end-below {F} S i {k} h = other-below (F .rows) (F .cols) i k (ends-below S) (omega (arith, S .rows-long))
-
--- ---- one row
-
-put-does : {F : Field} {s : Cells} → Placed F s → {t : ℕ} → t < variables F → {r : Row} → r ≡ rowOf F (s .values) t
-    → Does F (λ run. freshRow F run t) s (cells (s .values) (putRow (s .floats) (variables F) t r) (s .words) (s .tail))
-unfolding freshRow runIn
-put-does {F} {s} P {t} ht {r} e =
-    let n = variables F in
-    record {
-      run = rw (put-rows (s .floats) n t r ht (P .floats-room), e);
-      kept = record {
-        placed = record {
-          shaped = P .shaped;
-          values-long = P .values-long;
-          floats-room = omega (arith, P .floats-room, length-put (s .floats) n t r);
-          adjacent = P .adjacent;
-          words-room = P .words-room;
-          queue-room = P .queue-room;
-          queue-below = P .queue-below;
-        };
-        grows = le-refl _;
-        front = refl;
-        words-rest = refl;
-        words-long = refl;
-        floats-rest = rest-put (s .floats) n t r ht;
-        floats-long = length-put (s .floats) n t r;
-      };
-    }
+-- ---- a place of the probed variable
 
 module _ {F : Field} {s : Cells} (P : Placed F s) (i : ℕ) {k t : ℕ} (hk : k < entries F) (et : t ≡ otherEnd (F .rows) (F .cols) i k) where
-  pub target : t < variables F
-  target = rw et (end-below (P .shaped) i hk)
-
   pub refresh-fixed : getD (s .values) t 0 ≢ 2 → Does F (λ run. freshAt F i run k) s s
   unfolding freshAt runIn
   refresh-fixed ne = does-same P (rw (← et, ne-eqb (getD (s .values) t 0) 2 ne))
 
-  free-at : getD (s .values) t 0 ≡ 2 → freshRow F (runIn F s) t ≡ freshAt F i (runIn F s) k
-  unfolding freshAt runIn
-  free-at free = rw (← et, eq-eqb (getD (s .values) t 0) 2 free)
+  made-afresh : {r : Row} → getD (s .values) t 0 ≡ 2 → r ≡ rowOf F (s .values) t → withRow (runIn F s) t r ≡ freshAt F i (runIn F s) k
+  unfolding freshAt freshRow runIn
+  made-afresh free er = rw (← et, eq-eqb (getD (s .values) t 0) 2 free, er)
 
   pub refresh-free : {r : Row} {f′ : List Float} → getD (s .values) t 0 ≡ 2 → r ≡ rowOf F (s .values) t → f′ ≡ putRow (s .floats) (variables F) t r
       → Does F (λ run. freshAt F i run k) s (cells (s .values) f′ (s .words) (s .tail))
-  refresh-free free er ef = rw ef (does-as (λ run. freshAt F i run k) (put-does P target er) (free-at free))
+  refresh-free {r} free er ef = rw ef (does-as (λ run. freshAt F i run k) (put-does P (target-below P i hk et) r) (made-afresh free er))
 
 -- ---- the places of i: p is the place to come
 

@@ -14,7 +14,7 @@ use Rattle.rows.specs.Row.{addTerm}
 use Rattle.rows.specs.Model.{rowOf}
 use Rattle.rows.specs.Stored.{upTo, rowOn}
 use Rattle.places.specs.Places.{places, otherEnd, Adjacent}
-use Rattle.run.specs.Run.{Run, isFree, scanTo, propagate}
+use Rattle.run.specs.Run.{Run, isFree, withRow, scanTo, propagate}
 use Rattle.run.specs.Cells.{Cells, cells, base, runIn, Placed, Kept}
 
 -- ---- one row from its places
@@ -38,7 +38,7 @@ pub record Readable (F : Field) (s u : List ℕ) : Type 0 where
 
 -- the row of t is what it is at the values
 unfoldable pub freshRow : Field → Run → ℕ → Run
-freshRow F run t = record { values = run .values; rows = set (run .rows) t (rowOf F (run .values) t); queue = run .queue }
+freshRow F run t = withRow run t (rowOf F (run .values) t)
 
 -- variable i at its place k: the row of a free other end is made afresh
 unfoldable pub freshAt : Field → ℕ → Run → ℕ → Run

@@ -1,66 +1,28 @@
 -- The masses are the model's, numbers with their sign clear, and the free variables are listed one by one. Assumes nothing.
-use Prim.Native.Nat.{ℕ, zero, suc, _+_, _*_, _^_, _<_, _≤_}
-use mathlib.Core.Path.{_≡_, refl, sym, ap, _∙_, subst}
+use Prim.Native.Nat.{ℕ, zero, suc, _+_, _<_, _≤_}
+use mathlib.Core.Path.{_≡_, refl, sym, ap, _∙_}
 use mathlib.Core.Bool.{Bool, true, false, cond}
-use mathlib.Core.List.{List, [], _∷_}
+use mathlib.Core.List.{List, append-nil}
 use native.Mathlib.Omega.{arith}
 use native.Mathlib.Decide.{ℕ-discrete}
 use borrow.Author.Tests.{eq-eqb, ne-eqb}
-use lib.Dec.{T, eqb, ltb}
+use lib.Dec.{T, eqb}
 use lib.ListN.{length, getD, set, replicate, length-set, length-replicate, getD-replicate}
 use lib.Seq.{getD-set-same, getD-set-other}
-use lib.Ieee.{Float, nan, inf, fin, Format, prec, emax, low, up, down, odd, units, round, sum, add, binary64, ofBits}
-use lib.Ieee.Fits.{round-is}
-use lib.Ieee.Scale.{finite}
+use lib.Ieee.{Float, nan, add, binary64, ofBits}
 use Rattle.weights.specs.Worth.{zero64, clear, magnitude}
+use Rattle.weights.proofs.Sign.{add-clear, magnitude-clear}
 use Rattle.scratch.specs.Region.{region}
 use Rattle.scratch.specs.Cleared.{cleared}
 use Rattle.scratch.proofs.Region.{region-above}
+use Rattle.meaning.specs.Free.{isFree, freeTo}
 use Rattle.field.specs.Field.{Field, variables, entries, rowEnd, columnEnd, quadOf}
 use Rattle.field.specs.Tests.{Finite}
-use Rattle.ranking.specs.Ranking.{bothFree, freeIn, massAtEnd, massAtEntry, massTo, freeBelow}
+use Rattle.ranking.specs.Ranking.{bothFree, massAtEnd, massAtEntry, massTo}
 use Rattle.ranking.specs.Masses.{added, addEntry, Massable, Massed, Outside, Listed}
-use Rattle.ranking.proofs.Ordered.{Every, every-append, nil-right}
 use Rattle.ranking.proofs.Words.{region-next}
 
--- ---- a sum of numbers with their sign clear is one
-
-odd-clear : (d q k l : ℕ) → T (clear (odd d false q k l))
-unfolding odd
-odd-clear d zero k l = tt
-odd-clear d (suc q) k l = tt
-
-units-clear : (f : Format) (q k : ℕ) → T (clear (units f false q k))
-unfolding units
-units-clear f q k = go (ltb (q * 2 ^ k) (2 ^ (low f + suc (emax f))))
-  where
-    go : (b : Bool) → T (clear (cond b (odd (suc (prec f)) false q k (low f)) (inf false)))
-    go true = odd-clear (suc (prec f)) q k (low f)
-    go false = tt
-
-round-clear : (f : Format) (num den : ℕ) → T (clear (round f false num den))
-round-clear f num den = subst (λ (x : Float). T (clear x)) (sym (round-is f false num den)) (units-clear f _ _)
-
-pub add-clear : (f : Format) (x y : Float) → T (clear x) → T (clear y) → T (clear (add f x y))
-unfolding add sum
-add-clear f nan y a b = absurd a
-add-clear f (inf true) y a b = absurd a
-add-clear f (inf false) nan a b = absurd b
-add-clear f (inf false) (inf true) a b = absurd b
-add-clear f (inf false) (inf false) a b = tt
-add-clear f (inf false) (fin t n d) a b = tt
-add-clear f (fin true m e) y a b = absurd a
-add-clear f (fin false m e) nan a b = absurd b
-add-clear f (fin false m e) (inf true) a b = absurd b
-add-clear f (fin false m e) (inf false) a b = tt
-add-clear f (fin false m e) (fin true n d) a b = absurd b
-add-clear f (fin false m e) (fin false n d) a b = round-clear f (m * up e * down d + n * up d * down e) (down e * down d)
-
-magnitude-clear : (x : Float) → T (finite x) → T (clear (magnitude x))
-unfolding magnitude
-magnitude-clear nan h = absurd h
-magnitude-clear (inf s) h = absurd h
-magnitude-clear (fin s m e) h = tt
+-- ---- the masses have their sign clear
 
 end-clear : (i e : ℕ) (a x : Float) → T (clear a) → T (clear x) → T (clear (massAtEnd i e a x))
 unfolding massAtEnd
@@ -176,19 +138,6 @@ massed-done {F} {k = k} M h = let e : k ≡ entries F = omega (arith, M .within)
 
 -- ---- the free variables in a list
 
-pub free-below : (s : List ℕ) (n : ℕ) → Every (λ i. i < n) (freeBelow s n)
-unfolding freeBelow
-free-below s zero = tt
-free-below s (suc n) = every-append (λ i. i < suc n) (freeBelow s n) _ (wider (freeBelow s n) (free-below s n)) (go (freeIn s n))
-  where
-    wider : (l : List ℕ) → Every (λ i. i < n) l → Every (λ i. i < suc n) l
-    wider [] h = tt
-    wider (x ∷ l) h = (omega (arith, h .0), wider l (h .1))
-
-    go : (b : Bool) → Every (λ i. i < suc n) (cond b (n ∷ []) [])
-    go true = (omega arith, tt)
-    go false = tt
-
 pub one-more : (count v : ℕ) → v ≡ 2 → count + 1 ≡ count + cond (eqb v 2) 1 0
 one-more count v h = rw (eq-eqb v 2 h)
 
@@ -196,7 +145,7 @@ pub no-more : (count v : ℕ) → (v ≡ 2 → ⊥) → count ≡ count + cond (
 no-more count v h = rw (ne-eqb v 2 h) (omega arith)
 
 pub listed-start : (s : List ℕ) (at n : ℕ) (u : List ℕ) → Listed s at n u u 0 0
-unfolding freeBelow region
+unfolding freeTo region
 listed-start s at n u = record {
   outside = record { long = refl; below = λ t h. refl; above = λ t h. refl };
   fewer = omega arith;
@@ -205,9 +154,9 @@ listed-start s at n u = record {
 }
 
 pub listed-turn : {s : List ℕ} {at n : ℕ} {u₀ u u' : List ℕ} {i count r : ℕ} → Listed s at n u₀ u i count → i < n → at + n ≤ length u₀
-    → u' ≡ set u (at + count) i → r ≡ count + cond (eqb (getD s i 0) 2) 1 0 → Listed s at n u₀ u' (i + 1) r
-unfolding freeBelow
-listed-turn {s} {at} {n} {u₀} {u} {u'} {i} {count} {r} L h room e f = rw e (go (eqb (getD s i 0) 2) refl f)
+    → u' ≡ set u (at + count) i → r ≡ count + cond (isFree s i) 1 0 → Listed s at n u₀ u' (i + 1) r
+unfolding freeTo
+listed-turn {s} {at} {n} {u₀} {u} {u'} {i} {count} {r} L h room e f = rw e (go (isFree s i) refl f)
   where
     z : suc i ≡ i + 1
     z = omega arith
@@ -219,7 +168,7 @@ listed-turn {s} {at} {n} {u₀} {u} {u'} {i} {count} {r} L h room e f = rw e (go
       above = λ t g. getD-set-other u (at + count) t i 0 (λ z. omega (arith, L .fewer)) ∙ L .outside .above t g;
     }
 
-    go : (b : Bool) → eqb (getD s i 0) 2 ≡ b → r ≡ count + cond b 1 0 → Listed s at n u₀ (set u (at + count) i) (i + 1) r
+    go : (b : Bool) → isFree s i ≡ b → r ≡ count + cond b 1 0 → Listed s at n u₀ (set u (at + count) i) (i + 1) r
     go true p f = let q : r ≡ count + 1 = f in rw q record {
       outside = outside;
       fewer = omega (arith, L .fewer);
@@ -230,7 +179,7 @@ listed-turn {s} {at} {n} {u₀} {u} {u'} {i} {count} {r} L h room e f = rw e (go
       outside = outside;
       fewer = omega (arith, L .fewer);
       within = omega arith;
-      listed = region-above at count u (at + count) i (omega arith) ∙ L .listed ∙ rw (sym z, p) (sym (nil-right (freeBelow s i)));
+      listed = region-above at count u (at + count) i (omega arith) ∙ L .listed ∙ rw (sym z, p) (sym (append-nil (freeTo s i)));
     }
 
 pub listed-done : {s : List ℕ} {at n : ℕ} {u₀ u : List ℕ} {i count : ℕ} → Listed s at n u₀ u i count → n ≤ i → Listed s at n u₀ u n count

@@ -7,9 +7,10 @@ use lib.ListN.{length, getD, set}
 use lib.Ieee.{Float, nan, binary64, add}
 use Rattle.weights.specs.Worth.{magnitude}
 use Rattle.scratch.specs.Region.{region}
+use Rattle.meaning.specs.Free.{freeTo}
 use Rattle.field.specs.Field.{Field, variables, entries, rowEnd, columnEnd, quadOf, Shaped}
 use Rattle.field.specs.Tests.{Finite}
-use Rattle.ranking.specs.Ranking.{bothFree, massTo, freeBelow, ranks}
+use Rattle.ranking.specs.Ranking.{bothFree, massTo, ranks}
 
 -- a is added to the mass at i
 unfoldable pub added : List Float → ℕ → Float → List Float
@@ -43,7 +44,7 @@ pub record Listed (s : List ℕ) (at n : ℕ) (u u' : List ℕ) (i count : ℕ) 
   pub outside : Outside at (at + n) u u'
   pub fewer : count ≤ i
   pub within : i ≤ n
-  pub listed : region at count u' ≡ freeBelow s i
+  pub listed : region at count u' ≡ freeTo s i
 
 -- what a ranking needs: finite weights, a mass for each variable, and two words for each from `at` on
 pub record Rankable (F : Field) (s : List ℕ) (w : List Float) (u : List ℕ) (at : ℕ) : Type 0 where

@@ -29,7 +29,7 @@ use Rattle.places.specs.Places.{otherEnd}
 use Rattle.places.proofs.Places.{other-below}
 use Rattle.places.proofs.Shape.{ends-below}
 use Rattle.places.proofs.Walk.{adjacent-front}
-use Rattle.run.specs.Run.{Run, noRow, force, settle, judged, scanAt, moved, moveRow, serveAt}
+use Rattle.run.specs.Run.{Run, noRow, withRow, force, settle, judged, scanAt, moved, moveRow, serveAt}
 use Rattle.run.specs.Cells.{Cells, cells, base, runIn, Placed, Does, Settled}
 use Rattle.meaning.proofs.Free.{frees-set}
 use Rattle.run.proofs.Cells.{does-same, does-as, does-then}
@@ -156,16 +156,15 @@ module _ {F : Field} {s : Cells} (P : Placed F s) {i : ℕ} (hi : i < variables 
         → Does F (λ run. scanAt run i) s (cells vs′ (s .floats) u′ r)
     scan-forced k S = does-as (λ run. scanAt run i) (judged-forced P hi of-row free k S) scans
 
--- ---- a place of a served variable
+-- ---- a row is put
 
--- row t is moved
-move-does : {F : Field} {s : Cells} → Placed F s → {t : ℕ} → t < variables F → (a : Float) (v : ℕ) {r : Row} → r ≡ moved (rowOn (s .floats) (variables F) t) a v
-    → Does F (λ run. moveRow run t a v) s (cells (s .values) (putRow (s .floats) (variables F) t r) (s .words) (s .tail))
-unfolding moveRow runIn
-move-does {F} {s} P {t} ht a v {r} e =
+pub put-does : {F : Field} {s : Cells} → Placed F s → {t : ℕ} → t < variables F → (r : Row)
+    → Does F (λ run. withRow run t r) s (cells (s .values) (putRow (s .floats) (variables F) t r) (s .words) (s .tail))
+unfolding runIn
+put-does {F} {s} P {t} ht r =
     let n = variables F in
     record {
-      run = rw (put-rows (s .floats) n t r ht (P .floats-room), e, getD-upTo (rowOn (s .floats) n) n t noRow ht);
+      run = rw (put-rows (s .floats) n t r ht (P .floats-room));
       kept = record {
         placed = record {
           shaped = P .shaped;
@@ -185,6 +184,8 @@ move-does {F} {s} P {t} ht a v {r} e =
       };
     }
 
+-- ---- a place of a served variable
+
 module _ {F : Field} {s : Cells} (P : Placed F s) (i : ℕ) {k t : ℕ} (hk : k < entries F) (et : t ≡ otherEnd (F .rows) (F .cols) i k) where
   pub target-below : t < variables F
   target-below = rw et (other-below (F .rows) (F .cols) i k (ends-below (P .shaped)) (omega (arith, P .shaped .rows-long)))
@@ -200,8 +201,10 @@ module _ {F : Field} {s : Cells} (P : Placed F s) (i : ℕ) {k t : ℕ} (hk : k 
       mid = cells (s .values) (putRow (s .floats) (variables F) t row) (s .words) (s .tail)
 
       moved-there : Does F (λ run. moveRow run t a v) s mid
-      unfolding mid
-      moved-there = move-does P target-below a v er
+      unfolding mid moveRow runIn
+      moved-there =
+          does-as (λ run. moveRow run t a v) (put-does P target-below row)
+          (rw (er, getD-upTo (rowOn (s .floats) (variables F)) (variables F) t noRow target-below))
 
       of-moved : found ≡ concludeOf (rowOn (mid .floats) (variables F) t) t
       unfolding mid

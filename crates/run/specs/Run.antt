@@ -3,9 +3,10 @@
 use Prim.Native.Nat.{ℕ, zero, suc}
 use mathlib.Core.Bool.{Bool, cond}
 use mathlib.Core.List.{List, [], _∷_, _++_}
-use lib.Dec.{eqb, ltb}
+use lib.Dec.{ltb}
 use lib.ListN.{length, getD, set}
 use lib.Ieee.{Float, nan}
+use Rattle.meaning.specs.Free as free
 use Rattle.field.specs.Field.{Field, variables}
 use Rattle.rows.specs.declared.Row.{Row}
 use Rattle.rows.specs.declared.Verdict.{Verdict}
@@ -28,7 +29,11 @@ abbrev pub rowFor : Run → ℕ → Row
 rowFor run t = getD (run .rows) t noRow
 
 abbrev pub isFree : Run → ℕ → Bool
-isFree run t = eqb (getD (run .values) t 0) 2
+isFree run t = free.isFree (run .values) t
+
+-- r is the row of t
+abbrev pub withRow : Run → ℕ → Row → Run
+withRow run t r = record { values = run .values; rows = set (run .rows) t r; queue = run .queue }
 
 -- t takes the value x, and goes to the end of the queue
 unfoldable pub force : Run → ℕ → ℕ → Run
@@ -61,7 +66,7 @@ abbrev pub moved : Row → Float → ℕ → Row
 moved r a v = addFixed (removeFree r a) a v
 
 unfoldable pub moveRow : Run → ℕ → Float → ℕ → Run
-moveRow run t a v = record { values = run .values; rows = set (run .rows) t (moved (rowFor run t) a v); queue = run .queue }
+moveRow run t a v = withRow run t (moved (rowFor run t) a v)
 
 -- variable i, whose value is v, at its place k: a free other end has its row moved and is judged
 unfoldable pub serveAt : Field → ℕ → ℕ → Run → ℕ → Run

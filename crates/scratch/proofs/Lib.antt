@@ -1,4 +1,5 @@
 pub mod All
 pub mod Cleared
 pub mod Means
+pub mod Over
 pub mod Region

@@ -7,6 +7,8 @@ use native.Mathlib.Omega.{arith}
 use lib.ListN.{getD, length-map}
 use lib.Ieee.{nan}
 use Rattle.whole.specs.Whole.{_≈_}
+use Rattle.scratch.specs.Over.{over}
+use Rattle.scratch.proofs.Over.{over-past}
 use Rattle.meaning.specs.Field.{twice-f}
 use Rattle.field.specs.declared.Counted.the-variants.{Counts, Refuses}
 use Rattle.field.specs.declared.Checked.{Checked}
@@ -20,10 +22,9 @@ use Rattle.field.specs.Grade.{gradeOf, Weighs}
 use Rattle.field.specs.Reading.{wholeOf}
 use Rattle.field.proofs.Table.{refused-exactly}
 use Rattle.field.proofs.Means.{loose-passes}
-use Rattle.shift.specs.Closing.{upFront, closedTo, closed}
+use Rattle.shift.specs.Closing.{closedTo, closed}
 use Rattle.shift.specs.Call.{Left, left, leaves, shiftCall}
 use Rattle.shift.specs.Shifted.{firstEntries, shifted, WholeIn}
-use Rattle.shift.proofs.Turns.{front-past}
 use Rattle.shift.proofs.Kept.{from, new-variables, shifted-standard, shifted-shaped}
 use Rattle.shift.proofs.Keeps as keeps
 
@@ -94,9 +95,9 @@ module _ (F : Field) where
     pub new-field : Shaped (firstEntries m (shiftCall F .lists)) × Standard (firstEntries m (shiftCall F .lists))
     new-field = subst (λ (G : Field). Shaped G × Standard G) (sym is-shifted) (shifted-shaped F (loose .shaped), shifted-standard F)
 
-    past : {A : Type 0} (a : ℕ → A) (old : List A) (d : A) (k : ℕ) → m ≤ k → getD (upFront (map a (from F)) old) k d ≡ getD old k d
+    past : {A : Type 0} (a : ℕ → A) (old : List A) (d : A) (k : ℕ) → m ≤ k → getD (over (map a (from F)) old) k d ≡ getD old k d
     unfolding closed closedTo
-    past a old d k h = front-past (map a (from F)) old k d (omega (arith, length-map (from F) a, new-m))
+    past a old d k h = over-past (map a (from F)) old k d (omega (arith, length-map (from F) a, new-m))
 
     -- Places past the new m are unchanged.
     pub past-unchanged : (k : ℕ) → m ≤ k

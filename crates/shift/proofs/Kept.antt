@@ -9,10 +9,12 @@ use native.Mathlib.Numerals.{add-one}
 use native.Mathlib.Omega.{arith}
 use borrow.Author.Tests.{eqb-false}
 use lib.ListN.{length, getD, take, length-append, length-map, List·getD-append}
-use lib.Seq.{getD-append-seam, take-at}
+use lib.Seq.{getD-append-seam}
 use lib.Ieee.{nan}
+use Rattle.scratch.specs.Over.{over}
+use Rattle.scratch.proofs.Over.{over-front}
 use Rattle.field.specs.Field.{Field, fieldOf, variables, entries, rowEnd, columnEnd, quadOf, Before, Shaped, Standard}
-use Rattle.shift.specs.Closing.{onDiagonal, linearTo, keptTo, upFront, closedTo, closed}
+use Rattle.shift.specs.Closing.{onDiagonal, linearTo, keptTo, closedTo, closed}
 use Rattle.shift.specs.Shifted.{shifted}
 use Rattle.shift.proofs.Turns.{kept-few, linear-long}
 
@@ -90,8 +92,8 @@ module _ (F : Field) where
   abbrev pub from : List ℕ
   from = keptTo F (entries F)
 
-  front : {A : Type 0} (g : ℕ → A) (old : List A) → take (length from) (upFront (map g from) old) ≡ map g from
-  front g old = take-at (map g from) _ (length from) (length-map from g)
+  front : {A : Type 0} (g : ℕ → A) (old : List A) → take (length from) (over (map g from) old) ≡ map g from
+  front g old = over-front (map g from) old (length-map from g)
 
   pub shifted-is : shifted F ≡ fieldOf (linearTo F (entries F)) (map (rowEnd F) from) (map (columnEnd F) from) (map (quadOf F) from)
   unfolding closed closedTo

@@ -6,9 +6,11 @@ use native.Mathlib.Nat.{le-antisymm}
 use native.Mathlib.Numerals.{add-one}
 use native.Mathlib.Omega.{arith}
 use lib.ListN.{length, getD, length-map}
+use Rattle.scratch.specs.Over.{over}
+use Rattle.scratch.proofs.Over.{length-over, over-past}
 use Rattle.field.specs.Field.{Field, entries, rowEnd, columnEnd, quadOf, Shaped}
-use Rattle.shift.specs.Closing.{Closable, linearTo, keptTo, upFront, Closing, closing, closedTo, closed, closeAt}
-use Rattle.shift.proofs.Turns.{front-long, front-past, kept-few, linear-long, closes-one}
+use Rattle.shift.specs.Closing.{Closable, linearTo, keptTo, Closing, closing, closedTo, closed, closeAt}
+use Rattle.shift.proofs.Turns.{kept-few, linear-long, closes-one}
 
 -- the lists G with m entries kept are what the first k entries of F leave, and as long as they were
 pub record Stands (F : Field) (k : ℕ) (G : Field) (m : ℕ) : Type 0 where
@@ -31,11 +33,11 @@ module _ {F : Field} (S : Shaped F) where
     quad-same = ap (λ (x : Closing). length (x .lists .quad)) e ∙ same (quadOf F) (F .quad) h;
   }
     where
-      same : {A : Type 0} (g : ℕ → A) (old : List A) → k ≤ length old → length (upFront (map g (keptTo F k)) old) ≡ length old
-      same g old l = front-long (map g (keptTo F k)) old (omega (arith, length-map (keptTo F k) g, kept-few F k))
+      same : {A : Type 0} (g : ℕ → A) (old : List A) → k ≤ length old → length (over (map g (keptTo F k)) old) ≡ length old
+      same g old l = length-over (map g (keptTo F k)) old (omega (arith, length-map (keptTo F k) g, kept-few F k))
 
   pub stands-start : Stands F 0 F 0
-  unfolding closedTo linearTo keptTo
+  unfolding closedTo linearTo keptTo over
   stands-start = record { within = omega arith; is = refl; linear-same = refl; rows-same = refl; cols-same = refl; quad-same = refl }
 
   -- the next entry is as it was given
@@ -49,7 +51,7 @@ module _ {F : Field} (S : Shaped F) where
     in-quad = omega (arith, s .quad-same);
     row-below =
         let e : getD (G .rows) k 0 ≡ rowEnd F k = ap (λ (x : Closing). getD (x .lists .rows) k 0) (s .is)
-        ∙ front-past (map (rowEnd F) (keptTo F k)) (F .rows) k 0 (omega (arith, length-map (keptTo F k) (rowEnd F), kept-few F k)) in
+        ∙ over-past (map (rowEnd F) (keptTo F k)) (F .rows) k 0 (omega (arith, length-map (keptTo F k) (rowEnd F), kept-few F k)) in
         omega (arith, S .row-below k h, s .linear-same);
   }
 

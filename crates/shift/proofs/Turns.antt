@@ -1,42 +1,19 @@
--- A list with its front replaced, and how one entry more is closed up. Assumes nothing.
-use Prim.Native.Nat.{ℕ, zero, suc, _+_, _-_, _<_, _≤_}
+-- How one entry more is closed up. Assumes nothing.
+use Prim.Native.Nat.{ℕ, zero, suc, _+_, _<_, _≤_}
 use mathlib.Core.Path.{_≡_, refl, sym, ap, _∙_}
 use mathlib.Core.Logic.{_≢_}
 use mathlib.Core.Bool.{Bool, true, false, cond}
-use mathlib.Core.List.{List, [], _∷_, _++_, map, append-assoc, map-append}
-use native.Mathlib.Numerals.{add-one}
+use mathlib.Core.List.{List, [], _∷_, _++_, map, map-append}
 use native.Mathlib.Omega.{arith}
 use borrow.Author.Tests.{eq-eqb, ne-eqb}
 use lib.Dec.{eqb}
-use lib.ListN.{length, getD, set, drop, length-append, length-map, length-drop, length-set}
-use lib.Seq.{getD-append-add, getD-drop, drop-cons, set-at}
+use lib.ListN.{length, getD, set, length-append, length-map, length-set}
 use lib.Ieee.{Float, nan, binary64, add, mul}
 use Rattle.weights.specs.Worth.{half64}
-use Rattle.field.specs.Field.{Field, fieldOf, entries, rowEnd, columnEnd, quadOf}
-use Rattle.shift.specs.Closing.{onDiagonal, intoLinear, linearTo, keptTo, upFront, closing, closedTo, closeAt}
-
--- ---- a list with its front replaced
-
-module _ {A : Type 0} (new old : List A) where
-  pub front-long : length new ≤ length old → length (upFront new old) ≡ length old
-  front-long h = omega (arith, length-append new (drop (length new) old), length-drop (length new) old)
-
-  -- past the front it is as it was
-  pub front-past : (k : ℕ) (d : A) → length new ≤ k → getD (upFront new old) k d ≡ getD old k d
-  front-past k d h =
-      let e : k ≡ length new + (k - length new) = omega arith in
-      ap (λ (j : ℕ). getD (upFront new old) j d) e
-      ∙ getD-append-add new (drop (length new) old) (k - length new) d
-      ∙ getD-drop (length new) old (k - length new) d
-      ∙ ap (λ (j : ℕ). getD old j d) (sym e)
-
-  -- one element more
-  pub front-more : (x : A) → length new < length old → set (upFront new old) (length new) x ≡ upFront (new ++ x ∷ []) old
-  front-more x h =
-      ap (λ (t : List A). set (new ++ t) (length new) x) (drop-cons old (length new) x h)
-      ∙ set-at new (getD old (length new) x) (drop (suc (length new)) old) x (length new) refl
-      ∙ sym (append-assoc new (x ∷ []) (drop (suc (length new)) old))
-      ∙ ap (λ (j : ℕ). (new ++ x ∷ []) ++ drop j old) (sym (length-append new (x ∷ []) ∙ add-one (length new)))
+use Rattle.scratch.specs.Over.{over}
+use Rattle.scratch.proofs.Over.{over-past, over-push}
+use Rattle.field.specs.Field.{Field, fieldOf, rowEnd, columnEnd, quadOf}
+use Rattle.shift.specs.Closing.{onDiagonal, intoLinear, linearTo, keptTo, closing, closedTo, closeAt}
 
 -- ---- the entries that are kept
 
@@ -83,14 +60,13 @@ module _ (k : ℕ) (G : Field) (kept : ℕ) {i j : ℕ} {x : Float} (ei : rowEnd
 
 module _ (F : Field) (k : ℕ) (in-rows : k < length (F .rows)) (in-cols : k < length (F .cols)) (in-quad : k < length (F .quad)) where
   -- past the kept entries each list is as it was given
-  past : {A : Type 0} (g : ℕ → A) (old : List A) (d : A) → getD (upFront (map g (keptTo F k)) old) k d ≡ getD old k d
-  past g old d = front-past (map g (keptTo F k)) old k d (omega (arith, length-map (keptTo F k) g, kept-few F k))
+  past : {A : Type 0} (g : ℕ → A) (old : List A) (d : A) → getD (over (map g (keptTo F k)) old) k d ≡ getD old k d
+  past g old d = over-past (map g (keptTo F k)) old k d (omega (arith, length-map (keptTo F k) g, kept-few F k))
 
-  more : {A : Type 0} (g : ℕ → A) (old : List A) → k < length old → set (upFront (map g (keptTo F k)) old) (length (keptTo F k)) (g k) ≡ upFront (map g (keptTo F k ++ k ∷ [])) old
+  more : {A : Type 0} (g : ℕ → A) (old : List A) → k < length old → set (over (map g (keptTo F k)) old) (length (keptTo F k)) (g k) ≡ over (map g (keptTo F k ++ k ∷ [])) old
   more {A} g old h =
-      ap (λ (j : ℕ). set (upFront (map g (keptTo F k)) old) j (g k)) (sym (length-map (keptTo F k) g))
-      ∙ front-more (map g (keptTo F k)) old (g k) (omega (arith, length-map (keptTo F k) g, kept-few F k))
-      ∙ ap (λ (t : List A). upFront t old) (sym (map-append g (keptTo F k) (k ∷ [])))
+      over-push (map g (keptTo F k)) old (length (keptTo F k)) (g k) (length-map (keptTo F k) g) (omega (arith, kept-few F k))
+      ∙ ap (λ (t : List A). over t old) (sym (map-append g (keptTo F k) (k ∷ [])))
 
   pub closes-one : closeAt k (closedTo F k) ≡ closedTo F (suc k)
   unfolding closedTo linearTo keptTo
@@ -101,8 +77,8 @@ module _ (F : Field) (k : ℕ) (in-rows : k < length (F .rows)) (in-cols : k < l
       by : (b : Bool) → cond b (closing (fieldOf (intoLinear F k (linearTo F k)) (closedTo F k .lists .rows) (closedTo F k .lists .cols) (closedTo F k .lists .quad)) (length (keptTo F k)))
           (closing (fieldOf (linearTo F k) (set (closedTo F k .lists .rows) (length (keptTo F k)) (rowEnd F k)) (set (closedTo F k .lists .cols) (length (keptTo F k)) (columnEnd F k))
           (set (closedTo F k .lists .quad) (length (keptTo F k)) (quadOf F k))) (length (keptTo F k) + 1))
-          ≡ closing (fieldOf (cond b (intoLinear F k (linearTo F k)) (linearTo F k)) (upFront (map (rowEnd F) (cond b (keptTo F k) (keptTo F k ++ k ∷ []))) (F .rows))
-          (upFront (map (columnEnd F) (cond b (keptTo F k) (keptTo F k ++ k ∷ []))) (F .cols)) (upFront (map (quadOf F) (cond b (keptTo F k) (keptTo F k ++ k ∷ []))) (F .quad)))
+          ≡ closing (fieldOf (cond b (intoLinear F k (linearTo F k)) (linearTo F k)) (over (map (rowEnd F) (cond b (keptTo F k) (keptTo F k ++ k ∷ []))) (F .rows))
+          (over (map (columnEnd F) (cond b (keptTo F k) (keptTo F k ++ k ∷ []))) (F .cols)) (over (map (quadOf F) (cond b (keptTo F k) (keptTo F k ++ k ∷ []))) (F .quad)))
           (length (cond b (keptTo F k) (keptTo F k ++ k ∷ [])))
       by true = refl
       by false = rw (more (rowEnd F) (F .rows) in-rows, more (columnEnd F) (F .cols) in-cols, more (quadOf F) (F .quad) in-quad, length-append (keptTo F k) (k ∷ []))

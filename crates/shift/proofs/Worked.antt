@@ -7,6 +7,7 @@ use lib.Ieee.{fin, add, mul, le, ofBits}
 use Rattle.weights.specs.Counts.{wholeIn}
 use Rattle.weights.specs.Worth.{magnitude}
 use Rattle.scratch.specs.All.{allBelow}
+use Rattle.scratch.specs.Over.{over}
 use Rattle.field.specs.declared.Counted.the-variants.{Counts}
 use Rattle.field.specs.declared.Grade.the-variants.{Inexact}
 use Rattle.field.specs.Field.{fieldOf}
@@ -29,5 +30,5 @@ pub worked : shiftCall
     (0 ∷ 0 ∷ 1 ∷ [])
     (1 ∷ 1 ∷ 1 ∷ [])
     (fin false 1 (pos 1) ∷ fin false 1 (pos 1) ∷ fin false 1 (pos 2) ∷ []))
-unfolding shiftCall leaves tested looseTests shapeTests fewVariables listsMatch inOrder offDiagonal weightsFinite endsBelow allRise allFinite allBelow gradeOf isExact allWeigh weighs wholeIn magnitude closed closedTo linearTo keptTo add mul le ofBits
+unfolding shiftCall leaves tested looseTests shapeTests fewVariables listsMatch inOrder offDiagonal weightsFinite endsBelow allRise allFinite allBelow gradeOf isExact allWeigh weighs wholeIn magnitude closed closedTo linearTo keptTo over add mul le ofBits
 worked = refl

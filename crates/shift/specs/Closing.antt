@@ -4,12 +4,13 @@ use Prim.Native.Nat.{ℕ, zero, suc, _+_, _<_, _≤_}
 use mathlib.Core.Bool.{Bool, cond}
 use mathlib.Core.List.{List, [], _∷_, _++_, map}
 use lib.Dec.{eqb}
-use lib.ListN.{length, getD, set, drop}
+use lib.ListN.{length, getD, set}
 use lib.Ieee.{Float, nan, binary64, add, mul}
 use denote.Ref.{RefT}
 use denote.Triple.Both.{Both}
 use Rattle.weights.specs.Worth.{half64}
 use Rattle.scratch.specs.Lent.{after}
+use Rattle.scratch.specs.Over.{over}
 use Rattle.field.specs.Field.{Field, fieldOf, variables, entries, rowEnd, columnEnd, quadOf}
 
 -- ---- what is promised
@@ -32,10 +33,6 @@ unfoldable pub keptTo : Field → ℕ → List ℕ
 keptTo F zero = []
 keptTo F (suc k) = cond (onDiagonal F k) (keptTo F k) (keptTo F k ++ k ∷ [])
 
--- "entries close up in place", "places past it are unchanged"
-abbrev pub upFront : {A : Type 0} → List A → List A → List A
-upFront new old = new ++ drop (length new) old
-
 -- four lists, and how many entries are kept at their front
 pub record Closing : Type 0 where
   pub lists : Field
@@ -44,15 +41,15 @@ pub record Closing : Type 0 where
 abbrev pub closing : Field → ℕ → Closing
 closing G m = record { lists = G; kept = m }
 
--- after the first k entries
+-- after the first k entries: "entries close up in place", "places past it are unchanged"
 unfoldable pub closedTo : Field → ℕ → Closing
 closedTo F k =
     closing
     (fieldOf
     (linearTo F k)
-    (upFront (map (rowEnd F) (keptTo F k)) (F .rows))
-    (upFront (map (columnEnd F) (keptTo F k)) (F .cols))
-    (upFront (map (quadOf F) (keptTo F k)) (F .quad)))
+    (over (map (rowEnd F) (keptTo F k)) (F .rows))
+    (over (map (columnEnd F) (keptTo F k)) (F .cols))
+    (over (map (quadOf F) (keptTo F k)) (F .quad)))
     (length (keptTo F k))
 
 -- after all of them

@@ -19,13 +19,14 @@ use Rattle.run.proofs.Room.{free-after}
 use Rattle.probing.specs.Remembered.{Remembers, Probes}
 use Rattle.workspace.specs.Restored.{From, Touched}
 use Rattle.workspace.proofs.Theorems.{start-with, probe-values, probe-forced, probe-restores, restored-floats, restored-remembers}
-use Rattle.twin.specs.Finds.{givesAt}
-use Rattle.twin.specs.Emit.{layTo, Layable}
+use Rattle.finding.specs.Finds.{givesAt}
+use Rattle.finding.specs.Emit.{layTo, Layable}
+use Rattle.finding.proofs.Copied.{paste-front, paste-inside, paste-behind, front-by}
+use Rattle.finding.proofs.Laid.{lay-long, lay-others, lay-at}
+use Rattle.finding.proofs.Chosen.{closure-room, closure-freed}
+use Rattle.finding.proofs.Given.{gives-self, gives-start, gives-new}
 use Rattle.twin.specs.Twin.{firstAt, keptAt, Twinnable, Halfway, Beside}
-use Rattle.twin.proofs.Framed.{paste-front, paste-inside, paste-behind, front-by, remembers-front, touched-front, probe-behind}
-use Rattle.twin.proofs.Laid.{lay-long, lay-others, lay-at}
-use Rattle.twin.proofs.Chosen.{closure-room, closure-freed}
-use Rattle.twin.proofs.Given.{gives-self, gives-start, gives-new}
+use Rattle.twin.proofs.Framed.{remembers-front, touched-front, probe-behind}
 
 -- the values are the start values where a probe begins
 pub probe-asks : {F : Field} {vs s : List ℕ} → vs ≡ s → {f : List Float} {u : List ℕ} {many : ℕ} → Remembers F s f u many → (i v : ℕ) → getD s i 0 ≡ 2 → v < 2

@@ -1,12 +1,3 @@
-pub mod Cases
-pub mod Codes
-pub mod Emitted
-pub mod Entered
-pub mod Entering
-pub mod Listing
 pub mod Framed
-pub mod Laid
-pub mod Chosen
-pub mod Given
 pub mod Halfway
 pub mod Twinned

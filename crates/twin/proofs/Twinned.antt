@@ -20,16 +20,17 @@ use Rattle.probing.proofs.Probing.{probed-below}
 use Rattle.workspace.specs.Restored.{Touched}
 use Rattle.workspace.proofs.Theorems.{start-with, probe-values, probe-restores, restored-floats, restored-remembers}
 use Rattle.probe.specs.Found.{nothing}
-use Rattle.twin.specs.Finds.{wins, givesAt, findingOf, finding, constraintsTo}
-use Rattle.twin.specs.Emit.{layTo, Layable, bench, findingIn, emitTo, chosenTo, Emittable}
+use Rattle.finding.specs.Finds.{wins, givesAt, findingOf, finding, constraintsTo}
+use Rattle.finding.specs.Emit.{layTo, Layable, bench, findingIn, emitTo, chosenTo, Emittable}
+use Rattle.finding.proofs.Entered.{gathering-same}
+use Rattle.finding.proofs.Entering.{Enters, enters-then, enters-as, enters-values, enters-gathers}
+use Rattle.finding.proofs.Listing.{Listed, emit-enters, emit-most}
+use Rattle.finding.proofs.Copied.{front-by}
+use Rattle.finding.proofs.Laid.{lay-long, lay-others, lay-at}
+use Rattle.finding.proofs.Chosen.{chosen-most, chosen-frees, closure-room}
+use Rattle.finding.proofs.Given.{gives-self, gives-start, gives-twice, finds-none, finding-from}
 use Rattle.twin.specs.Twin.{firstAt, valuesAt, keptAt, EndFor, Halfway, Beside, Twinned}
-use Rattle.twin.proofs.Entered.{gathering-same}
-use Rattle.twin.proofs.Entering.{Enters, enters-then, enters-as, enters-values, enters-gathers}
-use Rattle.twin.proofs.Listing.{Listed, emit-enters, emit-most}
-use Rattle.twin.proofs.Framed.{front-by, remembers-front, touched-front, probe-behind}
-use Rattle.twin.proofs.Laid.{lay-long, lay-others, lay-at}
-use Rattle.twin.proofs.Chosen.{chosen-most, chosen-frees, closure-room}
-use Rattle.twin.proofs.Given.{gives-self, gives-start, gives-twice, finds-none, finding-from}
+use Rattle.twin.proofs.Framed.{remembers-front, touched-front, probe-behind}
 use Rattle.twin.proofs.Halfway.{queue-few}
 
 finding-is : (F : Field) (s : List ℕ) (i j : ℕ) {w : List ℕ} → w ≡ closure F (set s i 1) → findingOf s i (closure F (set s i 0)) w j ≡ finding F s i j

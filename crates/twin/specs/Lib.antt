@@ -1,3 +1,1 @@
-pub mod Finds
-pub mod Emit
 pub mod Twin

@@ -12,7 +12,7 @@ use Rattle.run.specs.Cells.{base}
 use Rattle.run.specs.Run.{closure}
 use Rattle.probing.specs.Remembered.{Remembers}
 use Rattle.workspace.specs.Restored.{From}
-use Rattle.twin.specs.Finds.{wins, givesAt, finding, constraintsTo}
+use Rattle.finding.specs.Finds.{wins, givesAt, finding, constraintsTo}
 
 -- where the values that the probe at 0 gives are remembered, 2 for none: behind the queue and the list of what is strict
 abbrev pub firstAt : Field → ℕ

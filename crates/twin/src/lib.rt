@@ -1,10 +1,7 @@
 // Both probes of one candidate.
-pub mod emitting;
-pub mod finding;
-
-use crate::emitting::emit_list;
-use crate::emitting::keep;
-use crate::emitting::lay;
+use finding::emitting::emit_list;
+use finding::emitting::keep;
+use finding::emitting::lay;
 use workspace::restoring::restore;
 ghost use mathlib.Core.Path.{_≡_};
 ghost use Rattle.scratch.specs.Lent.{before, after};

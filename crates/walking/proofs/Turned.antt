@@ -26,9 +26,9 @@ use Rattle.found.proofs.Holding.{stays-full, words-left}
 use Rattle.field.specs.Field.{Field, variables}
 use Rattle.rows.proofs.Upto.{length-upTo, getD-upTo}
 use Rattle.places.proofs.Slices.{front-getD}
-use Rattle.twin.specs.Finds.{wins, finding, valuesAfter, constraintsOf, valuesOf}
+use Rattle.finding.specs.Finds.{wins, finding, valuesAfter, constraintsOf, valuesOf}
+use Rattle.finding.proofs.Entering.{to-more}
 use Rattle.twin.specs.Twin.{firstAt, valuesAt, Twinnable, Twinned}
-use Rattle.twin.proofs.Entering.{to-more}
 use Rattle.twin.proofs.Framed.{remembers-front}
 use Rattle.walking.specs.Walk.{candidatesAt, gatherAt, roomed, endAfter, heldOf, Walkable, Stands, Walks, Walked, holds, full}
 

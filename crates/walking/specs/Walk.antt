@@ -15,7 +15,7 @@ use Rattle.found.specs.Flush.{Left, left, flushed}
 use Rattle.found.specs.Holding.{Gathering}
 use Rattle.field.specs.Field.{Field, variables}
 use Rattle.probing.specs.Remembered.{Remembers}
-use Rattle.twin.specs.Finds.{constraintsOf, valuesOf}
+use Rattle.finding.specs.Finds.{constraintsOf, valuesOf}
 use Rattle.twin.specs.Twin.{firstAt, valuesAt}
 
 -- where the candidates stand, behind the probe values

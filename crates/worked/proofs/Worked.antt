@@ -5,35 +5,33 @@ use lib.Ieee.{add, sub, mul, neg, le, lt, eq, ne, ofInt, ofBits}
 use Rattle.weights.specs.Counts.{wholeIn}
 use Rattle.weights.specs.Worth.{magnitude}
 use Rattle.scratch.specs.All.{allBelow}
+use Rattle.scratch.specs.Over.{over}
 use Rattle.meaning.specs.Passes as passes
 use Rattle.meaning.specs.Literal as literal
-use Rattle.meaning.specs.Free.{frees}
+use Rattle.meaning.specs.Free.{frees, freeTo}
 use Rattle.expansion.specs.Sum as expansion
 use Rattle.constraints.specs.Triple.{flat, filled, triples}
 use Rattle.constraints.specs.Sorted as sorted
 use Rattle.field.specs.Table.{tested}
 use Rattle.field.specs.Tests.{endsBelow, allRise, allFinite, bytesSmall, fewVariables, listsMatch, inOrder, offDiagonal, weightsFinite, startFits, floatsFit, wordsFit, shapeTests, looseTests, standardTests, readyTests}
 use Rattle.field.specs.Grade.{weighs, allWeigh, isExact, gradeOf}
+use Rattle.field.specs.Call as values
 use Rattle.rows.specs.Row.{addTerm}
 use Rattle.rows.specs.Model as rows
 use Rattle.rows.specs.Stored.{upTo}
 use Rattle.places.specs.Places.{places, placesFrom, keep, otherEnd}
 use Rattle.run.specs.Run as run
-use Rattle.closure.specs.Call as closure
 use Rattle.parts.specs.Walk as walk
 use Rattle.masks.specs.Masks as masks
 use Rattle.enumeration.specs.Terms as terms
 use Rattle.components.specs.Small as small
-use Rattle.components.specs.Call as components
 use Rattle.no_effect.specs.Effect as effect
 use Rattle.preprocess.specs.Working as working
-use Rattle.preprocess.specs.Call as preprocess
 use Rattle.heavy.specs.Rounds as rounds
-use Rattle.heavy.specs.Call as heavy
 use Rattle.probe.specs.Found.{found}
 use Rattle.probe.specs.Call as probe
 use Rattle.ranking.specs.Ranking as ranking
-use Rattle.twin.specs.Finds as finds
+use Rattle.finding.specs.Finds as finds
 use Rattle.probes.specs.Call as probes
 use Rattle.margins.specs.Model as margins
 use Rattle.pairs.specs.Listing as listing
@@ -48,10 +46,10 @@ use Rattle.worked.specs.Cases.{cases, given, expected}
 -- each call's promise gives exactly the answer of the list, and leaves exactly what it says in all that was lent
 pub worked : map given cases ≡ map expected cases
 unfolding given expected
-    closure.closureCall closure.leaves components.componentsCall components.leaves preprocess.preprocessCall preprocess.leaves heavy.heavyCall heavy.leaves
-    probe.probeOneCall probe.leaves probe.filled probe.probeOne probe.newOnly probe.newAt probe.probeTests probe.mayProbe
-    probes.probeCall probes.probeLimitedCall probes.candidatesCall probes.leaves probes.given probes.fits probes.allValues probes.allConstraints probes.freeTo
-    pairs.pairsCall pairs.leaves pairs.answered anchors.anchorsCall anchors.leaves anchors.listed anchors.over anchors.anchorTests
+    values.valuesCall values.leaves
+    probe.probeOneCall probe.leaves probe.answered probe.probeOne probe.newOnly probe.newAt probe.probeTests probe.mayProbe
+    probes.probeCall probes.probeLimitedCall probes.candidatesCall probes.leaves probes.answered probes.fits probes.allValues probes.allConstraints
+    pairs.pairsCall pairs.leaves pairs.answered anchors.anchorsCall anchors.leaves anchors.answered anchors.anchorTests
     propagation.propagateCall propagation.leaves propagation.ends literals.propagationTests literals.constraintsFit literals.allFit
     tested readyTests standardTests looseTests shapeTests fewVariables listsMatch inOrder offDiagonal weightsFinite startFits floatsFit wordsFit
     endsBelow allRise allFinite bytesSmall allBelow gradeOf isExact allWeigh weighs wholeIn magnitude
@@ -63,13 +61,13 @@ unfolding given expected
     terms.linearAt terms.linearFrom terms.linearPart terms.stands terms.entryFrom terms.entryOf terms.linearTerms terms.termAt terms.pairTerm
     terms.columnTerms terms.pairTerms terms.termsOf terms.maskOf terms.putTo terms.solved
     effect.untouched effect.hasNoEffect working.fixAt working.fixTo working.withNoEffect working.preprocess
-    rounds.laidAt rounds.laidOver rounds.probeValues rounds.round rounds.rounds rounds.heavy frees
-    ranking.massAtEnd ranking.massAtEntry ranking.massTo ranking.massOf ranking.ahead ranking.insert ranking.ordered ranking.freeBelow ranking.ranks
+    rounds.laidAt rounds.laidOver rounds.probeValues rounds.round rounds.rounds rounds.heavy frees freeTo
+    ranking.massAtEnd ranking.massAtEntry ranking.massTo ranking.massOf ranking.ahead ranking.insert ranking.ordered ranking.ranks
     found finds.added finds.wins finds.givesAt finds.findingOf finds.finding finds.constraintsTo finds.valuesAfter finds.constraintsOf finds.valuesOf
-    sorted.before sorted.insert sorted.sortedSet flat filled triples
+    sorted.before sorted.insert sorted.sortedSet flat filled over triples
     margins.atEnd margins.overEnds margins.mergedWeight margins.widen margins.neighbour margins.boundsTo margins.boundsOf margins.signOf margins.signsOf
     margins.sumKinds margins.diffKinds margins.pairSigns margins.pairKinds
-    listing.freeTo listing.withEach listing.pairsOf listing.pairTriples listing.foundIn listing.found
+    listing.withEach listing.pairsOf listing.pairTriples listing.foundIn listing.found
     expansion.splitOf expansion.kept expansion.inFront expansion.carried expansion.plus expansion.comesToZero
     sums.balanceAt sums.balanceOver sums.balanceOf sums.balanced sums.weightAt sums.weightOver sums.weightOf
     anchored.against anchored.leadOver anchored.leads anchored.turnable anchored.allTurnable anchored.anchorIn anchored.marksAt anchored.newAt

@@ -14,6 +14,7 @@ use Rattle.field.specs.declared.Checked.the-variants.{Passed, Failed}
 use Rattle.field.specs.declared.Answer.the-variants.{Done}
 use Rattle.field.specs.declared.Counted.the-variants.{Counts}
 use Rattle.field.specs.Field.{Field, variables, entries}
+use Rattle.field.specs.Call as values
 use Rattle.closure.specs.Call as closure
 use Rattle.components.specs.Call as components
 use Rattle.preprocess.specs.Call as preprocess
@@ -24,7 +25,7 @@ use Rattle.pairs.specs.declared.Paired.the-variants as paired
 use Rattle.pairs.specs.Call as pairs
 use Rattle.anchors.specs.Call as anchors
 use Rattle.propagation.specs.Call as propagation
-use Rattle.worked.specs.Fields.{nought, half, minus-half, minus-one, two, minus-two, four, minus-five, six, alone, joined, apart, swallowing, unbalanced, with-zero, parted, two-pairs, linked, at-tolerance}
+use Rattle.worked.specs.Fields.{nought, half, minus-half, minus-one, two, minus-two, four, minus-five, six, alone, joined, apart, opposed, swallowing, unbalanced, with-zero, parted, two-pairs, linked, at-tolerance}
 
 -- a call, the field with its grade, the start values, what else it is given, and what it answers
 pub data Case : Type 0 where
@@ -85,6 +86,10 @@ cases =
     ∷ compares at-tolerance Inexact (2 ∷ 2 ∷ []) [] 0 1
     -- "The Rust forces 0,0,1,1, the port too, graded inexact"
     ∷ closes swallowing Inexact (2 ∷ 2 ∷ 2 ∷ 2 ∷ []) (0 ∷ 0 ∷ 1 ∷ 1 ∷ [])
+    -- enumerated, the same field gives the best completion
+    ∷ completes swallowing Inexact (2 ∷ 2 ∷ 2 ∷ 2 ∷ []) (1 ∷ 0 ∷ 1 ∷ 0 ∷ [])
+    -- "Merging (i,j) with (j,i) in the gradient: the source bounds them one by one."
+    ∷ closes opposed Exact (2 ∷ 2 ∷ []) (2 ∷ 2 ∷ [])
     -- "a start value of 1 is kept in the answer"
     ∷ preprocesses (alone (nought ∷ [])) Exact (1 ∷ []) (1 ∷ [])
     -- preprocess leaves heavy's first round nothing; eleven variables need a second one
@@ -115,7 +120,7 @@ cases =
 
 -- the answer and all that was lent, as each call's promise has them
 pub data Outcome : Type 0 where
-  in-start : closure.Left → Outcome
+  in-start : values.Left → Outcome
   in-found : probe.Left → Outcome
   in-both : probes.Left → Outcome
   in-pairs : pairs.Left → Outcome
@@ -154,10 +159,10 @@ given (propagates s k r t) = in-literals (propagation.propagateCall s k (constra
 
 -- what the list says: the answer, the values or the list with what is past it, and scratch that is all zeros
 unfoldable pub expected : Case → Outcome
-expected (closes F g s t) = in-start (closure.left (Done g) t (cleared zero64 (floats F)) (cleared 0 (words F)))
-expected (completes F g s t) = in-start (closure.left (Done g) t (cleared zero64 (floats F)) (cleared 0 (words F)))
-expected (preprocesses F g s t) = in-start (closure.left (Done g) t (cleared zero64 (floats F)) (cleared 0 (words F)))
-expected (rounds F g s t) = in-start (closure.left (Done g) t (cleared zero64 (floats F)) (cleared 0 (words F)))
+expected (closes F g s t) = in-start (values.left (Done g) t (cleared zero64 (floats F)) (cleared 0 (words F)))
+expected (completes F g s t) = in-start (values.left (Done g) t (cleared zero64 (floats F)) (cleared 0 (words F)))
+expected (preprocesses F g s t) = in-start (values.left (Done g) t (cleared zero64 (floats F)) (cleared 0 (words F)))
+expected (rounds F g s t) = in-start (values.left (Done g) t (cleared zero64 (floats F)) (cleared 0 (words F)))
 expected (probes-one F g s i v t) = in-found (probe.left (Done g) t (cleared zero64 (floats F)) (cleared 0 (words F)))
 expected (probes-all F g s t k) = in-both (probes.left (Counts g (room k)) t (front k) (cleared zero64 (floats F)) (cleared 0 (words F)))
 expected (probes-some F g s limit t k) = in-both (probes.left (Counts g (room k)) t (front k) (cleared zero64 (floats F)) (cleared 0 (words F)))

@@ -56,6 +56,10 @@ joined c q = fieldOf c (0 ∷ []) (1 ∷ []) (q ∷ [])
 abbrev pub apart : Field
 apart = joined (minus-one ∷ minus-one ∷ minus-one ∷ []) four
 
+-- c=(-1,2), (1,0) 4, (0,1) -4: bounded one by one both rows are open; merged, the entries would cancel and force both
+abbrev pub opposed : Field
+opposed = fieldOf (minus-one ∷ two ∷ []) (1 ∷ 0 ∷ []) (0 ∷ 1 ∷ []) (four ∷ fin true 1 (pos 2) ∷ [])
+
 -- "the swallowed rate: c=(-1, 2^61, -2, -0.25), entries (0,1) -2^61, (0,2) 1, (0,3) 2"
 abbrev pub swallowing : Field
 swallowing =

@@ -40,7 +40,8 @@ slice-aggregate-answer-field-4 : tie.Need-slice-aggregate-answer-field-4
 slice-aggregate-answer-field-4 c = found-counted (c .before .before .before .before .before .before .before .before .before .before .before .before .before .before .before .before .before .parse .ensures) (c .before .before .before .before .before .parsed .given .1) .quad
 
 slice-reshare-prefix-answer-field-5 : tie.Need-slice-reshare-prefix-answer-field-5
-slice-reshare-prefix-answer-field-5 c = omega (arith, found-counted (c .before .before .before .before .before .before .before .before .before .before .before .before .before .before .before .before .before .parse .ensures) (c .before .before .before .before .before .parsed .given .1) .few-variables)
+slice-reshare-prefix-answer-field-5 c =
+    omega (arith, found-counted (c .before .before .before .before .before .before .before .before .before .before .before .before .before .before .before .before .before .parse .ensures) (c .before .before .before .before .before .parsed .given .1) .few-variables)
 
 slice-aggregate-answer-field-5 : tie.Need-slice-aggregate-answer-field-5
 slice-aggregate-answer-field-5 c = found-counted (c .before .before .before .before .before .before .before .before .before .before .before .before .before .before .before .before .before .before .parse .ensures) (c .before .before .before .before .before .before .parsed .given .1) .start
@@ -64,13 +65,10 @@ slice-aggregate-answer-field-6 c =
     )))
 
 answer-field-requires : tie.Need-answer-field-requires
-answer-field-requires c κs = (
-  front-fits (c .before .before .before .before .before .before .before .before .before .before .before .before .before .before .before .before .before .before .before .before .before .before .parse .ensures)
-      (now (c .before .before .before .before .before .before .before .before .before .before .before .before .before .before .before .before .before .before .before .before .before .before .before .before .before .before .before .before .before .before .before .before .before .before .before .before .before .before .args .values))
-      (c .before .before .before .before .before .before .before .before .before .before .parsed .given .1)
-      (c .before .before .before .before .before .before .before .before .before .before .before .before .before .before .before .before .before .before .before .before .before .before .before .before .before .before .before .before .before .before .before .before .before .before .before .before .before .before .pre .1 .0),
-  c .before .before .before .before .before .before .before .before .before .before .before .before .before .before .before .before .before .before .before .before .before .before .before .before .before .before .before .before .before .before .before .before .before .before .before .before .before .before .pre .1 .1,
-)
+answer-field-requires c κs =
+    let parsed = c .before .before .before .before .before .before .before .before .before .before .before .before .before .before .before .before .before .before .before .before .before .before in
+    let start = parsed .before .before .before .before .before .before .before .before .before .before .before .before .before .before .before .before in
+    (front-fits (parsed .parse .ensures) (now (start .args .values)) (c .before .before .before .before .before .before .before .before .before .before .parsed .given .1) (start .pre .1 .0), start .pre .1 .1)
 
 enum-told : tie.Need-enum-told
 enum-told c = search needs
@@ -106,7 +104,11 @@ same-length-9 : tie.Need-same-length-9
 same-length-9 c = search needs
 
 returns : tie.Need-returns
-returns c = as-written (field-text (c .before .before .before .before .before .before .before .before .before .before .before .before .before .before .before .before .before .before .before .before .before .before .before .before .before .before .before .before .before .before .before .parse .ensures) (c .before .before .before .before .before .before .before .before .before .before .before .before .before .before .before .before .before .before .before .parsed .given .1)) (c .before .before .before .before .before .before .before .before .answer-field .ensures)
+returns c =
+    let answered = c .before .before .before .before .before .before .before .before in
+    let told = answered .before .before .before .before .before .before .before .before .before .before .before in
+    let parsed = told .before .before .before .before .before .before .before .before .before .before .before .before in
+    as-written (field-text (parsed .parse .ensures) (told .parsed .given .1)) (answered .answer-field .ensures)
 
 same-length-10 : tie.Need-same-length-10
 same-length-10 c = search needs

@@ -1,8 +1,6 @@
 -- `components` tests, grades, works and clears. Assumes nothing.
-use mathlib.Core.Path.{refl, sym, _∙_}
-use lib.ListN.{length}
-use Rattle.field.proofs.Means.{ready-passes}
-use Rattle.components.proofs.Laws.{refused-call, done-call}
+use mathlib.Core.Path.{refl}
+use Rattle.field.proofs.ValuesCall.{tests-ready, ends-match, refused-call, done-call}
 use borrow.Author.Needs.{needs}
 use Rattle.components.proofs.components.Statement.{statement}
 use Rattle.components.proofs.components.Tie as tie
@@ -17,16 +15,16 @@ same-length : tie.Need-same-length
 same-length c = search needs
 
 returns : tie.Need-returns
-returns c = refused-call _ _ _ _ (sym (c .before .before .before .ready .ensures) ∙ c .before .checked .given .1)
+returns c = refused-call _ _ _ _ _ (c .before .before .before .ready .ensures) (c .before .checked .given .1)
 
 enum-told : tie.Need-enum-told
 enum-told c = search needs
 
 graded-requires : tie.Need-graded-requires
-graded-requires c κs = let shaped = ready-passes _ _ _ _ .0 (sym (c .before .before .ready .ensures) ∙ c .enum-told .given .1) .sound .shaped in shaped .rows-long ∙ sym (shaped .cols-long)
+graded-requires c κs = ends-match (tests-ready (c .before .before .ready .ensures) (c .enum-told .given .1))
 
 work-requires : tie.Need-work-requires
-work-requires c κs = ready-passes _ _ _ _ .0 (sym (c .before .before .before .before .before .before .ready .ensures) ∙ c .before .before .before .before .enum-told .given .1)
+work-requires c κs = tests-ready (c .before .before .before .before .before .before .ready .ensures) (c .before .before .before .before .enum-told .given .1)
 
 clear-floats-requires : tie.Need-clear-floats-requires
 clear-floats-requires c κs = search needs
@@ -45,13 +43,10 @@ same-length-4 c = search needs
 
 returns-2 : tie.Need-returns-2
 returns-2 c =
-    let worked = c .before .before .before .before .before .before .before .before .before .before .before .before .work in
-    let passed =
-    sym (c .before .before .before .before .before .before .before .before .before .before .before .before .before .before .before .before .before .before .before .ready .ensures)
-    ∙ c .before .before .before .before .before .before .before .before .before .before .before .before .before .before .before .before .before .enum-told .given .1 in
-    done-call _ _ _ _ _ (length (worked .last .1 .1 .1 .1 .1 .1 .0)) passed
-    (c .before .before .before .before .before .before .before .before .before .before .before .before .before .before .before .before .graded .ensures) (worked .ensures)
-    (c .before .before .before .before .before .before .clear-floats .ensures) refl (c .before .before .clear-words .ensures) (search needs)
+    let at-work = c .before .before .before .before .before .before .before .before .before .before .before .before in
+    let at-graded = at-work .before .before .before .before in
+    done-call _ _ _ _ _ (at-graded .before .before .before .ready .ensures) (at-graded .before .enum-told .given .1) (at-graded .graded .ensures) (at-work .work .ensures)
+    (c .before .before .before .before .before .before .clear-floats .ensures) refl (c .before .before .clear-words .ensures) (at-work .work .kept .1 .1 .1 .1 .1 .1 .0)
 
 pub components-spec : {M : Type 1} → statement M
 components-spec =

@@ -1,8 +1,9 @@
 -- `probe` tests, and works or refuses. Assumes nothing.
 use lib.ListN.{length}
+use Rattle.meaning.specs.Free.{freeTo}
 use Rattle.field.specs.Field.{fieldOf}
-use Rattle.probes.specs.Call.{freeTo, probeCall}
-use Rattle.probes.proofs.Answers.{ready-of, refused-call, room-call, answered-call}
+use Rattle.probes.specs.Call.{probeCall}
+use Rattle.probes.proofs.Answers.{ready-of, refused-call, room-call, settled-call}
 use borrow.Author.Needs.{needs}
 use Rattle.probes.proofs.probe.Statement.{statement}
 use Rattle.probes.proofs.probe.Tie as tie
@@ -83,7 +84,7 @@ returns-3 c =
     let start = at-ready .before .before .before .before .before .before .before .before .before .before in
     let a = start .args in
     let F = fieldOf (a .c .now) (a .rows .now) (a .cols .now) (a .q .now) in
-    answered-call F (a .start .now) (freeTo (a .start .now) (length (a .c .now)))
+    settled-call F (a .start .now) (freeTo (a .start .now) (length (a .c .now)))
     (a .values .now) (a .constraints .now) (a .f .now) (a .u .now) (at-ready .ready .ensures) (at-enum-told .enum-told .given .1) (at-probe-all .probe-all .ensures)
 
 pub probe-spec : {M : Type 1} → statement M

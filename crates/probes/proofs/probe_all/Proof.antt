@@ -1,11 +1,11 @@
 -- `probe_all` prepares, lists the free variables and settles. Assumes nothing.
 use mathlib.Core.Path.{_∙_}
 use Rattle.scratch.specs.Region.{region}
+use Rattle.meaning.specs.Free.{freeTo}
 use Rattle.field.specs.Field.{fieldOf, variables}
 use Rattle.walking.specs.Walk.{candidatesAt}
-use Rattle.probes.specs.Call.{freeTo}
 use Rattle.probes.proofs.Chosen.{free-room, free-are, free-standing}
-use Rattle.probes.proofs.Answers.{answered-as}
+use Rattle.probes.proofs.Answers.{settled-as}
 use borrow.Author.Needs.{needs}
 use Rattle.probes.proofs.probe_all.Statement.{statement}
 use Rattle.probes.proofs.probe_all.Tie as tie
@@ -72,7 +72,7 @@ returns c =
     let F = fieldOf (a .c .now) (a .rows .now) (a .cols .now) (a .q .now) in
     let p = at-prepare .prepare in
     let l = at-list-free .list-free in
-    answered-as F (a .start .now) (a .constraints .now) (region (candidatesAt F) (l .result) (l .last .1 .0)) (freeTo (a .start .now) (variables F))
+    settled-as F (a .start .now) (a .constraints .now) (region (candidatesAt F) (l .result) (l .last .1 .0)) (freeTo (a .start .now) (variables F))
     (p .last .1 .1 .1 .1 .1 .0) (a .values .now) (p .last .1 .1 .1 .1 .1 .1 .0) (a .f .now) (l .last .1 .0) (a .u .now) (at-settle .settle .ensures)
     (free-are (start .pre .0) (l .ensures)) (p .kept .1 .1 .1 .1 .1 .0) (p .kept .1 .1 .1 .1 .1 .1 .0) (l .kept .1 .0 ∙ p .kept .1 .1 .1 .1 .1 .1 .1 .0)
 

@@ -3,7 +3,7 @@ use lib.ListN.{length, take}
 use Rattle.field.specs.Field.{fieldOf}
 use Rattle.ranking.specs.Ranking.{ranks}
 use Rattle.probes.specs.Call.{probeLimitedCall}
-use Rattle.probes.proofs.Answers.{ready-of, refused-call, room-call, answered-call}
+use Rattle.probes.proofs.Answers.{ready-of, refused-call, room-call, settled-call}
 use borrow.Author.Needs.{needs}
 use Rattle.probes.proofs.probe_limited.Statement.{statement}
 use Rattle.probes.proofs.probe_limited.Tie as tie
@@ -87,7 +87,7 @@ returns-3 c =
     let start = at-ready .before .before .before .before .before .before .before .before .before .before in
     let a = start .args in
     let F = fieldOf (a .c .now) (a .rows .now) (a .cols .now) (a .q .now) in
-    answered-call F (a .start .now) (take (a .candidates) (ranks F (a .start .now)))
+    settled-call F (a .start .now) (take (a .candidates) (ranks F (a .start .now)))
     (a .values .now) (a .constraints .now) (a .f .now) (a .u .now) (at-ready .ready .ensures) (at-enum-told .enum-told .given .1) (at-probe-some .probe-some .ensures)
 
 pub probe-limited-spec : {M : Type 1} → statement M

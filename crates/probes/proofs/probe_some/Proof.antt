@@ -6,7 +6,7 @@ use Rattle.field.specs.Field.{fieldOf}
 use Rattle.ranking.specs.Ranking.{ranks}
 use Rattle.walking.specs.Walk.{candidatesAt}
 use Rattle.probes.proofs.Chosen.{ready-same, chosen-standing}
-use Rattle.probes.proofs.Answers.{answered-as}
+use Rattle.probes.proofs.Answers.{settled-as}
 use borrow.Author.Needs.{needs}
 use Rattle.probes.proofs.probe_some.Statement.{statement}
 use Rattle.probes.proofs.probe_some.Tie as tie
@@ -56,7 +56,7 @@ returns c =
     let F = fieldOf (a .c .now) (a .rows .now) (a .cols .now) (a .q .now) in
     let p = at-prepare .prepare in
     let h = at-choose .choose in
-    answered-as F (a .start .now) (a .constraints .now) (region (candidatesAt F) (h .result) (h .last .1 .1 .1 .1 .1 .1 .1 .0)) (take (a .candidates) (ranks F (a .start .now)))
+    settled-as F (a .start .now) (a .constraints .now) (region (candidatesAt F) (h .result) (h .last .1 .1 .1 .1 .1 .1 .1 .0)) (take (a .candidates) (ranks F (a .start .now)))
     (p .last .1 .1 .1 .1 .1 .0) (a .values .now) (h .last .1 .1 .1 .1 .1 .1 .0) (a .f .now) (h .last .1 .1 .1 .1 .1 .1 .1 .0) (a .u .now) (at-settle .settle .ensures)
     (h .ensures .are) (p .kept .1 .1 .1 .1 .1 .0) (h .kept .1 .1 .1 .1 .1 .1 .0 ∙ p .kept .1 .1 .1 .1 .1 .1 .0) (h .kept .1 .1 .1 .1 .1 .1 .1 .0 ∙ p .kept .1 .1 .1 .1 .1 .1 .1 .0)
 

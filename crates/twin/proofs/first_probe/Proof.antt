@@ -3,7 +3,6 @@ use mathlib.Core.Path.{sym, ap, _∙_}
 use native.Mathlib.Omega.{arith}
 use lib.ListN.{length}
 use Rattle.twin.proofs.Halfway.{probe-asks, from-start, keep-asks, lay-asks, laid-touched, half-floats, half-done, half-beside}
-use borrow.Author.Needs.{needs}
 use Rattle.twin.proofs.first_probe.Statement.{statement}
 use Rattle.twin.proofs.first_probe.Tie as tie
 

@@ -4,7 +4,6 @@ use native.Mathlib.Omega.{arith}
 use lib.ListN.{length}
 use Rattle.twin.proofs.Halfway.{probe-asks, from-start}
 use Rattle.twin.proofs.Twinned.{emit-asks, emit-asks-2, emitted-touched, emitted-long, lay-asks-2, second-floats, second-done}
-use borrow.Author.Needs.{needs}
 use Rattle.twin.proofs.second_probe.Statement.{statement}
 use Rattle.twin.proofs.second_probe.Tie as tie
 

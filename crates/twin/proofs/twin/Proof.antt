@@ -1,7 +1,6 @@
 -- `twin` makes both probes. Assumes nothing.
 use Rattle.twin.proofs.Twinned.{half-again, end-beside, twin-done}
 use mathlib.Core.Path.{_∙_}
-use borrow.Author.Needs.{needs}
 use Rattle.twin.proofs.twin.Statement.{statement}
 use Rattle.twin.proofs.twin.Tie as tie
 

@@ -61,8 +61,9 @@ twin-requires c κs = valuing-twin (c .before .before .before .before .before .b
 
 add-h : tie.Need-add-h Inv-loop μ-loop
 add-h c =
-    record
-    { fits = fits-next (c .before .before .before .before .before .before .before .before .before .before .before .before .loop-test .taken) (c .before .before .before .before .before .before .before .before .before .before .before .before .before .before .before .before .before .before .before .before .before .before .pre .0 .within) (c .before .before .before .before .before .before .before .before .before .before .before .before .before .before .before .before .before .before .before .before .before .before .pre .0 .few) }
+    let turn = c .before .before .before .before .before .before .before .before .before .before .before .before in
+    let start = turn .before .before .before .before .before .before .before .before .before .before in
+    record { fits = fits-next (turn .loop-test .taken) (start .pre .0 .within) (start .pre .0 .few) }
 
 loop-less : tie.Need-loop-less Inv-loop μ-loop
 loop-less c = less-next (c .before .before .before .before .before .before .before .before .before .before .before .before .loop-test .taken)

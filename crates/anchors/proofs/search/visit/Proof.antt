@@ -53,12 +53,11 @@ returns-2 c =
     (c .before .before .before .before .before .if1 .left) (c .before .before .before .walk .ensures) (c .if2 .taken)
 
 all-turnable-requires : tie.Need-all-turnable-requires
-all-turnable-requires c κs = (
-  walked-members (c .before .before .before .before .before .before .before .before .before .before .before .before .before .before .before .before .before .pre .0 .placed)
-      (c .before .before .before .before .before .before .before .before .before .before .before .before .before .before .before .before .before .pre .1 .0)
-      (c .before .before .before .before .before .before .before .if1 .left) (c .before .before .before .before .before .walk .ensures),
-  (c .before .before .before .before .before .before .before .before .before .before .before .before .before .before .before .before .before .pre .0 .start-long, (c .before .before .before .before .before .before .before .before .before .before .before .before .before .before .before .before .before .pre .0 .floats-room, c .before .before .before .before .before .before .before .before .before .before .before .before .before .before .before .before .before .pre .1 .1 .1)),
-)
+all-turnable-requires c κs =
+    let start = c .before .before .before .before .before .before .before .before .before .before .before .before .before .before .before .before .before in (
+      walked-members (start .pre .0 .placed) (start .pre .1 .0) (c .before .before .before .before .before .before .before .if1 .left) (c .before .before .before .before .before .walk .ensures),
+      (start .pre .0 .start-long, (start .pre .0 .floats-room, start .pre .1 .1 .1)),
+    )
 
 same-length-2 : tie.Need-same-length-2
 same-length-2 c = c .before .before .before .all-turnable .kept .1 .1 .1 .1 .1 .1 .1 .0

@@ -35,23 +35,45 @@ wide-short-requires-2 : tie.Need-wide-short-requires-2
 wide-short-requires-2 c κs = search needs
 
 shared-slice-read-add-at : tie.Need-shared-slice-read-add-at
-shared-slice-read-add-at c = let start = c .before .before .before .before .before .before .before .before .before .before .before .before .before .before in omega (arith, ends-in (start .pre .0) _ (start .pre .1), c .before .before .before .before .wide-short .ensures, c .before .before .wide-short2 .ensures)
+shared-slice-read-add-at c =
+    let column = c .before .before in
+    let row = column .before .before in
+    let start = row .before .before .before .before .before .before .before .before .before .before in
+    omega (arith, ends-in (start .pre .0) _ (start .pre .1), row .wide-short .ensures, column .wide-short2 .ensures)
 
 add-at-requires : tie.Need-add-at-requires
-add-at-requires c κs = let start = c .before .before .before .before .before .before .before .before .before .before .before .before .before .before in omega (arith, ends-in (start .pre .0) _ (start .pre .1), c .before .before .before .before .wide-short .ensures, c .before .before .wide-short2 .ensures)
+add-at-requires c κs =
+    let column = c .before .before in
+    let row = column .before .before in
+    let start = row .before .before .before .before .before .before .before .before .before .before in
+    omega (arith, ends-in (start .pre .0) _ (start .pre .1), row .wide-short .ensures, column .wide-short2 .ensures)
 
 shared-slice-read-add-at-2 : tie.Need-shared-slice-read-add-at-2
-shared-slice-read-add-at-2 c = let start = c .before .before .before .before .before .before .before .before .before .before .before .before .before .before .before .before .before .before .before in omega (arith, ends-in (start .pre .0) _ (start .pre .1), c .before .before .before .before .before .before .before .before .before .wide-short .ensures, c .before .before .before .before .before .before .before .wide-short2 .ensures)
+shared-slice-read-add-at-2 c =
+    let column = c .before .before .before .before .before .before .before in
+    let row = column .before .before in
+    let start = row .before .before .before .before .before .before .before .before .before .before in
+    omega (arith, ends-in (start .pre .0) _ (start .pre .1), row .wide-short .ensures, column .wide-short2 .ensures)
 
 add-at-requires-2 : tie.Need-add-at-requires-2
-add-at-requires-2 c κs = let start = c .before .before .before .before .before .before .before .before .before .before .before .before .before .before .before .before .before .before .before in omega (arith, ends-in (start .pre .0) _ (start .pre .1), c .before .before .before .before .before .before .before .before .before .wide-short .ensures, c .before .before .before .before .before .before .before .wide-short2 .ensures, c .before .before .before .before .add-at .kept)
+add-at-requires-2 c κs =
+    let added = c .before .before .before .before in
+    let column = added .before .before .before in
+    let row = column .before .before in
+    let start = row .before .before .before .before .before .before .before .before .before .before in
+    omega (arith, ends-in (start .pre .0) _ (start .pre .1), row .wide-short .ensures, column .wide-short2 .ensures, added .add-at .kept)
 
 same-length : tie.Need-same-length
 same-length c = search needs
 
 returns : tie.Need-returns
 unfolding addEntry
-returns c = c .before .before .add-at2 .ensures ∙ rw (c .before .before .before .before .before .before .before .add-at .ensures, c .before .before .before .before .before .before .before .before .before .before .before .before .before .before .half .ensures, c .before .before .before .before .before .before .before .before .before .before .before .before .wide-short .ensures, c .before .before .before .before .before .before .before .before .before .before .wide-short2 .ensures)
+returns c =
+    let added = c .before .before .before .before .before .before .before in
+    let column = added .before .before .before in
+    let row = column .before .before in
+    let halved = row .before .before in
+    c .before .before .add-at2 .ensures ∙ rw (added .add-at .ensures, halved .half .ensures, row .wide-short .ensures, column .wide-short2 .ensures)
 
 pub add-entry-spec : {M : Type 1} → statement M
 add-entry-spec =

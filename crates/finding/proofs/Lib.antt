@@ -1,0 +1,10 @@
+pub mod Cases
+pub mod Codes
+pub mod Emitted
+pub mod Entered
+pub mod Entering
+pub mod Listing
+pub mod Copied
+pub mod Laid
+pub mod Chosen
+pub mod Given
