@@ -59,7 +59,7 @@ pub fn solve(c: &[f64], rows: &[u16], cols: &[u16], q: &[f64], values: &mut [u8]
 }
 
 // The places, and the components by them.
-pub fn work(
+fn work(
     c: &[f64],
     rows: &[u16],
     cols: &[u16],

@@ -1,4 +1,5 @@
 // The words of an answer's line, in the order of docs/CASES.md, and which call has which.
+pub mod outcomes;
 pub mod shifted;
 
 use stream::lists::all_bytes;
@@ -73,7 +74,7 @@ fn is_early(number: u32) -> bool {
 }
 
 // Whether the call is one of these, whose codes follow each other.
-fn is_among(code: u8, first: u8, last: u8) -> bool {
+pub fn is_among(code: u8, first: u8, last: u8) -> bool {
     if code < first {
         return false;
     }
@@ -108,7 +109,7 @@ fn has_values(code: u8) -> bool {
 }
 
 // The start values, which stood in the contents from `at` on.
-pub fn put_values(
+fn put_values(
     out: &mut [u8],
     used: usize,
     code: u8,
@@ -131,7 +132,7 @@ pub fn put_values(
     put_promise(out, named, b"kept", is_kept)
 }
 
-pub fn put_pairs(out: &mut [u8], used: usize, code: u8, outcome: Outcome) -> usize
+fn put_pairs(out: &mut [u8], used: usize, code: u8, outcome: Outcome) -> usize
     ensures { λ r. ⌜ r ≤ length (after out) ⌝ }
 {
     if code != PAIRS {
@@ -202,13 +203,7 @@ fn put_answer_list(
     put_items(out, named, list, end, in_triples)
 }
 
-pub fn put_constraints(
-    out: &mut [u8],
-    used: usize,
-    code: u8,
-    outcome: Outcome,
-    list: &[u16],
-) -> usize
+fn put_constraints(out: &mut [u8], used: usize, code: u8, outcome: Outcome, list: &[u16]) -> usize
     ensures { λ r. ⌜ r ≤ length (after out) ⌝ }
 {
     if !is_among(code, PROBE, PAIRS) {
@@ -217,7 +212,7 @@ pub fn put_constraints(
     put_answer_list(out, used, b" constraints=", outcome, list, true)
 }
 
-pub fn put_variables(out: &mut [u8], used: usize, code: u8, outcome: Outcome, list: &[u16]) -> usize
+fn put_variables(out: &mut [u8], used: usize, code: u8, outcome: Outcome, list: &[u16]) -> usize
     ensures { λ r. ⌜ r ≤ length (after out) ⌝ }
 {
     if !is_among(code, ANCHORS, NO_EFFECT) {
@@ -227,7 +222,7 @@ pub fn put_variables(out: &mut [u8], used: usize, code: u8, outcome: Outcome, li
 }
 
 // The found values.
-pub fn put_found(out: &mut [u8], used: usize, code: u8, number: u32, found: &[u8]) -> usize
+fn put_found(out: &mut [u8], used: usize, code: u8, number: u32, found: &[u8]) -> usize
     ensures { λ r. ⌜ r ≤ length (after out) ⌝ }
 {
     if !is_among(code, SINGLE_PROBE, LIMITED_PROBE) {
@@ -280,17 +275,50 @@ fn put_words(out: &mut [u8], used: usize, number: u32, u: &[u32]) -> usize
 }
 
 // The scratch, and the line's end.
-pub fn put_scratch(
-    out: &mut [u8],
-    used: usize,
-    code: u8,
-    number: u32,
-    f: &[f64],
-    u: &[u32],
-) -> usize
+fn put_scratch(out: &mut [u8], used: usize, code: u8, number: u32, f: &[f64], u: &[u32]) -> usize
     ensures { λ r. ⌜ r ≤ length (after out) ⌝ }
 {
     let floats = put_floats(out, used, code, number, f);
     let words = put_words(out, floats, number, u);
     put(out, words, b'\n')
+}
+
+// The answer lists, where the call has them.
+fn put_answers(
+    out: &mut [u8],
+    used: usize,
+    code: u8,
+    outcome: Outcome,
+    found: &[u8],
+    list: &[u16],
+) -> usize
+    ensures { λ r. ⌜ r ≤ length (after out) ⌝ }
+{
+    let pairs = put_pairs(out, used, code, outcome);
+    let constraints = put_constraints(out, pairs, code, outcome, list);
+    let values = put_found(out, constraints, code, outcome.number, found);
+    put_variables(out, values, code, outcome, list)
+}
+
+// The whole line of a call that keeps the field; the start values stood in the contents from `at` on.
+pub fn put_line(
+    out: &mut [u8],
+    used: usize,
+    code: u8,
+    outcome: Outcome,
+    contents: &[u8],
+    at: usize,
+    start: &[u8],
+    found: &[u8],
+    list: &[u16],
+    f: &[f64],
+    u: &[u32],
+) -> usize
+    requires { ⌜ at + length (now start) ≤ length (now contents) ⌝ }
+    ensures { λ r. ⌜ r ≤ length (after out) ⌝ }
+{
+    let begun = put_outcome(out, used, code, outcome);
+    let values = put_values(out, begun, code, outcome.number, contents, at, start);
+    let answers = put_answers(out, values, code, outcome, found, list);
+    put_scratch(out, answers, code, outcome.number, f, u)
 }

@@ -7,9 +7,11 @@ ghost use lib.Dec.{ltb};
 ghost use lib.ListN.{length};
 ghost use Rattle.scratch.specs.Lent.{after};
 
+// The lesser of two.
 pub fn least(a: usize, b: usize) -> usize
     ensures { λ r. ⌜ r ≤ a ⌝ }
     ensures { λ r. ⌜ r ≤ b ⌝ }
+    ensures { λ r. ⌜ r ≡ cond (ltb a b) a b ⌝ }
 {
     if a < b { a } else { b }
 }

@@ -6,8 +6,8 @@ use borrow.Author.Needs.{needs}
 use Rattle.replay.proofs.fresh.answer.Statement.{statement}
 use Rattle.replay.proofs.fresh.answer.Tie as tie
 
-shift-anew-requires : tie.Need-shift-anew-requires
-shift-anew-requires c κs = search needs
+answer-shift-requires : tie.Need-answer-shift-requires
+answer-shift-requires c κs = search needs
 
 same-length : tie.Need-same-length
 same-length c = search needs
@@ -64,7 +64,7 @@ pub answer-spec : {M : Type 1} → statement M
 answer-spec =
     tie.close
     (tie.spec
-    shift-anew-requires
+    answer-shift-requires
     same-length
     returns
     list-requires

@@ -1,9 +1,9 @@
 -- `read_case` answers the case where its contents were there. Assumes nothing.
-use Rattle.replay.proofs.Parts.{fits-more}
+use Rattle.cases.proofs.Parts.{fits-more}
 use native.Mathlib.Omega.{arith}
 use borrow.Author.Needs.{needs}
-use Rattle.replay.proofs.read_case.Statement.{statement}
-use Rattle.replay.proofs.read_case.Tie as tie
+use Rattle.cases.proofs.reading.read_case.Statement.{statement}
+use Rattle.cases.proofs.reading.read_case.Tie as tie
 
 contents-requires : tie.Need-contents-requires
 contents-requires c κs = search needs

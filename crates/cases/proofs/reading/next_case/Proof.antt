@@ -1,8 +1,8 @@
 -- `next_case` passes a head on to be read. Assumes nothing.
-use Rattle.replay.proofs.Parts.{ready-case}
+use Rattle.cases.proofs.Parts.{ready-case}
 use borrow.Author.Needs.{needs}
-use Rattle.replay.proofs.next_case.Statement.{statement}
-use Rattle.replay.proofs.next_case.Tie as tie
+use Rattle.cases.proofs.reading.next_case.Statement.{statement}
+use Rattle.cases.proofs.reading.next_case.Tie as tie
 
 next-head-requires : tie.Need-next-head-requires
 next-head-requires c κs = search needs

@@ -2,8 +2,8 @@
 use mathlib.Core.Path.{sym}
 use lib.Seq.{length-take-le}
 use borrow.Author.Needs.{needs}
-use Rattle.replay.proofs.read.Statement.{statement}
-use Rattle.replay.proofs.read.Tie as tie
+use Rattle.cases.proofs.reading.read.Statement.{statement}
+use Rattle.cases.proofs.reading.read.Tie as tie
 
 slice-relend-prefix-read-full : tie.Need-slice-relend-prefix-read-full
 slice-relend-prefix-read-full c = search needs

@@ -1,7 +1,7 @@
 -- `next_head` answers a case only where it fits. Assumes nothing.
 use borrow.Author.Needs.{needs}
-use Rattle.replay.proofs.next_head.Statement.{statement}
-use Rattle.replay.proofs.next_head.Tie as tie
+use Rattle.cases.proofs.reading.next_head.Statement.{statement}
+use Rattle.cases.proofs.reading.next_head.Tie as tie
 
 slice-aggregate-read-full : tie.Need-slice-aggregate-read-full
 slice-aggregate-read-full c = search needs

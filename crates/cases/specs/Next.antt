@@ -1,7 +1,7 @@
 -- What is known of the next case. Assumes nothing.
 use Prim.Native.Nat.{ℕ}
-use Rattle.replay.specs.declared.Next.{Next}
-use Rattle.replay.specs.declared.Next.the-variants.{Case, Stop}
+use Rattle.cases.specs.declared.reading.Next.{Next}
+use Rattle.cases.specs.declared.reading.Next.the-variants.{Case, Stop}
 use Rattle.stream.specs.Heads.{Fits}
 
 -- the buffers hold a case, and its contents are among the bytes

@@ -1,0 +1,34 @@
+-- `take_linear` lends as much of the list as the head says. Assumes nothing.
+use Rattle.cases.proofs.Parts.{part-fits, linear-stands}
+use borrow.Author.Needs.{needs}
+use Rattle.cases.proofs.contents.take_linear.Statement.{statement}
+use Rattle.cases.proofs.contents.take_linear.Tie as tie
+
+slice-relend-prefix-take-floats : tie.Need-slice-relend-prefix-take-floats
+slice-relend-prefix-take-floats c = search needs
+
+slice-aggregate-take-floats : tie.Need-slice-aggregate-take-floats
+slice-aggregate-take-floats c =
+    let s = c .before .before .before in
+    part-fits _ (s .args .c .now) (s .pre .1)
+
+take-floats-requires : tie.Need-take-floats-requires
+take-floats-requires c κs =
+    let s = c .before .before .before in
+    linear-stands (s .args .head) (s .pre .0 .read) (part-fits _ (s .args .c .now) (s .pre .1))
+
+same-length : tie.Need-same-length
+same-length c = search needs
+
+returns : tie.Need-returns
+returns c = search needs
+
+pub take-linear-spec : {M : Type 1} → statement M
+take-linear-spec =
+    tie.close
+    (tie.spec
+    slice-relend-prefix-take-floats
+    slice-aggregate-take-floats
+    take-floats-requires
+    same-length
+    returns)

@@ -1,0 +1,38 @@
+-- `take_rows` lends as much of the list as the head says. Assumes nothing.
+use Rattle.cases.proofs.Parts.{part-fits, rows-stand}
+use borrow.Author.Needs.{needs}
+use Rattle.cases.proofs.contents.take_rows.Statement.{statement}
+use Rattle.cases.proofs.contents.take_rows.Tie as tie
+
+mul-at : tie.Need-mul-at
+mul-at c = search needs
+
+slice-relend-prefix-take-shorts : tie.Need-slice-relend-prefix-take-shorts
+slice-relend-prefix-take-shorts c = search needs
+
+slice-aggregate-take-shorts : tie.Need-slice-aggregate-take-shorts
+slice-aggregate-take-shorts c =
+    let s = c .before .before .before .before in
+    part-fits _ (s .args .rows .now) (s .pre .1)
+
+take-shorts-requires : tie.Need-take-shorts-requires
+take-shorts-requires c κs =
+    let s = c .before .before .before .before in
+    rows-stand (s .args .head) (s .pre .0 .read) (part-fits _ (s .args .rows .now) (s .pre .1))
+
+same-length : tie.Need-same-length
+same-length c = search needs
+
+returns : tie.Need-returns
+returns c = search needs
+
+pub take-rows-spec : {M : Type 1} → statement M
+take-rows-spec =
+    tie.close
+    (tie.spec
+    mul-at
+    slice-relend-prefix-take-shorts
+    slice-aggregate-take-shorts
+    take-shorts-requires
+    same-length
+    returns)

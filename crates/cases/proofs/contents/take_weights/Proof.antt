@@ -1,0 +1,54 @@
+-- `take_weights` lends as much of the list as the head says. Assumes nothing.
+use Rattle.cases.proofs.Parts.{part-fits, weights-stand}
+use borrow.Author.Needs.{needs}
+use Rattle.cases.proofs.contents.take_weights.Statement.{statement}
+use Rattle.cases.proofs.contents.take_weights.Tie as tie
+
+mul-at : tie.Need-mul-at
+mul-at c = search needs
+
+mul-at-2 : tie.Need-mul-at-2
+mul-at-2 c = search needs
+
+add-at : tie.Need-add-at
+add-at c = search needs
+
+mul-at-3 : tie.Need-mul-at-3
+mul-at-3 c = search needs
+
+add-at-2 : tie.Need-add-at-2
+add-at-2 c = search needs
+
+slice-relend-prefix-take-floats : tie.Need-slice-relend-prefix-take-floats
+slice-relend-prefix-take-floats c = search needs
+
+slice-aggregate-take-floats : tie.Need-slice-aggregate-take-floats
+slice-aggregate-take-floats c =
+    let s = c .before .before .before .before .before .before in
+    part-fits _ (s .args .q .now) (s .pre .1)
+
+take-floats-requires : tie.Need-take-floats-requires
+take-floats-requires c κs =
+    let s = c .before .before .before .before .before .before in
+    weights-stand (s .args .head) (s .pre .0 .read) (part-fits _ (s .args .q .now) (s .pre .1))
+
+same-length : tie.Need-same-length
+same-length c = search needs
+
+returns : tie.Need-returns
+returns c = search needs
+
+pub take-weights-spec : {M : Type 1} → statement M
+take-weights-spec =
+    tie.close
+    (tie.spec
+    mul-at
+    mul-at-2
+    add-at
+    mul-at-3
+    add-at-2
+    slice-relend-prefix-take-floats
+    slice-aggregate-take-floats
+    take-floats-requires
+    same-length
+    returns)

@@ -1,0 +1,71 @@
+-- `answer_in_parts` lends as many values as the head says. Assumes nothing.
+use native.Mathlib.Omega.{arith}
+use Rattle.cases.proofs.Parts.{part-fits, part-long, start-stands}
+use borrow.Author.Needs.{needs}
+use Rattle.replay.proofs.fresh.answer_in_parts.Statement.{statement}
+use Rattle.replay.proofs.fresh.answer_in_parts.Tie as tie
+
+fill-lent-requires : tie.Need-fill-lent-requires
+fill-lent-requires c κs = search needs
+
+start-values-requires : tie.Need-start-values-requires
+start-values-requires c κs = search needs
+
+start-at-requires : tie.Need-start-at-requires
+start-at-requires c κs = search needs
+
+array-borrow-prefix-start : tie.Need-array-borrow-prefix-start
+array-borrow-prefix-start c = search needs
+
+slice-aggregate-answer-call : tie.Need-slice-aggregate-answer-call
+slice-aggregate-answer-call c =
+    let s = c .before .before .before .before .before .before .before .before .before .before .before .before .before .before .before .before .before .before in
+    let a = c .before .before .start-values in
+    part-fits _ (a .result) (omega (arith, a .ok, s .pre .lists .start-fits))
+
+array-borrow-prefix-found : tie.Need-array-borrow-prefix-found
+array-borrow-prefix-found c = search needs
+
+slice-aggregate-answer-call-2 : tie.Need-slice-aggregate-answer-call-2
+slice-aggregate-answer-call-2 c =
+    let s = c .before .before .before .before .before .before .before .before .before .before .before .before .before .before .before .before .before .before .before in
+    part-long _ 4100 _ (s .pre .lent .found-fits)
+
+answer-call-requires : tie.Need-answer-call-requires
+answer-call-requires c κs =
+    let s = c .before .before .before .before .before .before .before .before .before .before .before .before .before .before .before .before .before .before .before .before .before .before .before in
+    let a = c .before .before .before .before .before .before .before .start-values in
+    (s .pre, start-stands (s .args .head) (s .pre .read) _ (c .before .before .before .before .before .before .start-at .ensures) (part-fits _ (a .result) (omega (arith, a .ok, s .pre .lists .start-fits))))
+
+same-length : tie.Need-same-length
+same-length c = search needs
+
+same-length-2 : tie.Need-same-length-2
+same-length-2 c = search needs
+
+same-length-3 : tie.Need-same-length-3
+same-length-3 c = search needs
+
+same-length-4 : tie.Need-same-length-4
+same-length-4 c = search needs
+
+returns : tie.Need-returns
+returns c = search needs
+
+pub answer-in-parts-spec : {M : Type 1} → statement M
+answer-in-parts-spec =
+    tie.close
+    (tie.spec
+    fill-lent-requires
+    start-values-requires
+    start-at-requires
+    array-borrow-prefix-start
+    slice-aggregate-answer-call
+    array-borrow-prefix-found
+    slice-aggregate-answer-call-2
+    answer-call-requires
+    same-length
+    same-length-2
+    same-length-3
+    same-length-4
+    returns)
