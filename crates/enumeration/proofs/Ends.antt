@@ -2,22 +2,16 @@
 use Prim.Native.Nat.{ℕ, _+_, _<_, _≤_}
 use mathlib.Core.Path.{_≡_}
 use mathlib.Core.List.{List, _∷_}
-use native.Mathlib.Omega.{arith}
 use lib.IntN.{pos}
 use lib.ListN.{getD}
 use lib.Ieee.{Float, binary64, add, mul, ofInt}
 use borrow.Author.Tests.{eq-eqb, ne-eqb}
-use Rattle.field.specs.Field.{Field, variables, entries, linearOf, Shaped}
+use Rattle.field.specs.Field.{Field, variables, linearOf}
 use Rattle.rows.specs.Model.{coeffOf}
-use Rattle.places.specs.Places.{places, otherEnd}
-use Rattle.places.proofs.Places.{other-below}
-use Rattle.places.proofs.Shape.{ends-below}
+use Rattle.places.specs.Places.{otherEnd}
 use Rattle.places.proofs.Walk.{Along, along-start, along-turn, along-end}
 use Rattle.enumeration.specs.Held.{Held}
 use Rattle.enumeration.specs.Terms.{linearAt, linearFrom, linearPart}
-
-pub end-below : {F : Field} → Shaped F → (i k : ℕ) → k < entries F → otherEnd (F .rows) (F .cols) i k < variables F
-end-below S i k h = other-below _ _ i k (ends-below S) (omega (arith, S .rows-long))
 
 module _ (F : Field) (s : List ℕ) (i : ℕ) (sum : Float) (k : ℕ) {t : ℕ} (et : t ≡ otherEnd (F .rows) (F .cols) i k) where
   pub end-free : getD s t 0 ≡ 2 → sum ≡ linearAt F s i sum k

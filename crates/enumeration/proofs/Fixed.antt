@@ -14,6 +14,7 @@ use borrow.Author.Tests.{eq-eqb, ne-eqb}
 use Rattle.whole.specs.Whole.{Whole, nothing, _⊕_, sum, Under}
 use Rattle.weights.specs.Worth.{Worth}
 use Rattle.weights.proofs.Worth.{add-worth, as-worth, times-worth}
+use Rattle.meaning.specs.Free.{isFree}
 use Rattle.meaning.specs.Gradient.{view, share, gradient}
 use Rattle.field.specs.Field.{Field, variables, entries, rowEnd, columnEnd, Shaped, StartFor}
 use Rattle.field.specs.Grade.{ExactIn}
@@ -63,7 +64,7 @@ module _ {u : ℕ} {F : Field} (shaped : Shaped F) (exact : ExactIn u F) {t : Li
             (rw (ne-eqb (rowEnd F k) i n, column n) (omega arith)))
       ]
     where
-      one-end : (j : ℕ) → Worth u (cond (eqb (getD t j 0) 2) x (add binary64 x (mul binary64 (coeffOf F k) (ofInt binary64 (pos (getD t j 0))))))
+      one-end : (j : ℕ) → Worth u (cond (isFree t j) x (add binary64 x (mul binary64 (coeffOf F k) (ofInt binary64 (pos (getD t j 0))))))
           (sofar k ⊕ share nothing (wholeOf u F .weight k) (getD t j 0))
       one-end j = end-worth (getD t j 0) (valid .small j) X (sofar-under k (omega arith)) (coeff-worth exact k h) (weight-under exact k h)
 

@@ -7,6 +7,7 @@ use lib.Dec.{eqb, ltb}
 use lib.IntN.{pos}
 use lib.ListN.{length, getD, set}
 use lib.Ieee.{Float, binary64, add, mul, ofInt}
+use Rattle.meaning.specs.Free.{isFree}
 use Rattle.field.specs.Field.{Field, entries, linearOf}
 use Rattle.rows.specs.Model.{coeffOf}
 use Rattle.places.specs.Places.{places, otherEnd}
@@ -16,8 +17,8 @@ use Rattle.masks.specs.Masks.{Term, term, objective, lowest}
 
 unfoldable pub linearAt : Field → List ℕ → ℕ → Float → ℕ → Float
 linearAt F s i sum k =
-    let v = getD s (otherEnd (F .rows) (F .cols) i k) 0 in
-    cond (eqb v 2) sum (add binary64 sum (mul binary64 (coeffOf F k) (ofInt binary64 (pos v))))
+    let j = otherEnd (F .rows) (F .cols) i k in
+    cond (isFree s j) sum (add binary64 sum (mul binary64 (coeffOf F k) (ofInt binary64 (pos (getD s j 0)))))
 
 unfoldable pub linearFrom : Field → List ℕ → ℕ → Float → List ℕ → Float
 linearFrom F s i sum [] = sum

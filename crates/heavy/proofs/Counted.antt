@@ -14,7 +14,7 @@ use Rattle.meaning.specs.Free.{frees}
 use Rattle.meaning.proofs.Free.{frees-le}
 use Rattle.scratch.specs.Region.{region}
 use Rattle.scratch.proofs.Region.{region-at}
-use Rattle.probes.specs.Listed.{stepOf}
+use Rattle.ranking.specs.Listed.{stepOf}
 use Rattle.heavy.specs.Rounds.{laidAt}
 
 -- ---- counting

@@ -18,8 +18,9 @@ use Rattle.finding.specs.Finds.{valuesOf}
 use Rattle.twin.specs.Twin.{firstAt}
 use Rattle.twin.proofs.Framed.{remembers-front}
 use Rattle.walking.specs.Walk.{candidatesAt, gatherAt, Walkable}
+use Rattle.ranking.specs.Listed.{Listed}
 use Rattle.probes.specs.Call.{allValues}
-use Rattle.probes.specs.Listed.{Listed, Noned}
+use Rattle.probes.specs.Standing.{Noned}
 use Rattle.heavy.specs.Rounds.{probeValues}
 
 -- room for the walk

@@ -1,5 +1,5 @@
 // Lists of values: counted, and laid over one another.
-use probes::listing::step;
+use ranking::listing::step;
 ghost use mathlib.Core.Path.{_≡_};
 ghost use Prim.Native.Nat.{_+_, _≤_};
 ghost use lib.ListN.{length};

@@ -1,7 +1,7 @@
 // The values of a full probe, left in the words.
 use probe::values::copy;
-use probes::listing::list_free;
-use probes::listing::set_none;
+use probes::values::set_none;
+use ranking::listing::list_free;
 use walking::walk_values;
 use workspace::remembering::remember;
 ghost use mathlib.Core.Path.{_≡_};

@@ -11,6 +11,7 @@ use lib.Dec.{T, eqb, ltb}
 use lib.Ieee.{Float, eq, ofBits}
 use borrow.Author.Tests.{ltb-true, ltb-false}
 use Rattle.weights.specs.Worth.{zero64}
+use Rattle.meaning.specs.Free.{isFree}
 use Rattle.field.specs.Field.{Field, variables}
 use Rattle.margins.specs.declared.bounds.Bounds.{Bounds}
 use Rattle.margins.specs.declared.walking.Walk.{Walk}
@@ -26,16 +27,16 @@ meets-none = refl
 
 module _ (F : Field) (s : List ℕ) (i j : ℕ) where
   -- a variable that is no neighbour changes nothing
-  passed : (k : ℕ) (b : Bounds) → (eqb (getD s k 0) 2 ≡ true → (mergedWeight F i k ≡ zero64) × (mergedWeight F j k ≡ zero64)) → neighbour F s i j k b ≡ b
+  passed : (k : ℕ) (b : Bounds) → (isFree s k ≡ true → (mergedWeight F i k ≡ zero64) × (mergedWeight F j k ≡ zero64)) → neighbour F s i j k b ≡ b
   unfolding neighbour
-  passed k b h = go (not (eqb k i) && not (eqb k j)) (eqb (getD s k 0) 2) refl
+  passed k b h = go (not (eqb k i) && not (eqb k j)) (isFree s k) refl
     where
-      go : (c d : Bool) → eqb (getD s k 0) 2 ≡ d → cond ((c && d) && meets (mergedWeight F i k) (mergedWeight F j k)) (widen b (mergedWeight F i k) (mergedWeight F j k)) b ≡ b
+      go : (c d : Bool) → isFree s k ≡ d → cond ((c && d) && meets (mergedWeight F i k) (mergedWeight F j k)) (widen b (mergedWeight F i k) (mergedWeight F j k)) b ≡ b
       go false d e = refl
       go true false e = refl
       go true true e = rw (h e .0, h e .1, meets-none) refl
 
-  between : (a k : ℕ) → a ≤ k → ((x : ℕ) → a ≤ x → x < k → eqb (getD s x 0) 2 ≡ true → (mergedWeight F i x ≡ zero64) × (mergedWeight F j x ≡ zero64)) → boundsTo F s i j k ≡ boundsTo F s i j a
+  between : (a k : ℕ) → a ≤ k → ((x : ℕ) → a ≤ x → x < k → isFree s x ≡ true → (mergedWeight F i x ≡ zero64) × (mergedWeight F j x ≡ zero64)) → boundsTo F s i j k ≡ boundsTo F s i j a
   unfolding boundsTo
   between zero zero l h = refl
   between (suc a) zero l h = absurd (omega arith)
@@ -46,7 +47,7 @@ module _ (F : Field) (s : List ℕ) (i j : ℕ) where
       go (inr m) ih = passed k (boundsTo F s i j k) (h k (le-of-suc-le-suc m) (omega arith)) ∙ ih (le-of-suc-le-suc m)
 
   -- a neighbour is met
-  meeting : (k : ℕ) (b : Bounds) (wi wj : Float) → eqb (getD s k 0) 2 ≡ true → wi ≡ mergedWeight F i k → wj ≡ mergedWeight F j k → metBy b i j k wi wj ≡ neighbour F s i j k b
+  meeting : (k : ℕ) (b : Bounds) (wi wj : Float) → isFree s k ≡ true → wi ≡ mergedWeight F i k → wj ≡ mergedWeight F j k → metBy b i j k wi wj ≡ neighbour F s i j k b
   unfolding metBy neighbour
   meeting k b wi wj f p q = rw (f, ← p, ← q) (go (eqb k i) (eqb k j) (meets wi wj))
     where
@@ -86,7 +87,7 @@ module _ {F : Field} {s : List ℕ} {x : ℕ} {keys : List ℕ} {weights : List 
     waits : RowAt keys a e l (suc k)
     waits = record { from = at .from; seen = λ p b c. let r = at .seen p b c in omega arith; next = λ p b c. let r = far p b c in omega arith }
 
-    absent : k < variables F → eqb (getD s k 0) 2 ≡ true → mergedWeight F x k ≡ zero64
+    absent : k < variables F → isFree s k ≡ true → mergedWeight F x k ≡ zero64
     absent h f = row .all k h f (λ p b c q. ⊎-elim (λ z. let r = at .seen p b z in omega arith) (λ z. let r = far p z c in omega arith) (side p))
       where
         side : (p : ℕ) → (p < l) ⊎ (l ≤ p)
@@ -98,7 +99,7 @@ module _ {F : Field} {s : List ℕ} {x : ℕ} {keys : List ℕ} {weights : List 
 
 -- between K and k no key stands, so no variable there is a neighbour
 clear : {F : Field} {s : List ℕ} {x : ℕ} {keys : List ℕ} {weights : List Float} {a e : ℕ} → Listed F s x keys weights a e → (l K k : ℕ) → RowAt keys a e l K → ((p : ℕ) → l ≤ p → p < e → k ≤ getD keys p 0)
-    → (y : ℕ) → K ≤ y → y < k → y < variables F → eqb (getD s y 0) 2 ≡ true → mergedWeight F x y ≡ zero64
+    → (y : ℕ) → K ≤ y → y < k → y < variables F → isFree s y ≡ true → mergedWeight F x y ≡ zero64
 clear row l K k at far y p q h f = absent row l K y at p (λ r b c. let z = far r b c in omega arith) h f
 
 module _ (F : Field) (s : List ℕ) (R : Rows) (a b : ℕ) (rowI : Listed F s (R .i) (R .keys) (R .weights) a (R .endI)) (rowJ : Listed F s (R .j) (R .keys) (R .weights) b (R .endJ)) where
@@ -115,7 +116,7 @@ module _ (F : Field) (s : List ℕ) (R : Rows) (a b : ℕ) (rowI : Listed F s (R
 
     advance : (k l r : ℕ) (wi wj : Float) → K ≤ k → k < variables F
         → ((p : ℕ) → w .left ≤ p → p < R .endI → k ≤ getD (R .keys) p 0) → ((p : ℕ) → w .right ≤ p → p < R .endJ → k ≤ getD (R .keys) p 0)
-        → eqb (getD s k 0) 2 ≡ true → wi ≡ mergedWeight F (R .i) k → wj ≡ mergedWeight F (R .j) k
+        → isFree s k ≡ true → wi ≡ mergedWeight F (R .i) k → wj ≡ mergedWeight F (R .j) k
         → RowAt (R .keys) a (R .endI) l (suc k) → RowAt (R .keys) b (R .endJ) r (suc k)
         → Stands (record { left = l; right = r; bounds = metBy (w .bounds) (R .i) (R .j) k wi wj }) (suc k)
     unfolding boundsTo

@@ -7,10 +7,11 @@ use Prim.Native.Nat.{ℕ, _+_, _≤_, _<_}
 use native.Mathlib.Nat.{eq-or-lt-of-le}
 use native.Mathlib.Omega.{arith}
 use borrow.Author.Tests.{ltb-true, ltb-false}
-use lib.Dec.{eqb, ltb}
+use lib.Dec.{ltb}
 use lib.ListN.{getD}
 use lib.Ieee.{Float, nan}
 use Rattle.weights.specs.Worth.{zero64}
+use Rattle.meaning.specs.Free.{isFree}
 use Rattle.field.specs.Field.{Field, variables}
 use Rattle.margins.specs.Model.{mergedWeight}
 use Rattle.margins.specs.Merge.{Rises, Looked, hit, miss, Searching, Listed}
@@ -60,6 +61,6 @@ search-miss {keys} {a} {e} {k} {low} {high} weights S l w =
 
 -- in the merged row of x it is the merged weight between x and k
 pub looked-weight : {F : Field} {s : List ℕ} {x a e k : ℕ} {keys : List ℕ} {weights : List Float} {r : Float} → Listed F s x keys weights a e → Looked keys weights a e k r
-    → k < variables F → eqb (getD s k 0) 2 ≡ true → r ≡ mergedWeight F x k
+    → k < variables F → isFree s k ≡ true → r ≡ mergedWeight F x k
 looked-weight {F} {x = x} L (hit p f t q w) h free = w ∙ L .weight p f t ∙ ap (mergedWeight F x) q
 looked-weight {F} {x = x} {k = k} L (miss none w) h free = w ∙ sym (L .all k h free none)

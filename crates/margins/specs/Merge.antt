@@ -8,6 +8,7 @@ use lib.Dec.{eqb, ltb}
 use lib.ListN.{length, getD}
 use lib.Ieee.{Float, nan}
 use Rattle.weights.specs.Worth.{zero64}
+use Rattle.meaning.specs.Free.{isFree}
 use Rattle.field.specs.Field.{Field, variables}
 use Rattle.margins.specs.declared.bounds.Bounds.{Bounds}
 use Rattle.margins.specs.declared.walking.Walk.{Walk}
@@ -99,9 +100,9 @@ Rises keys a e = (p q : ℕ) → a ≤ p → p < q → q < e → getD keys p 0 <
 pub record Listed (F : Field) (s : List ℕ) (x : ℕ) (keys : List ℕ) (weights : List Float) (a e : ℕ) : Type 0 where
   pub rising : Rises keys a e
   pub within : (p : ℕ) → a ≤ p → p < e → getD keys p 0 < variables F
-  pub free : (p : ℕ) → a ≤ p → p < e → eqb (getD s (getD keys p 0) 0) 2 ≡ true
+  pub free : (p : ℕ) → a ≤ p → p < e → isFree s (getD keys p 0) ≡ true
   pub weight : (p : ℕ) → a ≤ p → p < e → getD weights p nan ≡ mergedWeight F x (getD keys p 0)
-  pub all : (k : ℕ) → k < variables F → eqb (getD s k 0) 2 ≡ true → ((p : ℕ) → a ≤ p → p < e → getD keys p 0 ≡ k → ⊥) → mergedWeight F x k ≡ zero64
+  pub all : (k : ℕ) → k < variables F → isFree s k ≡ true → ((p : ℕ) → a ≤ p → p < e → getD keys p 0 ≡ k → ⊥) → mergedWeight F x k ≡ zero64
 
 -- r is the weight of k in the row from a to e: 0.0 where the row has no such key
 pub data Looked (keys : List ℕ) (weights : List Float) (a e k : ℕ) (r : Float) : Type 0 where

@@ -7,6 +7,7 @@ use lib.IntN.{pos}
 use lib.ListN.{getD}
 use lib.Ieee.{Float, binary64, add, sub, mul, neg, lt, le, eq, ofInt, ofBits}
 use Rattle.weights.specs.Worth.{zero64, magnitude}
+use Rattle.meaning.specs.Free.{isFree}
 use Rattle.meaning.specs.Kinds.{Kind, no-more-than-one, at-least-one, less-than, greater-than}
 use Rattle.meaning.specs.Pair.{third}
 use Rattle.field.specs.Field.{Field, variables, entries, linearOf, rowEnd, columnEnd}
@@ -49,7 +50,7 @@ overAll op F i start = overEnds op F i start (entries F)
 
 -- the linear part: c of i, and coefficient times value of each fixed end
 abbrev pub addFixedEnd : List ℕ → Op
-addFixedEnd s x a j = cond (eqb (getD s j 0) 2) x (add binary64 x (mul binary64 a (ofInt binary64 (pos (getD s j 0)))))
+addFixedEnd s x a j = cond (isFree s j) x (add binary64 x (mul binary64 a (ofInt binary64 (pos (getD s j 0)))))
 
 abbrev pub linearPart : Field → List ℕ → ℕ → Float
 linearPart F s i = overAll (addFixedEnd s) F i (linearOf F i)

@@ -15,8 +15,6 @@ use Rattle.meaning.specs.Free.{frees}
 use Rattle.meaning.proofs.Free.{frees-set}
 use Rattle.field.specs.Field.{Field, variables, entries, quadOf}
 use Rattle.places.specs.Places.{otherEnd}
-use Rattle.places.proofs.Places.{other-below}
-use Rattle.places.proofs.Shape.{ends-below}
 use Rattle.places.proofs.Walk.{adjacent-front}
 use Rattle.parts.specs.Walk.{search, joinsBy, push, visit, visitAt}
 use Rattle.parts.specs.Cells.{Cells, cells, base, stackBase, membersBase, marksIn, stackIn, searchIn, Placed, Does}
@@ -111,9 +109,6 @@ module _ {F : Field} {s : Cells} (P : Placed F s) {j : ℕ} (hj : j < variables 
 -- ---- a place of a served variable
 
 module _ {F : Field} {s : Cells} (P : Placed F s) (i : ℕ) {k : ℕ} (hk : k < entries F) where
-  pub end-below : {j : ℕ} → j ≡ otherEnd (F .rows) (F .cols) i k → j < variables F
-  end-below e = rw e (other-below (F .rows) (F .cols) i k (ends-below (P .shaped)) (omega (arith, P .shaped .rows-long)))
-
   module _ (zeros : Bool) {b : Bool} (eb : b ≡ joinsBy zeros (quadOf F k)) where
     pub passes-by : not b ≡ true → Does F (λ w. visitAt F zeros i w k) s s
     unfolding visitAt

@@ -4,13 +4,12 @@ use mathlib.Core.Path.{_≡_, refl, sym, ap, _∙_}
 use mathlib.Core.Logic.{_≢_}
 use mathlib.Core.Bool.{Bool}
 use mathlib.Core.List.{List, [], _∷_, _++_}
-use native.Mathlib.Numerals.{add-one}
 use native.Mathlib.Decide.{ℕ-discrete}
 use native.Mathlib.Omega.{arith}
-use lib.ListN.{length, getD, set, take, drop, length-set, length-drop}
-use lib.Seq.{take-set-le, take-suc-set, drop-set-add, drop-set-lt, getD-set-same, getD-set-other}
+use lib.ListN.{length, getD, set, take, drop, length-set}
+use lib.Seq.{take-set-le, drop-set-lt, getD-set-same, getD-set-other}
 use Rattle.scratch.specs.Region.{region}
-use Rattle.scratch.proofs.Region.{region-above}
+use Rattle.scratch.proofs.Region.{region-push, region-above}
 use Rattle.meaning.specs.Free.{frees}
 use Rattle.field.specs.Field.{Field, variables}
 use Rattle.places.proofs.Slices.{drop-more}
@@ -44,11 +43,6 @@ module _ {F : Field} {zeros : Bool} {i end p : ℕ} {s₀ s : Cells} (S : Servin
   serve-done l = record { search = along-end (S .along) l; kept = S .kept }
 
 -- ---- the variable on top is popped: it goes behind the members
-
--- a store right behind a region makes it one longer
-region-push : (a n : ℕ) (u : List ℕ) (x : ℕ) → a + n < length u → region a (n + 1) (set u (a + n) x) ≡ region a n u ++ (x ∷ [])
-unfolding region
-region-push a n u x h = rw (add-one, drop-set-add a u n x) (take-suc-set (drop a u) n x (omega (arith, length-drop a u)))
 
 module _ {F : Field} {u : List ℕ} (below count : ℕ) (P : Placed F (cells u (below + 1))) (within : count < variables F) {i : ℕ} (ei : i ≡ getD u (stackBase F + below) 0) where
   abbrev lowered : List ℕ

@@ -7,9 +7,9 @@ use mathlib.Core.List.{List}
 use native.Mathlib.Decide.{ℕ-discrete}
 use native.Mathlib.Omega.{arith}
 use borrow.Author.Tests.{eqb-true}
-use lib.Dec.{eqb}
 use lib.ListN.{getD, set}
 use lib.Seq.{getD-set-same, getD-set-other}
+use Rattle.meaning.specs.Free.{isFree}
 use Rattle.meaning.specs.Steps.{Valid, Extends}
 use Rattle.meaning.specs.Part.{Safe}
 use Rattle.meaning.proofs.Values.{inside, extends-refl}
@@ -33,10 +33,10 @@ fix-ind : (p : ℕ → Bool) (P : List ℕ → Type 0) (k : ℕ) (s : List ℕ) 
     → ((i : ℕ) (t : List ℕ) → i < k → p i ≡ true → getD t i 0 ≡ 2 → P t → P (set t i 0)) → P (fixTo p k s)
 unfolding fixTo fixAt
 fix-ind p P zero s h turn = h
-fix-ind p P (suc k) s h turn = by (p k && eqb (getD (fixTo p k s) k 0) 2) refl (fix-ind p P k s h (λ i t l. turn i t (omega arith)))
+fix-ind p P (suc k) s h turn = by (p k && isFree (fixTo p k s) k) refl (fix-ind p P k s h (λ i t l. turn i t (omega arith)))
   where
-    by : (b : Bool) → (p k && eqb (getD (fixTo p k s) k 0) 2) ≡ b → P (fixTo p k s) → P (cond b (set (fixTo p k s) k 0) (fixTo p k s))
-    by true e now = let t = both (p k) (eqb (getD (fixTo p k s) k 0) 2) e in turn k (fixTo p k s) (omega arith) (t .0) (eqb-true _ _ (t .1)) now
+    by : (b : Bool) → (p k && isFree (fixTo p k s) k) ≡ b → P (fixTo p k s) → P (cond b (set (fixTo p k s) k 0) (fixTo p k s))
+    by true e now = let t = both (p k) (isFree (fixTo p k s) k) e in turn k (fixTo p k s) (omega arith) (t .0) (eqb-true _ _ (t .1)) now
     by false e now = now
 
 -- a value of the start stays
@@ -57,7 +57,7 @@ unfolding fixTo fixAt
 fix-zeros p zero s i h e f = absurd (omega arith)
 fix-zeros p (suc k) s i h e f = elim (ℕ-discrete i k) [
   | yes q ↦ rw (← q, e, fix-later p i s i (omega arith), f) (getD-set-same (fixTo p i s) i 0 0 (omega (arith, fixes-long p i s, inside s i f)))
-  | no n ↦ by (p k && eqb (getD (fixTo p k s) k 0) 2) n (fix-zeros p k s i (omega arith) e f)
+  | no n ↦ by (p k && isFree (fixTo p k s) k) n (fix-zeros p k s i (omega arith) e f)
 ]
   where
     by : (b : Bool) → i ≢ k → getD (fixTo p k s) i 0 ≡ 0 → getD (cond b (set (fixTo p k s) k 0) (fixTo p k s)) i 0 ≡ 0

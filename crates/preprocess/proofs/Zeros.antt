@@ -8,9 +8,9 @@ use native.Mathlib.Nat.{le-antisymm}
 use native.Mathlib.Numerals.{add-one}
 use native.Mathlib.Omega.{arith}
 use borrow.Author.Tests.{eq-eqb, ne-eqb}
-use lib.Dec.{eqb}
 use lib.ListN.{length, getD, set, length-set}
 use lib.Ieee.{Float}
+use Rattle.meaning.specs.Free.{isFree}
 use Rattle.field.specs.Field.{fieldOf}
 use Rattle.no_effect.specs.Effect.{hasNoEffect, Marked, idle}
 use Rattle.no_effect.proofs.Laws.{idle-is}
@@ -33,7 +33,7 @@ module _ {b : Bool} (i : ℕ) (s : List ℕ) where
 
 pub fix-long : (b : Bool) (i : ℕ) (s : List ℕ) → length (fixAt b i s) ≡ length s
 unfolding fixAt
-fix-long b i s = by (b && eqb (getD s i 0) 2)
+fix-long b i s = by (b && isFree s i)
   where
     by : (t : Bool) → length (cond t (set s i 0) s) ≡ length s
     by true = length-set s i 0

@@ -3,8 +3,8 @@ use Prim.Native.Nat.{ℕ, zero, suc}
 use mathlib.Core.Path.{_≡_}
 use mathlib.Core.Bool.{Bool, cond, _&&_}
 use mathlib.Core.List.{List}
-use lib.Dec.{eqb}
-use lib.ListN.{length, getD, set}
+use lib.ListN.{length, set}
+use Rattle.meaning.specs.Free.{isFree}
 use Rattle.field.specs.Field.{Field, variables}
 use Rattle.places.specs.Places.{Adjacent}
 use Rattle.run.specs.Run.{closure}
@@ -13,7 +13,7 @@ use Rattle.no_effect.specs.Effect.{hasNoEffect}
 
 -- variable i takes 0 if it is of those meant, and free
 unfoldable pub fixAt : Bool → ℕ → List ℕ → List ℕ
-fixAt b i s = cond (b && eqb (getD s i 0) 2) (set s i 0) s
+fixAt b i s = cond (b && isFree s i) (set s i 0) s
 
 -- the variables below i
 unfoldable pub fixTo : (ℕ → Bool) → ℕ → List ℕ → List ℕ

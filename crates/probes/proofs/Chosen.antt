@@ -20,9 +20,9 @@ use Rattle.twin.specs.Twin.{firstAt}
 use Rattle.twin.proofs.Framed.{remembers-front}
 use Rattle.walking.specs.Walk.{candidatesAt, gatherAt}
 use Rattle.ranking.specs.Ranking.{massOf, ahead, ranks}
+use Rattle.ranking.specs.Listed.{Listed}
 use Rattle.ranking.specs.Masses.{Rankable, Ranked}
 use Rattle.ranking.proofs.Ordered.{Every, every-at, every-from, ordered-every, ordered-length}
-use Rattle.probes.specs.Listed.{Listed}
 use Rattle.probes.specs.Standing.{Standing, Chosen}
 
 -- ---- every candidate is free

@@ -1,5 +1,4 @@
 pub mod Rules
-pub mod Lists
 pub mod Nones
 pub mod Standing
 pub mod Chosen

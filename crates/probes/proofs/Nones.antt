@@ -6,7 +6,7 @@ use native.Mathlib.Decide.{ℕ-discrete}
 use native.Mathlib.Omega.{arith}
 use lib.ListN.{length, set, length-set}
 use lib.Seq.{take-set-le, getD-set-same, getD-set-other}
-use Rattle.probes.specs.Listed.{Noned}
+use Rattle.probes.specs.Standing.{Noned}
 
 pub record Noning (at n j : ℕ) (u₀ u : List ℕ) : Type 0 where
   pub room : at + n ≤ length u₀

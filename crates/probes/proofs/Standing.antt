@@ -21,8 +21,7 @@ use Rattle.twin.proofs.Framed.{remembers-front}
 use Rattle.walking.specs.Walk.{candidatesAt, Walkable, Walked, holds, full}
 use Rattle.walking.proofs.Turned.{values-long}
 use Rattle.probes.specs.Call.{allConstraints, allValues}
-use Rattle.probes.specs.Listed.{Noned}
-use Rattle.probes.specs.Standing.{Bytes, Standing}
+use Rattle.probes.specs.Standing.{Noned, Bytes, Standing}
 
 clash : {A : Type 0} → _≡_ {A = ℕ} 0 1 → A
 clash z = absurd (omega arith)

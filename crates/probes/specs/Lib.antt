@@ -1,4 +1,3 @@
 pub mod Call
-pub mod Listed
 pub mod Standing
 pub mod Rule

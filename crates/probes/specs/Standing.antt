@@ -11,6 +11,13 @@ use Rattle.walking.specs.Walk.{candidatesAt, gatherAt}
 use Rattle.ranking.specs.Ranking.{ranks}
 use Rattle.probes.specs.Call.{Left, fits, answered}
 
+-- 2 stands in the j words from `at` on, and what is in front of them is as it was
+pub record Noned (at j : ℕ) (u₀ u : List ℕ) : Type 0 where
+  pub long : length u ≡ length u₀
+  pub front : take at u ≡ take at u₀
+  pub none : (t : ℕ) → t < j → getD u (at + t) 0 ≡ 2
+  pub behind : (t : ℕ) → at + j ≤ t → getD u t 0 ≡ getD u₀ t 0
+
 -- n words from `at` on, each of them a byte
 pub record Bytes (at n : ℕ) (u : List ℕ) : Type 0 where
   pub room : at + n ≤ length u

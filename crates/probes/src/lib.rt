@@ -1,16 +1,15 @@
 // The public calls over all candidates: the full probe and the limited one.
 mod choosing;
-pub mod listing;
 mod settling;
-mod values;
+pub mod values;
 
 use crate::choosing::choose;
-use crate::listing::list_free;
 use crate::settling::no_room;
 use crate::settling::settle;
 use field::Checked;
 use field::Counted;
 use probe::values::copy;
+use ranking::listing::list_free;
 ghost use mathlib.Core.Path.{_≡_};
 ghost use lib.ListN.{length, take};
 ghost use Rattle.scratch.specs.Lent.{before, after};

@@ -1,5 +1,5 @@
 // From the candidates to the answer: the walk, the probe values, and zeros in both scratches.
-use crate::listing::set_none;
+use crate::values::set_none;
 use crate::values::take_values;
 use field::Counted;
 use field::Refusal;
@@ -12,7 +12,7 @@ ghost use Rattle.scratch.specs.Cleared.{cleared};
 ghost use Rattle.scratch.specs.Region.{region};
 ghost use Rattle.field.specs.declared.Counted.the-variants.{Refuses};
 ghost use Rattle.field.specs.declared.Refusal.the-variants.{Room};
-ghost use Rattle.field.specs.Field.{lent, given, variables};
+ghost use Rattle.field.specs.Field.{lent, given};
 ghost use Rattle.walking.specs.Walk.{candidatesAt, Walked};
 ghost use Rattle.probes.specs.Call.{left};
 ghost use Rattle.probes.specs.Standing.{Bytes, Standing, settled};

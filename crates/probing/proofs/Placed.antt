@@ -12,8 +12,8 @@ use Rattle.rows.specs.declared.Row.{Row}
 use Rattle.rows.specs.Row.{startRow, addTerm}
 use Rattle.rows.specs.Model.{coeffOf, atEnd, atEntry, rowTo, rowOf}
 use Rattle.places.specs.Places.{keep, places, otherEnd}
-use Rattle.places.proofs.Places.{tail, tail-end, tail-step, other-below}
-use Rattle.places.proofs.Shape.{ends-below}
+use Rattle.places.proofs.Places.{tail, tail-end, tail-step}
+use Rattle.places.proofs.Shape.{other-end-below}
 use Rattle.places.proofs.Walk.{Along, walk-turn, along-start, along-turn, along-end}
 use Rattle.probing.specs.Remembered.{addPlace, addPlaces, Readable}
 
@@ -53,12 +53,9 @@ module _ {F : Field} {s u : List ℕ} (R : Readable F s u) {t : ℕ} where
     pub row-reads : p < end → {k : ℕ} → k ≡ getD u (variables F + 1 + p) 0
         → (k < length (F .rows)) × ((k < length (F .cols)) × ((k < entries F) × (otherEnd (F .rows) (F .cols) t k < length s)))
     row-reads l {k} e =
-        let h : k < length (F .rows) = omega (arith, walk-turn (L .walk) l .entry) in (
-          h,
-          (
-            omega (arith, R .shaped .rows-long, R .shaped .cols-long),
-            (omega (arith, R .shaped .rows-long), omega (arith, other-below (F .rows) (F .cols) t k (ends-below (R .shaped)) h, R .values-long)),
-          ),
+        let h : k < entries F = omega (arith, walk-turn (L .walk) l .entry, R .shaped .rows-long) in (
+          omega (arith, R .shaped .rows-long),
+          (omega (arith, R .shaped .cols-long), (h, omega (arith, other-end-below (R .shaped) t h refl, R .values-long))),
         )
 
     pub row-turn : {k : ℕ} {next : Row} → p < end → k ≡ getD u (variables F + 1 + p) 0 → next ≡ addPlace (F .rows) (F .cols) (F .quad) s t row k

@@ -11,10 +11,11 @@ use Rattle.rows.specs.declared.Row.{Row}
 use Rattle.rows.specs.Model.{rowOf}
 use Rattle.rows.specs.Stored.{putRow}
 use Rattle.places.specs.Places.{otherEnd}
+use Rattle.places.proofs.Shape.{other-end-below}
 use Rattle.places.proofs.Walk.{Along, along-start, along-turn, along-front, along-end}
 use Rattle.run.specs.Run.{Run, withRow}
 use Rattle.run.specs.Cells.{Cells, cells, runIn, Placed, Kept, Does}
-use Rattle.run.proofs.Moves.{put-does, target-below}
+use Rattle.run.proofs.Moves.{put-does}
 use Rattle.run.proofs.Cells.{kept-same, kept-then, does-same, does-as}
 use Rattle.probing.specs.Remembered.{Readable, freshRow, freshAt, freshAll, fresh}
 
@@ -35,7 +36,7 @@ module _ {F : Field} {s : Cells} (P : Placed F s) (i : ℕ) {k t : ℕ} (hk : k 
 
   pub refresh-free : {r : Row} {f′ : List Float} → getD (s .values) t 0 ≡ 2 → r ≡ rowOf F (s .values) t → f′ ≡ putRow (s .floats) (variables F) t r
       → Does F (λ run. freshAt F i run k) s (cells (s .values) f′ (s .words) (s .tail))
-  refresh-free {r} free er ef = rw ef (does-as (λ run. freshAt F i run k) (put-does P (target-below P i hk et) r) (made-afresh free er))
+  refresh-free {r} free er ef = rw ef (does-as (λ run. freshAt F i run k) (put-does P (other-end-below (P .shaped) i hk et) r) (made-afresh free er))
 
 -- ---- the places of i: p is the place to come
 

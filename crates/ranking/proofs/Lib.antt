@@ -3,6 +3,7 @@ pub mod Heavier
 pub mod Words
 pub mod Halves
 pub mod Sums
+pub mod Lists
 pub mod Candidates
 pub mod Theorems
 pub mod Worked

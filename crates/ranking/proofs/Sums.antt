@@ -1,26 +1,22 @@
--- The masses are the model's, numbers with their sign clear, and the free variables are listed one by one. Assumes nothing.
+-- The masses are the model's, and numbers with their sign clear. Assumes nothing.
 use Prim.Native.Nat.{ℕ, zero, suc, _+_, _<_, _≤_}
 use mathlib.Core.Path.{_≡_, refl, sym, ap, _∙_}
 use mathlib.Core.Bool.{Bool, true, false, cond}
-use mathlib.Core.List.{List, append-nil}
+use mathlib.Core.List.{List}
 use native.Mathlib.Omega.{arith}
 use native.Mathlib.Decide.{ℕ-discrete}
 use borrow.Author.Tests.{eq-eqb, ne-eqb}
 use lib.Dec.{T, eqb}
-use lib.ListN.{length, getD, set, replicate, length-set, length-replicate, getD-replicate}
+use lib.ListN.{length, getD, replicate, length-set, length-replicate, getD-replicate}
 use lib.Seq.{getD-set-same, getD-set-other}
 use lib.Ieee.{Float, nan, add, binary64, ofBits}
 use Rattle.weights.specs.Worth.{zero64, clear, magnitude}
 use Rattle.weights.proofs.Sign.{add-clear, magnitude-clear}
-use Rattle.scratch.specs.Region.{region}
 use Rattle.scratch.specs.Cleared.{cleared}
-use Rattle.scratch.proofs.Region.{region-above}
-use Rattle.meaning.specs.Free.{isFree, freeTo}
 use Rattle.field.specs.Field.{Field, variables, entries, rowEnd, columnEnd, quadOf}
 use Rattle.field.specs.Tests.{Finite}
 use Rattle.ranking.specs.Ranking.{bothFree, massAtEnd, massAtEntry, massTo}
-use Rattle.ranking.specs.Masses.{added, addEntry, Massable, Massed, Outside, Listed}
-use Rattle.ranking.proofs.Words.{region-next}
+use Rattle.ranking.specs.Masses.{added, addEntry, Massable, Massed}
 
 -- ---- the masses have their sign clear
 
@@ -135,52 +131,3 @@ module _ {F : Field} {s : List ℕ} {w : List Float} {k : ℕ} (M : Massed F s w
 
 pub massed-done : {F : Field} {s : List ℕ} {w : List Float} {k : ℕ} → Massed F s w k → entries F ≤ k → Massed F s w (entries F)
 massed-done {F} {k = k} M h = let e : k ≡ entries F = omega (arith, M .within) in rw e at M
-
--- ---- the free variables in a list
-
-pub one-more : (count v : ℕ) → v ≡ 2 → count + 1 ≡ count + cond (eqb v 2) 1 0
-one-more count v h = rw (eq-eqb v 2 h)
-
-pub no-more : (count v : ℕ) → (v ≡ 2 → ⊥) → count ≡ count + cond (eqb v 2) 1 0
-no-more count v h = rw (ne-eqb v 2 h) (omega arith)
-
-pub listed-start : (s : List ℕ) (at n : ℕ) (u : List ℕ) → Listed s at n u u 0 0
-unfolding freeTo region
-listed-start s at n u = record {
-  outside = record { long = refl; below = λ t h. refl; above = λ t h. refl };
-  fewer = omega arith;
-  within = omega arith;
-  listed = refl;
-}
-
-pub listed-turn : {s : List ℕ} {at n : ℕ} {u₀ u u' : List ℕ} {i count r : ℕ} → Listed s at n u₀ u i count → i < n → at + n ≤ length u₀
-    → u' ≡ set u (at + count) i → r ≡ count + cond (isFree s i) 1 0 → Listed s at n u₀ u' (i + 1) r
-unfolding freeTo
-listed-turn {s} {at} {n} {u₀} {u} {u'} {i} {count} {r} L h room e f = rw e (go (isFree s i) refl f)
-  where
-    z : suc i ≡ i + 1
-    z = omega arith
-
-    outside : Outside at (at + n) u₀ (set u (at + count) i)
-    outside = record {
-      long = length-set u (at + count) i ∙ L .outside .long;
-      below = λ t g. getD-set-other u (at + count) t i 0 (λ z. omega arith) ∙ L .outside .below t g;
-      above = λ t g. getD-set-other u (at + count) t i 0 (λ z. omega (arith, L .fewer)) ∙ L .outside .above t g;
-    }
-
-    go : (b : Bool) → isFree s i ≡ b → r ≡ count + cond b 1 0 → Listed s at n u₀ (set u (at + count) i) (i + 1) r
-    go true p f = let q : r ≡ count + 1 = f in rw q record {
-      outside = outside;
-      fewer = omega (arith, L .fewer);
-      within = omega arith;
-      listed = region-next at count u i (omega (arith, L .outside .long, L .fewer)) ∙ rw (sym z, p, L .listed);
-    }
-    go false p f = let q : r ≡ count = omega (arith, f) in rw q record {
-      outside = outside;
-      fewer = omega (arith, L .fewer);
-      within = omega arith;
-      listed = region-above at count u (at + count) i (omega arith) ∙ L .listed ∙ rw (sym z, p) (sym (append-nil (freeTo s i)));
-    }
-
-pub listed-done : {s : List ℕ} {at n : ℕ} {u₀ u : List ℕ} {i count : ℕ} → Listed s at n u₀ u i count → n ≤ i → Listed s at n u₀ u n count
-listed-done {n = n} {i = i} L h = let e : i ≡ n = omega (arith, L .within) in rw e at L

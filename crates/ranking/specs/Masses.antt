@@ -1,4 +1,4 @@
--- The masses and the free variables in lent memory, and what a ranking asks and leaves. Assumes nothing.
+-- The masses in lent memory, and what a ranking asks and leaves. Assumes nothing.
 use Prim.Native.Nat.{ℕ, _+_, _<_, _≤_}
 use mathlib.Core.Path.{_≡_}
 use mathlib.Core.Bool.{cond}
@@ -7,7 +7,6 @@ use lib.ListN.{length, getD, set}
 use lib.Ieee.{Float, nan, binary64, add}
 use Rattle.weights.specs.Worth.{magnitude}
 use Rattle.scratch.specs.Region.{region}
-use Rattle.meaning.specs.Free.{freeTo}
 use Rattle.field.specs.Field.{Field, variables, entries, rowEnd, columnEnd, quadOf, Shaped}
 use Rattle.field.specs.Tests.{Finite}
 use Rattle.ranking.specs.Ranking.{bothFree, massTo, ranks}
@@ -38,13 +37,6 @@ pub record Outside (lo hi : ℕ) (u u' : List ℕ) : Type 0 where
   pub long : length u' ≡ length u
   pub below : (t : ℕ) → t < lo → getD u' t 0 ≡ getD u t 0
   pub above : (t : ℕ) → hi ≤ t → getD u' t 0 ≡ getD u t 0
-
--- the free variables below i stand from `at` on
-pub record Listed (s : List ℕ) (at n : ℕ) (u u' : List ℕ) (i count : ℕ) : Type 0 where
-  pub outside : Outside at (at + n) u u'
-  pub fewer : count ≤ i
-  pub within : i ≤ n
-  pub listed : region at count u' ≡ freeTo s i
 
 -- what a ranking needs: finite weights, a mass for each variable, and two words for each from `at` on
 pub record Rankable (F : Field) (s : List ℕ) (w : List Float) (u : List ℕ) (at : ℕ) : Type 0 where

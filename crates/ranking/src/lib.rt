@@ -1,40 +1,12 @@
 // The candidates of the limited probe: the free variables by falling edge mass, then rising index.
+pub mod listing;
 mod masses;
 mod order;
 
-ghost use mathlib.Core.Path.{_≡_};
-ghost use mathlib.Core.Bool.{cond};
-ghost use lib.Dec.{eqb};
-ghost use Prim.Native.Nat.{_+_, _<_, _≤_};
-ghost use lib.ListN.{length};
+use crate::listing::list_free;
 ghost use Rattle.scratch.specs.Lent.{before, after};
 ghost use Rattle.field.specs.Field.{given, lent, entries};
-ghost use Rattle.ranking.specs.Masses.{Rankable, Ranked, Listed, Massed};
-
-// How many variables are listed after one more, whose start value is given.
-fn listed(count: usize, value: u8) -> usize
-    requires { ⌜ count < 4096 ⌝ }
-    ensures { λ r. ⌜ r ≡ count + cond (eqb value 2) 1 0 ⌝ }
-{
-    if value == 2 {
-        return count + 1;
-    }
-    count
-}
-
-// The free variables, rising, from `at` on. Returns how many.
-fn list_free(start: &[u8], u: &mut [u32], at: usize) -> usize
-    requires { ⌜ length (now start) ≤ 4096 ⌝ }
-    requires { ⌜ at + length (now start) ≤ length (now u) ⌝ }
-    ensures { λ r. ⌜ Listed (before start) at (length (before start)) (before u) (after u) (length (before start)) r ⌝ }
-{
-    let mut count = 0;
-    for i in 0..start.len() {
-        u[at + count] = i as u32;
-        count = listed(count, start[i]);
-    }
-    count
-}
+ghost use Rattle.ranking.specs.Masses.{Rankable, Ranked, Massed};
 
 // Ranks the free variables from `at` on, with as much room behind, where w is to hold the masses. Returns how many.
 pub fn rank(

@@ -4,9 +4,8 @@ use mathlib.Core.Path.{_≡_, refl, sym, ap, subst, _∙_}
 use mathlib.Core.Bool.{Bool, true, false, cond}
 use mathlib.Core.List.{List}
 use native.Mathlib.Omega.{arith}
-use lib.ListN.{length, take, drop}
-use lib.Seq.{take-at}
-use Rattle.scratch.specs.Over.{over}
+use lib.ListN.{length, take}
+use Rattle.scratch.proofs.Over.{over-front}
 use Rattle.records.specs.Reading.{readAt}
 use Rattle.records.specs.Told.{Told, nothing, withWeight, withEntry, withGiven, mayDeclare, mayEnter, mayGive, Turned, more, ended, taken, outcome, following, readFrom, parsed}
 use Rattle.records.specs.Parsing.{answerOf, Parses}
@@ -53,10 +52,6 @@ parsed-within s = read-within (suc (length s)) s 0 nothing nothing-within
 
 -- ---- the field in the lists
 
-over-front : {A : Type 0} (l s : List A) {n : ℕ} → n ≡ length l → take n (over l s) ≡ l
-unfolding over
-over-front l s {n} e = take-at l (drop (length l) s) n (sym e)
-
 -- the first n places of two lists and the first m of three hold what is told
 pub record Fronts (n m : ℕ) (t p : Told) : Type 0 where
   pub variables : n ≡ length (t .linear)
@@ -85,9 +80,9 @@ module _ {s : List ℕ} {p p′ : Told} {r : Parsed} {n m : ℕ} (done : Parses 
         variables = is .1;
         entries = is .2;
         within = w;
-        linear = rw (done .lists) (over-front (t .linear) (p .linear) (is .1));
-        rows = rw (done .lists) (over-front (t .rows) (p .rows) (is .2 ∙ sym (w .rows)));
-        cols = rw (done .lists) (over-front (t .cols) (p .cols) (is .2 ∙ sym (w .cols)));
-        quad = rw (done .lists) (over-front (t .quad) (p .quad) (is .2));
-        start = rw (done .lists) (over-front (t .start) (p .start) (is .1 ∙ sym (w .start)));
+        linear = rw (done .lists) (over-front (t .linear) (p .linear) (sym (is .1)));
+        rows = rw (done .lists) (over-front (t .rows) (p .rows) (w .rows ∙ sym (is .2)));
+        cols = rw (done .lists) (over-front (t .cols) (p .cols) (w .cols ∙ sym (is .2)));
+        quad = rw (done .lists) (over-front (t .quad) (p .quad) (sym (is .2)));
+        start = rw (done .lists) (over-front (t .start) (p .start) (w .start ∙ sym (is .1)));
       }

@@ -1,44 +1,21 @@
 -- What is told lies at the front of the lists: a store at the count adds one to it, and the step on the lists is the step on what is told. Assumes nothing.
-use Prim.Native.Nat.{ℕ, suc, _+_, _<_, _≤_}
-use mathlib.Core.Path.{_≡_, refl, sym, ap, _∙_}
+use Prim.Native.Nat.{ℕ, _+_, _<_, _≤_}
+use mathlib.Core.Path.{_≡_, refl, ap}
 use mathlib.Core.Bool.{Bool, true, false, cond, _&&_}
-use mathlib.Core.List.{List, [], _∷_, _++_, append-assoc}
+use mathlib.Core.List.{[], _∷_, _++_}
 use native.Mathlib.Omega.{arith}
 use borrow.Author.Tests.{ltb-true}
 use lib.Dec.{ltb, eqb}
-use lib.ListN.{length, getD, set, drop, length-append, length-drop, length-set, List·getD-append}
-use lib.Seq.{drop-cons, set-at, set-append-left}
+use lib.ListN.{length, length-append}
 use lib.Ieee.{Float}
 use Rattle.scratch.specs.Over.{over}
+use Rattle.scratch.proofs.Over.{length-over, over-at, over-set, over-push}
+use Rattle.meaning.specs.Free.{isFree}
 use Rattle.records.specs.Told.{Told, withWeight, withEntry, withGiven, mayDeclare, mayEnter, mayGive, Turned, more, ended, taken}
 use Rattle.records.specs.Parsing.{answerOf, listsOf, laid, Room, tally, stored, goOn, Noted, noted, note}
 use Rattle.records.specs.declared.Record.{Record}
 use Rattle.records.specs.declared.Record.the-variants.{Weight, Entry, Given, End, Malformed}
 use Rattle.records.specs.declared.parsing.Turn.the-variants.{On, Stop}
-
--- ---- one list over another
-
-module _ {A : Type 0} (l s : List A) where
-  pub length-over : length l ≤ length s → length (over l s) ≡ length s
-  unfolding over
-  length-over h = simp (length-append, length-drop) (omega arith)
-
-  pub over-at : (i : ℕ) (d : A) → i < length l → getD (over l s) i d ≡ getD l i d
-  unfolding over
-  over-at i d h = List·getD-append l (drop (length l) s) d i h
-
-  pub over-set : (i : ℕ) (x : A) → i < length l → set (over l s) i x ≡ over (set l i x) s
-  unfolding over
-  over-set i x h = set-append-left l (drop (length l) s) i x h ∙ ap (λ (n : ℕ). set l i x ++ drop n s) (sym (length-set l i x))
-
-  pub over-push : (n : ℕ) (x : A) → length l ≡ n → n < length s → set (over l s) n x ≡ over (l ++ x ∷ []) s
-  unfolding over
-  over-push n x e h =
-      let more : suc (length l) ≡ length (l ++ x ∷ []) = omega (arith, length-append l (x ∷ [])) in
-      ap (λ (r : List A). set (l ++ r) n x) (drop-cons s (length l) x (omega arith))
-      ∙ set-at l (getD s (length l) x) (drop (suc (length l)) s) x n e
-      ∙ sym (append-assoc l (x ∷ []) (drop (suc (length l)) s))
-      ∙ ap (λ (k : ℕ). (l ++ x ∷ []) ++ drop k s) more
 
 -- ---- what is told
 
@@ -115,7 +92,7 @@ module _ (t p : Told) (w : Within t) (r : Room p) where
   may-give-laid v b = go (ltb v (length (t .linear))) refl
     where
       go : (d : Bool) → ltb v (length (t .linear)) ≡ d
-          → (ltb v (length (t .linear)) && (eqb (getD (over (t .start) (p .start)) v 0) 2 && ltb b 2)) ≡ (ltb v (length (t .linear)) && (eqb (getD (t .start) v 0) 2 && ltb b 2))
+          → (ltb v (length (t .linear)) && (isFree (over (t .start) (p .start)) v && ltb b 2)) ≡ (ltb v (length (t .linear)) && (isFree (t .start) v && ltb b 2))
       go true e =
           let in-range : v < length (t .linear) = ltb-true v (length (t .linear)) e in
           ap (λ (y : ℕ). ltb v (length (t .linear)) && (eqb y 2 && ltb b 2)) (over-at (t .start) (p .start) v 0 (omega arith))

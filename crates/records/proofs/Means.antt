@@ -7,10 +7,11 @@ use mathlib.Core.List.{List, [], _∷_, _++_}
 use native.Mathlib.Nat.{add-zero}
 use native.Mathlib.Omega.{arith}
 use borrow.Author.Tests.{ltb-true, eqb-true, lt-ltb, eq-eqb}
-use lib.Dec.{ltb, eqb}
+use lib.Dec.{ltb}
 use lib.ListN.{length, getD, drop, length-append, length-drop, drop-of-length-le}
 use lib.Seq.{drop-cons, drop-drop, drop-at, getD-drop}
 use lib.Ieee.{binary64, ofBits}
+use Rattle.meaning.specs.Free.{isFree}
 use Rattle.endian.specs.Bytes.{numberAt, bytesOf, floatAt}
 use Rattle.records.specs.Reading.{markVC, markQE, markFX, markZZ, cursor, weightAt, entryAt, givenAt, readAt}
 use Rattle.records.specs.Told.{Told, nothing, withWeight, withEntry, withGiven, mayDeclare, mayEnter, mayGive, more, ended, taken, Outcome, outcome, following, readFrom, parsed}
@@ -169,7 +170,7 @@ module _ (s : List ℕ) (bytes : (i : ℕ) → getD s i 0 < 256) where
         let v = numberAt 2 s (at + 2) in
         let b = getD s (at + 4) 0 in
         let on = went-on read (withGiven v b t) t u (at + 5) (mayGive v b (length (t .linear)) (t .start)) e in
-        let rest = and-right (ltb v (length (t .linear))) (eqb (getD (t .start) v 0) 2 && ltb b 2) (on .0) in
+        let rest = and-right (ltb v (length (t .linear))) (isFree (t .start) v && ltb b 2) (on .0) in
         let past : suc (at + 4) ≡ at + 5 = omega arith in
         let whole : drop at s ≡ bytesOf 2 markFX ++ (bytesOf 2 v ++ (b ∷ drop (at + 5) s)) =
         marked at markFX (omega arith) m
@@ -179,7 +180,7 @@ module _ (s : List ℕ) (bytes : (i : ℕ) → getD s i 0 < 256) where
           number-below 2 s (at + 2) bytes (omega arith),
           ltb-true v (length (t .linear)) (and-left _ _ (on .0)),
           eqb-true (getD (t .start) v 0) 2 (and-left _ _ rest),
-          ltb-true b 2 (and-right (eqb (getD (t .start) v 0) 2) (ltb b 2) rest),
+          ltb-true b 2 (and-right (isFree (t .start) v) (ltb b 2) rest),
         )
         whole
         (ih (at + 5) _ (on .1))

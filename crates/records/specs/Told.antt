@@ -3,8 +3,9 @@ use Prim.Native.Nat.{ℕ, zero, suc}
 use mathlib.Core.Bool.{Bool, false, _&&_, cond}
 use mathlib.Core.List.{List, [], _∷_, _++_}
 use lib.Dec.{ltb, eqb}
-use lib.ListN.{length, getD, set}
+use lib.ListN.{length, set}
 use lib.Ieee.{Float}
+use Rattle.meaning.specs.Free.{isFree}
 use Rattle.records.specs.Reading.{readAt}
 use Rattle.records.specs.declared.Record.{Record}
 use Rattle.records.specs.declared.Record.the-variants.{Weight, Entry, Given, End, Malformed}
@@ -39,7 +40,7 @@ mayEnter entries = ltb entries 1024
 
 -- a declared variable, not given yet, and 0 or 1
 abbrev pub mayGive : ℕ → ℕ → ℕ → List ℕ → Bool
-mayGive v b variables start = ltb v variables && (eqb (getD start v 0) 2 && ltb b 2)
+mayGive v b variables start = ltb v variables && (isFree start v && ltb b 2)
 
 -- after a record: what is told so far and where the next one stands, or the end, well-formed or not
 pub data Turned : Type 0 where

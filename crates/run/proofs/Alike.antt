@@ -8,8 +8,9 @@ use native.Mathlib.Omega.{arith}
 use borrow.Author.Tests.{eqb-true}
 use lib.ListN.{length, getD, set, length-set}
 use lib.Seq.{getD-set-same, getD-set-other, set-out}
-use lib.Dec.{eqb, ltb}
+use lib.Dec.{ltb}
 use lib.Ieee.{Float}
+use Rattle.meaning.specs.Free as free
 use Rattle.field.specs.Field.{Field, variables}
 use Rattle.rows.specs.declared.Row.{Row}
 use Rattle.rows.specs.declared.Verdict.{Verdict}
@@ -32,7 +33,7 @@ both true c e p q = rw e (p refl)
 both false c e p q = rw e q
 
 same-free : {run other : Run} → Alike run other → (t : ℕ) → isFree other t ≡ isFree run t
-same-free a t = ap (λ (s : List ℕ). eqb (getD s t 0) 2) (a .values)
+same-free a t = ap (λ (s : List ℕ). free.isFree s t) (a .values)
 
 -- ---- a free variable is judged
 

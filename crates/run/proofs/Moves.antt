@@ -2,18 +2,17 @@
 use Prim.Native.Nat.{ℕ, _+_, _<_}
 use mathlib.Core.Path.{_≡_, refl, sym, ap, _∙_}
 use mathlib.Core.Logic.{_≢_, ⊎-elim}
-use mathlib.Core.List.{List, [], _∷_, _++_}
+use mathlib.Core.List.{List, [], _∷_}
 use native.Mathlib.Nat.{le-refl}
-use native.Mathlib.Numerals.{add-one}
 use native.Mathlib.Decide.{ℕ-discrete}
 use native.Mathlib.Omega.{arith}
 use borrow.Author.Tests.{eq-eqb, ne-eqb}
 use types.Run.{OneOf}
 use denote.Enum.Declared.{tagOf}
 use lib.Ieee.{Float}
-use lib.ListN.{length, getD, set, take, drop, length-set, length-drop}
-use lib.Seq.{take-set-le, take-suc-set, drop-set-add, drop-set-lt, getD-set-same, getD-set-other}
-use Rattle.scratch.specs.Region.{region}
+use lib.ListN.{length, getD, set, take, length-set}
+use lib.Seq.{take-set-le, drop-set-lt, getD-set-same, getD-set-other}
+use Rattle.scratch.proofs.Region.{region-push}
 use Rattle.field.specs.Field.{Field, variables, entries}
 use Rattle.rows.specs.declared.Row.{Row}
 use Rattle.rows.specs.declared.Verdict.{Verdict}
@@ -26,18 +25,12 @@ use Rattle.rows.proofs.Verdict.{the-type}
 use Rattle.rows.proofs.Upto.{getD-upTo}
 use Rattle.rows.proofs.Stored.{length-put, rest-put, row-same, put-rows}
 use Rattle.places.specs.Places.{otherEnd}
-use Rattle.places.proofs.Places.{other-below}
-use Rattle.places.proofs.Shape.{ends-below}
+use Rattle.places.proofs.Shape.{other-end-below}
 use Rattle.places.proofs.Walk.{adjacent-front}
 use Rattle.run.specs.Run.{Run, noRow, withRow, force, settle, judged, scanAt, moved, moveRow, serveAt}
 use Rattle.run.specs.Cells.{Cells, cells, base, runIn, Placed, Does, Settled}
 use Rattle.meaning.proofs.Free.{frees-set}
 use Rattle.run.proofs.Cells.{does-same, does-as, does-then}
-
--- a store right behind a region makes it one longer
-region-push : (a n : ℕ) (u : List ℕ) (x : ℕ) → a + n < length u → region a (n + 1) (set u (a + n) x) ≡ region a n u ++ (x ∷ [])
-unfolding region
-region-push a n u x h = rw (add-one, drop-set-add a u n x) (take-suc-set (drop a u) n x (omega (arith, length-drop a u)))
 
 -- ---- a verdict: forced, or open
 
@@ -187,8 +180,8 @@ put-does {F} {s} P {t} ht r =
 -- ---- a place of a served variable
 
 module _ {F : Field} {s : Cells} (P : Placed F s) (i : ℕ) {k t : ℕ} (hk : k < entries F) (et : t ≡ otherEnd (F .rows) (F .cols) i k) where
-  pub target-below : t < variables F
-  target-below = rw et (other-below (F .rows) (F .cols) i k (ends-below (P .shaped)) (omega (arith, P .shaped .rows-long)))
+  target-below : t < variables F
+  target-below = other-end-below (P .shaped) i hk et
 
   module _ (v : ℕ) where
     pub serve-fixed : getD (s .values) t 0 ≢ 2 → Does F (λ run. serveAt F i v run k) s s

@@ -5,8 +5,8 @@ use mathlib.Core.List.{List, [], _∷_, _++_, append-assoc}
 use native.Mathlib.Nat.{add-zero, zero-add}
 use native.Mathlib.Numerals.{add-one}
 use native.Mathlib.Omega.{arith}
-use lib.ListN.{length, getD, set, take, drop, length-append, length-drop, List·getD-append}
-use lib.Seq.{getD-append-add, getD-drop, drop-cons, set-at, take-at, drop-at, sets, sets-eq}
+use lib.ListN.{length, getD, set, take, drop, length-append, length-drop, length-set, List·getD-append}
+use lib.Seq.{getD-append-add, getD-drop, drop-cons, set-at, set-append-left, take-at, drop-at, sets, sets-eq}
 use Rattle.scratch.specs.Over.{over}
 
 -- two lists stored one behind the other are one list stored
@@ -29,6 +29,10 @@ module _ {A : Type 0} (l s : List A) where
   pub over-at : (i : ℕ) (d : A) → i < length l → getD (over l s) i d ≡ getD l i d
   unfolding over
   over-at i d h = List·getD-append l (drop (length l) s) d i h
+
+  pub over-set : (i : ℕ) (x : A) → i < length l → set (over l s) i x ≡ over (set l i x) s
+  unfolding over
+  over-set i x h = set-append-left l (drop (length l) s) i x h ∙ ap (λ (n : ℕ). set l i x ++ drop n s) (sym (length-set l i x))
 
   -- past it nothing is changed
   pub over-rest : {n : ℕ} → length l ≡ n → drop n (over l s) ≡ drop n s

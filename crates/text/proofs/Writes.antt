@@ -3,23 +3,17 @@ use Prim.Native.Nat.{ℕ, zero, suc, _+_, _*_, _/_, _%_, _<_, _≤_}
 use mathlib.Core.Path.{_≡_, refl, sym, ap, _∙_}
 use mathlib.Core.Bool.{Bool, true, false, cond}
 use mathlib.Core.List.{List, [], _∷_, _++_, append-assoc, append-nil}
-use native.Mathlib.Nat.{add-zero, zero-add}
 use native.Mathlib.Numerals.{add-one}
 use native.Mathlib.Omega.{arith}
 use borrow.Author.Tests.{lt-ltb, le-ltb, eq-eqb, ne-eqb}
 use lib.ListN.{length, getD, set, take, drop, length-append, drop-of-length-le}
-use lib.Seq.{sets, sets-eq, length-sets, length-take-le, take-suc, take-length}
+use lib.Seq.{sets, length-sets, length-take-le, take-suc, take-length}
 use Rattle.field.specs.declared.Grade.{Grade}
 use Rattle.scratch.specs.Over.{over}
+use Rattle.scratch.proofs.Over.{sets-then, over-sets}
 use Rattle.text.specs.Text.{decimal, gradeLine, forcedLine, endLine, answerText, isForced, forcedAt, forced, forcedLines, Wrote, Shows, Written}
 
 -- ---- texts
-
-sets-then : (a b o : List ℕ) (at : ℕ) → sets (sets o at a) (at + length a) b ≡ sets o at (a ++ b)
-sets-then [] b o at = ap (λ (i : ℕ). sets o i b) (add-zero at)
-sets-then (x ∷ a) b o at =
-    let e : at + suc (length a) ≡ suc at + length a = omega arith in
-    ap (λ (i : ℕ). sets (sets (set o at x) (suc at) a) i b) e ∙ sets-then a b (set o at x) (suc at)
 
 pub wrote-none : {o : List ℕ} {at : ℕ} → Wrote [] o at o at
 wrote-none = record { list = refl; next = omega arith }
@@ -40,11 +34,7 @@ module _ {a b o₀ o : List ℕ} {at r : ℕ} where
   as-text e w = rw e at w
 
 pub written : {text o₀ o : List ℕ} {r : ℕ} → Wrote text o₀ 0 o r → r ≤ length o₀ → Written text o₀ o r
-unfolding over
-written {text} {o₀} w h = record {
-  list = w .list ∙ sets-eq text o₀ 0 (omega (arith, w .next)) ∙ ap (λ (i : ℕ). text ++ drop i o₀) (zero-add (length text));
-  size = omega (arith, w .next);
-}
+written {text} {o₀} w h = record { list = w .list ∙ over-sets text o₀ (omega (arith, w .next)); size = omega (arith, w .next) }
 
 pub as-written : {a b o₀ o : List ℕ} {r : ℕ} → a ≡ b → Written a o₀ o r → Written b o₀ o r
 as-written e w = rw e at w

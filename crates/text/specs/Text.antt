@@ -3,9 +3,10 @@ use Prim.Native.Nat.{ℕ, zero, suc, _+_, _/_, _%_, _≤_}
 use mathlib.Core.Path.{_≡_}
 use mathlib.Core.Bool.{Bool, not, _&&_, cond}
 use mathlib.Core.List.{List, [], _∷_, _++_}
-use lib.Dec.{ltb, eqb}
+use lib.Dec.{ltb}
 use lib.ListN.{length, getD}
 use lib.Seq.{sets}
+use Rattle.meaning.specs.Free.{isFree}
 use Rattle.field.specs.declared.Grade.{Grade}
 use Rattle.field.specs.declared.Grade.the-variants.{Exact, Inexact}
 use Rattle.scratch.specs.Over.{over}
@@ -45,7 +46,7 @@ endLine count = (101 ∷ 110 ∷ 100 ∷ 32 ∷ []) ++ (decimal count ++ newline
 
 -- variable i was free and is not any more
 abbrev pub isForced : List ℕ → List ℕ → ℕ → Bool
-isForced start values i = eqb (getD start i 0) 2 && not (eqb (getD values i 0) 2)
+isForced start values i = isFree start i && not (isFree values i)
 
 abbrev pub forcedAt : List ℕ → List ℕ → ℕ → List ℕ
 forcedAt start values i = cond (isForced start values i) (i ∷ []) []

@@ -1,6 +1,7 @@
 -- `add_end` passes over a free other end. Assumes nothing.
 use native.Mathlib.Omega.{arith}
-use Rattle.enumeration.proofs.Ends.{end-below, end-free, end-fixed}
+use Rattle.places.proofs.Shape.{other-end-below}
+use Rattle.enumeration.proofs.Ends.{end-free, end-fixed}
 use borrow.Author.Needs.{needs}
 use Rattle.enumeration.proofs.linear.add_end.Statement.{statement}
 use Rattle.enumeration.proofs.linear.add_end.Tie as tie
@@ -12,7 +13,7 @@ shared-slice-read-v : tie.Need-shared-slice-read-v
 shared-slice-read-v c =
     let at-other-end = c .before in
     let start = at-other-end .before .before .before .before .before .before in
-    omega (arith, end-below (start .pre .0 .shaped) (start .args .i) (start .args .k) (start .pre .1), at-other-end .other-end .ensures, start .pre .0 .values-long)
+    omega (arith, other-end-below (start .pre .0 .shaped) _ (start .pre .1) (at-other-end .other-end .ensures), start .pre .0 .values-long)
 
 returns : tie.Need-returns
 returns c = end-free _ _ _ _ _ (c .before .before .other-end .ensures) (c .if1 .taken)

@@ -1,5 +1,6 @@
 -- `visit_at` passes over an entry that does not join, and visits the other end of one that does. Assumes nothing.
-use Rattle.parts.proofs.Moves.{passes-by, end-below, visits-end}
+use Rattle.places.proofs.Shape.{other-end-below}
+use Rattle.parts.proofs.Moves.{passes-by, visits-end}
 use borrow.Author.Needs.{needs}
 use Rattle.parts.proofs.steps.visit_at.Statement.{statement}
 use Rattle.parts.proofs.steps.visit_at.Tie as tie
@@ -26,7 +27,7 @@ visit-requires : tie.Need-visit-requires
 visit-requires c κs =
     let at-other-end = c .before in
     let start = at-other-end .before .before .before .before .before .before .before .before .before in
-    (start .pre .0, end-below (start .pre .0) _ (start .pre .1) (at-other-end .other-end .ensures))
+    (start .pre .0, other-end-below (start .pre .0 .shaped) _ (start .pre .1) (at-other-end .other-end .ensures))
 
 same-length : tie.Need-same-length
 same-length c = search needs

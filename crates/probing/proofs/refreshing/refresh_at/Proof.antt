@@ -1,6 +1,6 @@
 -- `refresh_at` passes over a fixed other end, and makes the row of a free one afresh. Assumes nothing.
 use native.Mathlib.Omega.{arith}
-use Rattle.run.proofs.Moves.{target-below}
+use Rattle.places.proofs.Shape.{other-end-below}
 use Rattle.probing.proofs.Refreshed.{readable, refresh-fixed, refresh-free}
 use borrow.Author.Needs.{needs}
 use Rattle.probing.proofs.refreshing.refresh_at.Statement.{statement}
@@ -13,7 +13,7 @@ shared-slice-read-if1 : tie.Need-shared-slice-read-if1
 shared-slice-read-if1 c =
     let at-other-end = c .before in
     let start = at-other-end .before .before .before .before .before .before .before .before in
-    omega (arith, target-below (start .pre .0) _ (start .pre .1 .1) (at-other-end .other-end .ensures), start .pre .0 .values-long)
+    omega (arith, other-end-below (start .pre .0 .shaped) _ (start .pre .1 .1) (at-other-end .other-end .ensures), start .pre .0 .values-long)
 
 returns : tie.Need-returns
 returns c =
@@ -25,13 +25,13 @@ fresh-row-requires : tie.Need-fresh-row-requires
 fresh-row-requires c κs =
     let at-other-end = c .before .before in
     let start = at-other-end .before .before .before .before .before .before .before .before in
-    (readable (start .pre .0) (start .pre .1 .0), target-below (start .pre .0) _ (start .pre .1 .1) (at-other-end .other-end .ensures))
+    (readable (start .pre .0) (start .pre .1 .0), other-end-below (start .pre .0 .shaped) _ (start .pre .1 .1) (at-other-end .other-end .ensures))
 
 put-row-requires : tie.Need-put-row-requires
 put-row-requires c κs =
     let at-other-end = c .before .before .before .before in
     let start = at-other-end .before .before .before .before .before .before .before .before in
-    omega (arith, target-below (start .pre .0) _ (start .pre .1 .1) (at-other-end .other-end .ensures), start .pre .0 .floats-room)
+    omega (arith, other-end-below (start .pre .0 .shaped) _ (start .pre .1 .1) (at-other-end .other-end .ensures), start .pre .0 .floats-room)
 
 same-length : tie.Need-same-length
 same-length c = search needs

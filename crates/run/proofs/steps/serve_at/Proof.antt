@@ -1,6 +1,7 @@
 -- `serve_at` passes over a fixed other end, moves the row of a free one, and settles a forced verdict. Assumes nothing.
 use native.Mathlib.Omega.{arith}
-use Rattle.run.proofs.Moves.{settle-room, target-below, serve-fixed, serve-open, serve-forced}
+use Rattle.places.proofs.Shape.{other-end-below}
+use Rattle.run.proofs.Moves.{settle-room, serve-fixed, serve-open, serve-forced}
 use borrow.Author.Needs.{needs}
 use Rattle.run.proofs.steps.serve_at.Statement.{statement}
 use Rattle.run.proofs.steps.serve_at.Tie as tie
@@ -12,7 +13,7 @@ slice-read-if1 : tie.Need-slice-read-if1
 slice-read-if1 c =
     let at-other-end = c .before in
     let start = at-other-end .before .before .before .before .before .before .before .before in
-    omega (arith, target-below (start .pre .0) _ (start .pre .1) (at-other-end .other-end .ensures), start .pre .0 .values-long)
+    omega (arith, other-end-below (start .pre .0 .shaped) _ (start .pre .1) (at-other-end .other-end .ensures), start .pre .0 .values-long)
 
 returns : tie.Need-returns
 returns c =
@@ -42,13 +43,13 @@ move-row-requires : tie.Need-move-row-requires
 move-row-requires c κs =
     let at-other-end = c .before .before .before .before .before in
     let start = at-other-end .before .before .before .before .before .before .before .before in
-    omega (arith, target-below (start .pre .0) _ (start .pre .1) (at-other-end .other-end .ensures), start .pre .0 .floats-room)
+    omega (arith, other-end-below (start .pre .0 .shaped) _ (start .pre .1) (at-other-end .other-end .ensures), start .pre .0 .floats-room)
 
 cast-conclude : tie.Need-cast-conclude
 cast-conclude c =
     let at-other-end = c .before .before .before .before .before .before .before .before in
     let start = at-other-end .before .before .before .before .before .before .before .before in
-    omega (arith, target-below (start .pre .0) _ (start .pre .1) (at-other-end .other-end .ensures), start .pre .0 .shaped .few-variables)
+    omega (arith, other-end-below (start .pre .0 .shaped) _ (start .pre .1) (at-other-end .other-end .ensures), start .pre .0 .shaped .few-variables)
 
 conclude-requires : tie.Need-conclude-requires
 conclude-requires c κs = search needs
@@ -76,7 +77,7 @@ settle-requires c κs =
     let at-if1 = at-conclude .before .before .before .before .before .before .before in
     let at-other-end = at-if1 .before .before in
     let start = at-other-end .before .before .before .before .before .before .before .before in
-    settle-room (start .pre .0) (target-below (start .pre .0) _ (start .pre .1) (at-other-end .other-end .ensures)) (at-if1 .if1 .left) (at-conclude .conclude .ensures)
+    settle-room (start .pre .0) (other-end-below (start .pre .0 .shaped) _ (start .pre .1) (at-other-end .other-end .ensures)) (at-if1 .if1 .left) (at-conclude .conclude .ensures)
 
 same-length-2 : tie.Need-same-length-2
 same-length-2 c = search needs

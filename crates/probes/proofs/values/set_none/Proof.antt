@@ -2,8 +2,8 @@
 use Prim.Native.Nat.{_-_}
 use Rattle.probes.proofs.Nones.{Noning, noning-start, noning-room, noning-turn, noning-done}
 use borrow.Author.Needs.{needs}
-use Rattle.probes.proofs.listing.set_none.Statement.{statement}
-use Rattle.probes.proofs.listing.set_none.Tie as tie
+use Rattle.probes.proofs.values.set_none.Statement.{statement}
+use Rattle.probes.proofs.values.set_none.Tie as tie
 
 abbrev Inv-loop : tie.InvT-loop
 Inv-loop u₀ at n j₀ u j = Noning at n j u₀ u

@@ -1,9 +1,9 @@
-// The candidates of the full probe, listed in the u32 scratch.
+// The free variables, listed in the u32 scratch.
 ghost use mathlib.Core.Path.{_≡_};
 ghost use Prim.Native.Nat.{_+_, _≤_};
 ghost use lib.ListN.{length};
 ghost use Rattle.scratch.specs.Lent.{before, after};
-ghost use Rattle.probes.specs.Listed.{stepOf, Listed, Noned};
+ghost use Rattle.ranking.specs.Listed.{stepOf, Listed};
 
 // 1 for a free variable.
 pub fn step(value: u8) -> usize
@@ -25,14 +25,4 @@ pub fn list_free(start: &[u8], u: &mut [u32], at: usize) -> usize
         count += step(start[j]);
     }
     count
-}
-
-// 2 goes into n words from `at` on.
-pub fn set_none(u: &mut [u32], at: usize, n: usize)
-    requires { ⌜ at + n ≤ length (now u) ⌝ }
-    ensures { λ _. ⌜ Noned at n (before u) (after u) ⌝ }
-{
-    for j in 0..n {
-        u[at + j] = 2;
-    }
 }

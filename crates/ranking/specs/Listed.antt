@@ -1,5 +1,5 @@
 -- The free variables listed in the words. Assumes nothing.
-use Prim.Native.Nat.{ℕ, _+_, _<_, _≤_}
+use Prim.Native.Nat.{ℕ, _+_, _≤_}
 use mathlib.Core.Path.{_≡_}
 use mathlib.Core.Bool.{cond}
 use mathlib.Core.List.{List}
@@ -11,16 +11,10 @@ use Rattle.meaning.specs.Free.{freeTo}
 unfoldable pub stepOf : ℕ → ℕ
 stepOf v = cond (eqb v 2) 1 0
 
--- the free variables below j stand from `at` on, and what is in front of them is as it was
+-- the free variables below j stand from `at` on, and what is in front of them and behind their room is as it was
 pub record Listed (s : List ℕ) (at j : ℕ) (u₀ u : List ℕ) (count : ℕ) : Type 0 where
   pub few : count ≤ j
   pub long : length u ≡ length u₀
   pub front : take at u ≡ take at u₀
   pub is : region at count u ≡ freeTo s j
-
--- 2 stands in the j words from `at` on, and what is in front of them is as it was
-pub record Noned (at j : ℕ) (u₀ u : List ℕ) : Type 0 where
-  pub long : length u ≡ length u₀
-  pub front : take at u ≡ take at u₀
-  pub none : (t : ℕ) → t < j → getD u (at + t) 0 ≡ 2
-  pub behind : (t : ℕ) → at + j ≤ t → getD u t 0 ≡ getD u₀ t 0
+  pub behind : (t : ℕ) → at + length s ≤ t → getD u t 0 ≡ getD u₀ t 0

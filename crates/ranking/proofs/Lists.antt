@@ -1,17 +1,17 @@
 -- One variable more is looked at. Assumes nothing.
-use Prim.Native.Nat.{ℕ, suc, _+_, _<_, _≤_}
+use Prim.Native.Nat.{ℕ, _+_, _<_, _≤_}
 use mathlib.Core.Path.{_≡_, refl, sym, ap, _∙_}
 use mathlib.Core.Bool.{Bool, true, false, cond}
 use mathlib.Core.List.{List, [], _∷_, _++_, append-nil}
 use native.Mathlib.Nat.{le-refl, add-zero}
 use native.Mathlib.Numerals.{add-one}
 use native.Mathlib.Omega.{arith}
-use lib.ListN.{length, getD, set, take, drop, length-set, length-drop}
-use lib.Seq.{take-set-le, drop-set-add, take-suc-set}
+use lib.ListN.{length, getD, set, length-set}
+use lib.Seq.{take-set-le, getD-set-other}
 use Rattle.scratch.specs.Region.{region}
-use Rattle.scratch.proofs.Region.{region-above}
+use Rattle.scratch.proofs.Region.{region-push, region-above}
 use Rattle.meaning.specs.Free.{isFree, freeTo}
-use Rattle.probes.specs.Listed.{stepOf, Listed}
+use Rattle.ranking.specs.Listed.{stepOf, Listed}
 
 pub record Listing (s : List ℕ) (at j : ℕ) (u₀ u : List ℕ) (count : ℕ) : Type 0 where
   pub room : at + length s ≤ length u₀
@@ -20,11 +20,7 @@ pub record Listing (s : List ℕ) (at j : ℕ) (u₀ u : List ℕ) (count : ℕ)
 
 pub listing-start : (s : List ℕ) (at : ℕ) (u : List ℕ) → at + length s ≤ length u → Listing s at 0 u u 0
 unfolding freeTo region
-listing-start s at u h = record { room = h; within = omega arith; listed = record { few = omega arith; long = refl; front = refl; is = refl } }
-
-pushed : (at k : ℕ) (u : List ℕ) (x : ℕ) → at + k < length u → region at (suc k) (set u (at + k) x) ≡ region at k u ++ x ∷ []
-unfolding region
-pushed at k u x h = ap (take (suc k)) (drop-set-add at u k x) ∙ take-suc-set (drop at u) k x (omega (arith, length-drop at u))
+listing-start s at u h = record { room = h; within = omega arith; listed = record { few = omega arith; long = refl; front = refl; is = refl; behind = λ t l. refl } }
 
 module _ {s u₀ u : List ℕ} {at j count : ℕ} (L : Listing s at j u₀ u count) where
   pub listing-room : j < length s → at + count < length u
@@ -40,11 +36,12 @@ module _ {s u₀ u : List ℕ} {at j count : ℕ} (L : Listing s at j u₀ u cou
       long = length-set u (at + count) j ∙ L .listed .long;
       front = take-set-le at u (at + count) j (omega arith) ∙ L .listed .front;
       is = rw (e, add-one j) (go (isFree s j));
+      behind = λ t g. getD-set-other u (at + count) t j 0 (λ z. omega (arith, L .listed .few)) ∙ L .listed .behind t g;
     };
   }
     where
       go : (b : Bool) → region at (count + cond b 1 0) (set u (at + count) j) ≡ freeTo s j ++ cond b (j ∷ []) []
-      go true = rw (add-one count) (pushed at count u j (listing-room h) ∙ ap (λ (z : List ℕ). z ++ j ∷ []) (L .listed .is))
+      go true = region-push at count u j (listing-room h) ∙ ap (λ (z : List ℕ). z ++ j ∷ []) (L .listed .is)
       go false = rw (add-zero count) (region-above at count u (at + count) j (le-refl (at + count)) ∙ L .listed .is ∙ sym (append-nil (freeTo s j)))
 
   pub listing-done : length s ≤ j → Listed s at (length s) u₀ u count

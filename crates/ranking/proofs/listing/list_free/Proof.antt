@@ -1,10 +1,10 @@
 -- `list_free` looks at one variable a turn. Assumes nothing.
 use Prim.Native.Nat.{_-_}
 use lib.ListN.{length}
-use Rattle.probes.proofs.Lists.{Listing, listing-start, listing-room, listing-turn, listing-done}
+use Rattle.ranking.proofs.Lists.{Listing, listing-start, listing-room, listing-turn, listing-done}
 use borrow.Author.Needs.{needs}
-use Rattle.probes.proofs.listing.list_free.Statement.{statement}
-use Rattle.probes.proofs.listing.list_free.Tie as tie
+use Rattle.ranking.proofs.listing.list_free.Statement.{statement}
+use Rattle.ranking.proofs.listing.list_free.Tie as tie
 
 abbrev Inv-loop : tie.InvT-loop
 Inv-loop start u₀ at count₀ j₀ j-end u count j = Listing start at j u₀ u count

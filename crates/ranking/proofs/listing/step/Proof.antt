@@ -1,9 +1,9 @@
 -- `step` asks whether the value is 2. Assumes nothing.
 use native.Mathlib.Omega.{arith}
 use borrow.Author.Tests.{eq-eqb, ne-eqb}
-use Rattle.probes.specs.Listed.{stepOf}
-use Rattle.probes.proofs.listing.step.Statement.{statement}
-use Rattle.probes.proofs.listing.step.Tie as tie
+use Rattle.ranking.specs.Listed.{stepOf}
+use Rattle.ranking.proofs.listing.step.Statement.{statement}
+use Rattle.ranking.proofs.listing.step.Tie as tie
 
 returns : tie.Need-returns
 unfolding stepOf
