@@ -2,9 +2,9 @@
 use Prim.Native.Nat.{ℕ, _+_, _*_, _<_, _≤_}
 use mathlib.Core.Path.{_≡_, refl, sym, ap, _∙_}
 use mathlib.Core.Bool.{Bool, true, false, cond}
-use mathlib.Core.List.{List, [], _∷_, _++_, append-nil}
+use mathlib.Core.List.{List, [], _∷_, _++_}
 use native.Mathlib.Omega.{arith}
-use lib.ListN.{length, take, drop, length-append, drop-of-length-le}
+use lib.ListN.{length, take}
 use lib.Seq.{length-take-le}
 use lib.Ieee.{Float}
 use Rattle.field.specs.declared.Answer.{Answer}
@@ -23,15 +23,13 @@ use Rattle.field.proofs.Means.{floats-mean, words-mean}
 use Rattle.field.proofs.Table.{test-ok, none-left, group-no, group-ok}
 use Rattle.run.specs.Run.{closure}
 use Rattle.closure.specs.Call.{closureCall}
-use Rattle.scratch.specs.Over.{over}
 use Rattle.records.specs.Told.{Told, parsed}
 use Rattle.records.specs.Parsing.{answerOf, Parses}
-use Rattle.text.specs.Text.{refusedText, answerText, Wrote, Written}
+use Rattle.text.specs.Text.{refusedText, answerText}
 use Rattle.answering.specs.Answer.{checkedText, fieldText, toldText, outcomeText, answerBytes, Enough, Fits}
 use Rattle.records.specs.declared.parsing.Parsed.{Parsed}
 use Rattle.records.specs.declared.parsing.Parsed.the-variants.{Field as Found, Malformed}
 use Rattle.records.proofs.Front.{field-whole, field-fronts}
-use Rattle.text.proofs.Writes.{written}
 
 -- ---- a refusal's number
 

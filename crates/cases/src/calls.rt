@@ -16,8 +16,11 @@ use lines::outcomes::is_exact;
 use lines::outcomes::refused;
 use pairs::Paired;
 use stream::head::Head;
+ghost use Prim.Native.Nat.{_≤_};
 
-fn paired(answer: Paired) -> Outcome {
+fn paired(answer: Paired) -> Outcome
+    ensures { λ r. ⌜ r .number ≤ 11 ⌝ }
+{
     match answer {
         Paired::Done(grade, count, examined) => {
             Outcome {
@@ -41,7 +44,9 @@ fn in_components(
     start: &mut [u8],
     f: &mut [f64],
     u: &mut [u32],
-) -> Outcome {
+) -> Outcome
+    ensures { λ r. ⌜ r .number ≤ 11 ⌝ }
+{
     if code == COMPONENTS {
         return answered(components::components(c, rows, cols, q, start, f, u));
     }
@@ -61,7 +66,9 @@ fn in_start(
     start: &mut [u8],
     f: &mut [f64],
     u: &mut [u32],
-) -> Outcome {
+) -> Outcome
+    ensures { λ r. ⌜ r .number ≤ 11 ⌝ }
+{
     if code == CLOSURE {
         return answered(closure::closure(c, rows, cols, q, start, f, u));
     }
@@ -79,7 +86,9 @@ fn in_list(
     list: &mut [u16],
     f: &mut [f64],
     u: &mut [u32],
-) -> Outcome {
+) -> Outcome
+    ensures { λ r. ⌜ r .number ≤ 11 ⌝ }
+{
     if head.code == PAIRS {
         return paired(pairs::pairs(c, rows, cols, q, start, head.limit, list, f, u));
     }
@@ -104,7 +113,9 @@ pub fn make(
     list: &mut [u16],
     f: &mut [f64],
     u: &mut [u32],
-) -> Outcome {
+) -> Outcome
+    ensures { λ r. ⌜ r .number ≤ 11 ⌝ }
+{
     let code = head.code;
     if code <= PREPROCESS {
         return in_start(code, c, rows, cols, q, start, f, u);

@@ -14,9 +14,11 @@ use stream::output::put_list;
 use stream::output::put_number;
 use stream::output::put_promise;
 use stream::output::put_text;
+ghost use mathlib.Core.Path.{_≡_};
 ghost use Prim.Native.Nat.{_+_, _≤_};
 ghost use lib.ListN.{length};
 ghost use Rattle.scratch.specs.Lent.{after};
+ghost use Rattle.lines.specs.Outcomes.{among};
 
 // The codes of the calls.
 pub const CLOSURE: u8 = 1;
@@ -74,7 +76,9 @@ fn is_early(number: u32) -> bool {
 }
 
 // Whether the call is one of these, whose codes follow each other.
-pub fn is_among(code: u8, first: u8, last: u8) -> bool {
+pub fn is_among(code: u8, first: u8, last: u8) -> bool
+    ensures { λ r. ⌜ r ≡ among code first last ⌝ }
+{
     if code < first {
         return false;
     }

@@ -4,15 +4,23 @@ use field::Answer;
 use field::Checked;
 use field::Counted;
 use field::Grade;
+ghost use mathlib.Core.Path.{_≡_};
+ghost use Rattle.lines.specs.Outcomes.{isExact, refused as refusedBy, answered as answeredBy, checked as checkedBy, counted as countedBy};
 
-pub fn is_exact(grade: Grade) -> bool {
+// Whether a grade is exact.
+pub fn is_exact(grade: Grade) -> bool
+    ensures { λ r. ⌜ r ≡ isExact grade ⌝ }
+{
     match grade {
         Grade::Exact => true,
         Grade::Inexact => false,
     }
 }
 
-pub fn refused(number: u32) -> Outcome {
+// A number alone.
+pub fn refused(number: u32) -> Outcome
+    ensures { λ r. ⌜ r ≡ refusedBy number ⌝ }
+{
     Outcome {
         number: number,
         is_exact: false,
@@ -21,7 +29,10 @@ pub fn refused(number: u32) -> Outcome {
     }
 }
 
-pub fn answered(answer: Answer) -> Outcome {
+// Done with a grade, or a refusal's number.
+pub fn answered(answer: Answer) -> Outcome
+    ensures { λ r. ⌜ r ≡ answeredBy answer ⌝ }
+{
     match answer {
         Answer::Done(grade) => Outcome {
             number: 0,
@@ -33,14 +44,20 @@ pub fn answered(answer: Answer) -> Outcome {
     }
 }
 
-pub fn checked(answer: Checked) -> Outcome {
+// The number alone, 0 where all passed.
+pub fn checked(answer: Checked) -> Outcome
+    ensures { λ r. ⌜ r ≡ checkedBy answer ⌝ }
+{
     match answer {
         Checked::Passed => refused(0),
         Checked::Failed(refusal) => refused(refusal.number()),
     }
 }
 
-pub fn counted(answer: Counted) -> Outcome {
+// Done with a grade and a count, or a refusal's number.
+pub fn counted(answer: Counted) -> Outcome
+    ensures { λ r. ⌜ r ≡ countedBy answer ⌝ }
+{
     match answer {
         Counted::Counts(grade, count) => {
             Outcome {

@@ -7,6 +7,7 @@ use lines::is_among;
 use lines::outcomes::answered;
 use lines::outcomes::counted;
 use stream::head::Head;
+ghost use Prim.Native.Nat.{_≤_};
 
 // The probes of all or of the first candidates, which answer in found values and in a list of constraints.
 fn in_both(
@@ -20,7 +21,9 @@ fn in_both(
     list: &mut [u16],
     f: &mut [f64],
     u: &mut [u32],
-) -> Outcome {
+) -> Outcome
+    ensures { λ r. ⌜ r .number ≤ 11 ⌝ }
+{
     if head.code == PROBE {
         return counted(probes::probe(c, rows, cols, q, start, found, list, f, u));
     }
@@ -39,7 +42,9 @@ pub fn make(
     list: &mut [u16],
     f: &mut [f64],
     u: &mut [u32],
-) -> Outcome {
+) -> Outcome
+    ensures { λ r. ⌜ r .number ≤ 11 ⌝ }
+{
     if head.code == HEAVY {
         return answered(heavy::heavy(c, rows, cols, q, start, f, u));
     }

@@ -2,10 +2,10 @@
 use crate::calls::make;
 use cases::contents::fill_lent;
 use cases::contents::start_at;
-use cases::contents::start_values;
 use cases::contents::take_columns;
 use cases::contents::take_linear;
 use cases::contents::take_rows;
+use cases::contents::take_start;
 use cases::contents::take_weights;
 use cases::shifting::answer_shift;
 use lines::BYTE;
@@ -105,7 +105,8 @@ fn answer_in_parts(
     ensures { λ r. ⌜ r ≤ length (after out) ⌝ }
 {
     fill_lent(head, contents, list, f, u);
-    let mut start = start_values(head, contents);
+    let mut start = [0u8; VARIABLES];
+    take_start(head, contents, &mut start);
     let mut found = [BYTE; VARIABLES];
     let values = head.start;
     let room = head.found;

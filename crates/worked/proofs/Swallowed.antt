@@ -6,9 +6,9 @@ use mathlib.Core.Logic.{_⊎_, inl, inr, ⊎-elim}
 use mathlib.Core.List.{List, [], _∷_}
 use native.Mathlib.Omega.{arith}
 use lib.ListN.{getD}
-use Rattle.whole.specs.Whole.{Whole, _⊑_, sum}
+use Rattle.whole.specs.Whole.{_⊑_, sum}
 use Rattle.weights.specs.Counts.{plus, minus}
-use Rattle.meaning.specs.Field.{Field, twice-f, Completion, Best}
+use Rattle.meaning.specs.Field.{Field, twice-f, Best}
 use Rattle.field.specs.Reading.{wholeOf}
 use Rattle.worked.specs.Fields.{swallowing}
 

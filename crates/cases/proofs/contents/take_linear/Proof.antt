@@ -1,5 +1,6 @@
--- `take_linear` lends as much of the list as the head says. Assumes nothing.
+-- `take_linear` lends as much of the list as the head says, and what it takes lies over that. Assumes nothing.
 use Rattle.cases.proofs.Parts.{part-fits, linear-stands}
+use Rattle.cases.proofs.Taken.{linear-taken}
 use borrow.Author.Needs.{needs}
 use Rattle.cases.proofs.contents.take_linear.Statement.{statement}
 use Rattle.cases.proofs.contents.take_linear.Tie as tie
@@ -21,7 +22,9 @@ same-length : tie.Need-same-length
 same-length c = search needs
 
 returns : tie.Need-returns
-returns c = search needs
+returns c =
+    let s = c .before .before .before .before .before .before in
+    linear-taken (s .args .head) (s .args .contents .now) (s .args .c .now) (c .before .before .take-floats .last .1 .1 .0) (s .pre .1) (c .before .before .take-floats .ensures)
 
 pub take-linear-spec : {M : Type 1} → statement M
 take-linear-spec =

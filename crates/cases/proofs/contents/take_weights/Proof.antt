@@ -1,5 +1,6 @@
--- `take_weights` lends as much of the list as the head says. Assumes nothing.
+-- `take_weights` lends as much of the list as the head says, and what it takes lies over that. Assumes nothing.
 use Rattle.cases.proofs.Parts.{part-fits, weights-stand}
+use Rattle.cases.proofs.Taken.{taken}
 use borrow.Author.Needs.{needs}
 use Rattle.cases.proofs.contents.take_weights.Statement.{statement}
 use Rattle.cases.proofs.contents.take_weights.Tie as tie
@@ -36,7 +37,9 @@ same-length : tie.Need-same-length
 same-length c = search needs
 
 returns : tie.Need-returns
-returns c = search needs
+returns c =
+    let s = c .before .before .before .before .before .before .before .before .before in
+    taken _ (s .args .head .weights) (s .args .q .now) (c .before .before .take-floats .last .1 .1 .0) (s .pre .1) (c .before .before .take-floats .ensures)
 
 pub take-weights-spec : {M : Type 1} → statement M
 take-weights-spec =

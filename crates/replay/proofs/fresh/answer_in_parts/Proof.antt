@@ -1,5 +1,7 @@
 -- `answer_in_parts` lends as many values as the head says. Assumes nothing.
+use Prim.Native.Nat.{ℕ}
 use native.Mathlib.Omega.{arith}
+use lib.ListN.{length-replicate}
 use Rattle.cases.proofs.Parts.{part-fits, part-long, start-stands}
 use borrow.Author.Needs.{needs}
 use Rattle.replay.proofs.fresh.answer_in_parts.Statement.{statement}
@@ -8,8 +10,11 @@ use Rattle.replay.proofs.fresh.answer_in_parts.Tie as tie
 fill-lent-requires : tie.Need-fill-lent-requires
 fill-lent-requires c κs = search needs
 
-start-values-requires : tie.Need-start-values-requires
-start-values-requires c κs = search needs
+slice-aggregate-take-start : tie.Need-slice-aggregate-take-start
+slice-aggregate-take-start c = search needs
+
+take-start-requires : tie.Need-take-start-requires
+take-start-requires c κs = search needs
 
 start-at-requires : tie.Need-start-at-requires
 start-at-requires c κs = search needs
@@ -19,23 +24,25 @@ array-borrow-prefix-start c = search needs
 
 slice-aggregate-answer-call : tie.Need-slice-aggregate-answer-call
 slice-aggregate-answer-call c =
-    let s = c .before .before .before .before .before .before .before .before .before .before .before .before .before .before .before .before .before .before in
-    let a = c .before .before .start-values in
-    part-fits _ (a .result) (omega (arith, a .ok, s .pre .lists .start-fits))
+    let taken = c .before .before .before in
+    let start = taken .before .before .before .before .before .before .before .before .before .before .before .before .before .before .before .before .before in
+    part-fits _ (taken .take-start .last .1 .1 .0) (omega (arith, taken .take-start .kept .1 .1 .0, length-replicate {A = ℕ} 4100 0, start .pre .lists .start-fits))
 
 array-borrow-prefix-found : tie.Need-array-borrow-prefix-found
 array-borrow-prefix-found c = search needs
 
 slice-aggregate-answer-call-2 : tie.Need-slice-aggregate-answer-call-2
-slice-aggregate-answer-call-2 c =
-    let s = c .before .before .before .before .before .before .before .before .before .before .before .before .before .before .before .before .before .before .before in
-    part-long _ 4100 _ (s .pre .lent .found-fits)
+slice-aggregate-answer-call-2 c = part-long _ 4100 _ (c .before .before .before .before .before .before .before .before .before .before .before .before .before .before .before .before .before .before .before .before .before .pre .lent .found-fits)
 
 answer-call-requires : tie.Need-answer-call-requires
 answer-call-requires c κs =
-    let s = c .before .before .before .before .before .before .before .before .before .before .before .before .before .before .before .before .before .before .before .before .before .before .before in
-    let a = c .before .before .before .before .before .before .before .start-values in
-    (s .pre, start-stands (s .args .head) (s .pre .read) _ (c .before .before .before .before .before .before .start-at .ensures) (part-fits _ (a .result) (omega (arith, a .ok, s .pre .lists .start-fits))))
+    let placed = c .before .before .before .before .before .before in
+    let taken = placed .before .before in
+    let start = taken .before .before .before .before .before .before .before .before .before .before .before .before .before .before .before .before .before in (
+      start .pre,
+      start-stands (start .args .head) (start .pre .read) _ (placed .start-at .ensures)
+          (part-fits _ (taken .take-start .last .1 .1 .0) (omega (arith, taken .take-start .kept .1 .1 .0, length-replicate {A = ℕ} 4100 0, start .pre .lists .start-fits))),
+    )
 
 same-length : tie.Need-same-length
 same-length c = search needs
@@ -57,7 +64,8 @@ answer-in-parts-spec =
     tie.close
     (tie.spec
     fill-lent-requires
-    start-values-requires
+    slice-aggregate-take-start
+    take-start-requires
     start-at-requires
     array-borrow-prefix-start
     slice-aggregate-answer-call

@@ -1,0 +1,39 @@
+-- The outcome of this answer, by its cases. Assumes nothing.
+use mathlib.Core.Path.{sym, ap, _∙_}
+use Rattle.lines.specs.Outcomes.{refused, checked}
+use borrow.Author.Needs.{needs}
+use Rattle.lines.proofs.outcomes.checked.Statement.{statement}
+use Rattle.lines.proofs.outcomes.checked.Tie as tie
+
+enum-told : tie.Need-enum-told
+enum-told c = search needs
+
+refused-requires : tie.Need-refused-requires
+refused-requires c κs = search needs
+
+enum-known-answer : tie.Need-enum-known-answer
+enum-known-answer c = search needs
+
+number-requires : tie.Need-number-requires
+number-requires c κs = search needs
+
+refused-requires-2 : tie.Need-refused-requires-2
+refused-requires-2 c κs = search needs
+
+returns : tie.Need-returns
+returns c = c .refused .ensures ∙ ap checked (sym (c .before .enum-told .given .1))
+
+returns-2 : tie.Need-returns-2
+returns-2 c = c .refused2 .ensures ∙ ap refused (c .before .number .ensures) ∙ ap checked (sym (c .before .before .before .answer .given .1))
+
+pub checked-spec : {M : Type 1} → statement M
+checked-spec =
+    tie.close
+    (tie.spec
+    enum-told
+    refused-requires
+    enum-known-answer
+    number-requires
+    refused-requires-2
+    returns
+    returns-2)

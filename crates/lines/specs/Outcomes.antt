@@ -1,0 +1,39 @@
+-- What a call answered, as an outcome, and which codes follow each other. Assumes nothing.
+use Prim.Native.Nat.{ℕ}
+use mathlib.Core.Bool.{Bool, true, false, _&&_}
+use lib.Dec.{leb}
+use Rattle.field.specs.declared.Grade.{Grade}
+use Rattle.field.specs.declared.Grade.the-variants.{Exact, Inexact}
+use Rattle.field.specs.declared.Checked.{Checked}
+use Rattle.field.specs.declared.Answer.{Answer}
+use Rattle.field.specs.declared.Answer.the-variants.{Done, Refused}
+use Rattle.field.specs.declared.Counted.{Counted}
+use Rattle.field.specs.declared.Counted.the-variants.{Counts, Refuses}
+use Rattle.field.specs.Answers.{numberOf, checkedNumber}
+use Rattle.lines.specs.declared.Outcome.{Outcome}
+
+abbrev pub outcome : ℕ → Bool → ℕ → ℕ → Outcome
+outcome number exact count pairs = record { number = number; «is_exact» = exact; count = count; pairs = pairs }
+
+abbrev pub isExact : Grade → Bool
+isExact Exact = true
+isExact Inexact = false
+
+-- a number alone
+abbrev pub refused : ℕ → Outcome
+refused number = outcome number false 0 0
+
+abbrev pub checked : Checked → Outcome
+checked a = refused (checkedNumber a)
+
+abbrev pub answered : Answer → Outcome
+answered (Done g) = outcome 0 (isExact g) 0 0
+answered (Refused r) = refused (numberOf r)
+
+abbrev pub counted : Counted → Outcome
+counted (Counts g count) = outcome 0 (isExact g) count 0
+counted (Refuses r) = refused (numberOf r)
+
+-- the code is from the first to the last
+abbrev pub among : ℕ → ℕ → ℕ → Bool
+among code first last = leb first code && leb code last
