@@ -34,8 +34,8 @@ count() { # NAME COMMAND..
     esac
 }
 
-# rt ci waits for the slowest of each batch, so three to a processor leave none idle.
-jobs=$((3 * $(nproc 2>/dev/null || echo 1)))
+# rt ci waits for the slowest of each batch, so six to a processor leave none idle; a job takes up to 1 GiB.
+jobs=$((6 * $(nproc 2>/dev/null || echo 1)))
 [ "$jobs" -le 12 ] || jobs=12
 export RT_JOBS="${RT_JOBS:-$jobs}"
 
