@@ -3,6 +3,7 @@ import importlib.machinery
 import importlib.util
 import os
 import struct
+import subprocess
 import sys
 import tempfile
 import unittest
@@ -32,6 +33,17 @@ def field(text, name="f"):
     return records.read_field(name, text.splitlines())
 
 
+def run(*words, given="", files=(), locale="C.UTF-8"):
+    """Runs the tool in a folder with these files: its status, standard output and standard error."""
+    with tempfile.TemporaryDirectory() as room:
+        for name, data in dict(files).items():
+            with open(os.path.join(room, name), "wb") as file:
+                file.write(data)
+        done = subprocess.run([sys.executable, os.path.join(here, "records"), *words], cwd=room, input=given.encode(), capture_output=True,
+                              env={**os.environ, "LC_ALL": locale, "PYTHONUTF8": "0", "PYTHONCOERCECLOCALE": "0"})
+        return done.returncode, done.stdout, done.stderr.decode()
+
+
 class Pack(unittest.TestCase):
     def test_case_g(self):
         data = records.pack(field("group a -5\ngroup b -1\npair a b 4\n"))
@@ -49,6 +61,22 @@ class Pack(unittest.TestCase):
     def test_qubo(self):
         f = field("2\n0 1 4\n0 -5\n1 -1\n", "f.qubo")
         self.assertEqual(records.pack(f), records.pack(field("group a -5\ngroup b -1\npair a b 4\n")))
+
+    def test_qubo_by_any_case_of_its_ending(self):
+        self.assertEqual(records.pack(field("1\n0 -5\n", "F.QUBO")), records.pack(field("group a -5\n")))
+
+    def test_qubo_without_linear_weights(self):
+        self.assertEqual(records.pack(field("1\n", "f.qubo")), records.pack(field("group a 0\n")))
+
+    def test_a_mark_of_the_byte_order_is_passed_over(self):
+        text = b"group a -5\r\ngroup b 1\r\n"
+        packed = (0, records.pack(field("group a -5\ngroup b 1\n")), "")
+        self.assertEqual(run("pack", "f", files={"f": text}), packed)
+        self.assertEqual(run("pack", "f", files={"f": b"\xef\xbb\xbf" + text}), packed)
+
+    def test_numbers(self):
+        for word, value in (("1", 1.0), ("+2.", 2.0), (".5", 0.5), ("-1e-3", -0.001), ("1E2", 100.0), ("-0", -0.0)):
+            self.assertEqual(repr(records.number(word)), repr(value))
 
     def test_there_and_back(self):
         f = field("group g0 0.1\ngroup g1 -2\npair g1 g0 0.3\ngiven g1 0\n")
@@ -70,11 +98,41 @@ class Faults(unittest.TestCase):
         self.refuses("group a 1\ngiven a 1\ngiven a 1\n", "f:3: this group has a value already")
         self.refuses("weight a 1\n", "f:1: neither")
         self.refuses("".join(f"group g{i} 0\n" for i in range(257)), "f:257: more than 256 groups")
+        self.refuses("group a 0\npair a a 1\n", "f:2: a pair of one group with itself")
+        self.refuses("group a\x07 0\n", "f:1: the name 'a\\x07' has a sign that cannot be shown")
+
+    def test_numbers(self):
+        for word in ("nan", "NaN", "-nan", "inf", "-Infinity"):
+            self.refuses(f"group a 1\ngroup b {word}\n", f"f:2: `{word}` is not finite")
+        for word in ("1e400", "-1e400"):
+            self.refuses(f"group a {word}\n", f"f:1: `{word}` is too large")
+        for word in ("1_000", "\u00b2", "\uff11", "0x10", "1e", ".", "1,5"):
+            self.refuses(f"group a {word}\n", f"f:1: `{word}` is no number")
 
     def test_qubo(self):
         self.refuses("x\n", "`x` is no whole number", "f.qubo")
         self.refuses("2\n0 2 1\n", "f.qubo:2: `2` is not below 2", "f.qubo")
         self.refuses("2\n0\n", "neither `i j q` nor `i c`", "f.qubo")
+        self.refuses("2\n0 1\n1 1\n0 1\n", "f.qubo:4: variable 0 has a linear weight above", "f.qubo")
+        self.refuses("2\n1 1 3\n", "f.qubo:2: a pair of one group with itself", "f.qubo")
+        for word in ("\u00b2", "1_0", "-1", "+1"):
+            self.refuses(f"{word}\n", f"f.qubo:1: `{word}` is no whole number", "f.qubo")
+        self.refuses("9" * 5000 + "\n", "is not below 257", "f.qubo")
+
+    def test_told_without_a_traceback(self):
+        for text, words in (
+            (b"group a \xc2\xb2\n", "records: f:1: `"),
+            (b"group a 1\ngroup \xff 1\n", "records: f:2: no text in UTF-8"),
+            ("group \u03b1 1\ngroup \u03b1 1\n".encode(), "records: f:2: there is a group `"),
+        ):
+            for locale in ("C", "C.UTF-8"):
+                status, out, said = run("pack", "f", files={"f": text}, locale=locale)
+                self.assertEqual((status, out), (1, b""))
+                self.assertTrue(said.startswith(words), said)
+                self.assertEqual(said.count("\n"), 1, said)
+        self.assertEqual(run("pack", "f")[0], 1)
+        self.assertEqual(run("pack")[0], 2)
+        self.assertEqual(run("--help")[0], 0)
 
     def test_records(self):
         for data, words in (
@@ -94,8 +152,37 @@ class Answer(unittest.TestCase):
         f = field("group index -5\ngroup sales -1\npair index sales 4\n")
         self.assertEqual(records.named(f, "grade exact\nx 0 1\nx 1 0\nend 2\n"), "grade exact\nindex: 1\nsales: 0\n2 of 2 groups forced\n")
 
-    def test_refusal(self):
-        self.assertEqual(records.named(field(""), "refused 5\n"), "refused 5\n")
+    def test_a_name_that_the_terminal_cannot_show(self):
+        files = {"f": "group \u03b1 1\n".encode()}
+        answer = "grade exact\nx 0 0\nend 1\n"
+        self.assertEqual(run("answer", "f", given=answer, files=files, locale="C"), (0, b"grade exact\n\\u03b1: 0\n1 of 1 groups forced\n", ""))
+
+    def test_no_answer(self):
+        f = field("group a 1\n")
+        for answer, words in (
+            ("refused 5\n", "refused 5: a weight is not finite"),
+            ("", "there is no answer"),
+            ("grade exact\n", "no whole answer"),
+            ("grade exact\nx 0 0\n", "no whole answer"),
+            ("grade exact\nx 0 0\nend 2\n", "no whole answer"),
+            ("x 0 0\nend 1\n", "no whole answer"),
+            ("grade exact\nx 0\nend 1\n", "no answer"),
+            ("grade exact\nx 1 0\nend 1\n", "`1` is not below 1"),
+        ):
+            with self.assertRaises(records.Fault) as caught:
+                records.named(f, answer)
+            self.assertIn(words, str(caught.exception))
+
+    def test_no_answer_is_no_success(self):
+        files = {"f": b"group a 1\n"}
+        self.assertEqual(run("answer", "f", given="refused 5\n", files=files), (1, b"", "records: refused 5: a weight is not finite\n"))
+        self.assertEqual(run("answer", "f", files=files), (1, b"", "records: there is no answer on standard input\n"))
+
+    def test_every_refusal_has_words(self):
+        numbers = [line.split(" ", 1)[0] for line in contents("tools", "refusals").decode("ascii").splitlines()]
+        self.assertEqual(numbers, sorted(set(numbers), key=int))
+        printed = {answer.split()[1] for _, answer in record_cases.CASES if answer.startswith("refused")}
+        self.assertLessEqual(printed, set(numbers))
 
 
 class Shipped(unittest.TestCase):
