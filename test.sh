@@ -1,21 +1,41 @@
 #!/bin/sh
-# Passes all tests: those of tools/records where python3 is there, then every crate proved from nothing, the must-fail edits and the programs' runs, then those of
-# the library for C and Rust, which rest on the crates proved just before.
+# Passes all tests: those of tools/records where python3 is there, those of the scripts, then every crate proved from nothing, the must-fail edits and the programs'
+# runs, then those of the program presolve and of the library for C and Rust, which rest on the crates proved just before.
 # The last line is `N passed, 0 failed`.
 set -eu
 cd "$(dirname "$0")"
+
+# Ends before there is anything to count.
+give_up() {
+    echo "$1"
+    echo "0 passed, 1 failed"
+    exit 2
+}
+
+command -v rt >/dev/null || give_up 'There is no rt here: it is the command of the Rattle kit, which README.md names.'
 pinned=$(sed -n 's/^The kit is `\(.*\)`\.$/\1/p' README.md)
 found=$(rt version)
 if [ "$found" != "$pinned" ]; then
     echo "Another kit: README.md pins '$pinned', and this machine has '$found'. What follows is this machine's verdict."
 fi
 if command -v python3 >/dev/null; then
-    python3 tools/test_records.py
+    python3 tools/test_records.py || give_up 'The tests of tools/records fail.'
 else
     echo "There is no python3 here: the tests of tools/records are passed over."
 fi
+
+# The moments of the last run that passed tell how much time is left. They stand in target/, which rt ci removes, so they are kept aside meanwhile.
 room=$(mktemp -d)
-trap 'rm -rf "$room"' EXIT
+start=$(date +%s)
+times=$room/last
+[ ! -f target/times ] || cp target/times "$times"
+leave() {
+    [ ! -f "$times" ] || { mkdir -p target && cp "$times" target/times; }
+    rm -rf "$room"
+}
+trap leave EXIT
+trap 'exit 130' INT
+trap 'exit 143' TERM
 
 # Runs a command that ends in a line `N passed, M failed`: all but that line goes through as it comes, and the line and the status are kept.
 count() { # NAME COMMAND..
@@ -28,10 +48,17 @@ count() { # NAME COMMAND..
     *[0-9]' passed, '*[0-9]' failed') ;;
     *)
         cat "$room/$name.line"
-        echo "$name did not come to its end."
-        exit 2
+        give_up "$name did not come to its end."
         ;;
     esac
+}
+
+failed() { [ "$(cat "$room/$1.status")" -ne 0 ]; }
+
+# Adds up what was counted, and ends.
+finish() {
+    cat "$room"/*.line | awk '{ passed += $1; failed += $3 } END { print passed " passed, " failed " failed" }'
+    exit "$(cat "$room"/*.status | sort -n | tail -n 1)"
 }
 
 # rt ci waits for the slowest of each batch, so six to a processor leave none idle; a job takes up to 1 GiB.
@@ -39,12 +66,22 @@ jobs=$((6 * $(nproc 2>/dev/null || echo 1)))
 [ "$jobs" -le 12 ] || jobs=12
 export RT_JOBS="${RT_JOBS:-$jobs}"
 
-count proofs rt ci
-if [ "$(cat "$room/proofs.status")" -ne 0 ]; then
-    echo "The library for C and Rust is not tried, since not all is proved."
-    cat "$room/proofs.line"
-    exit "$(cat "$room/proofs.status")"
+prove() {
+    echo 0 >"$room/ci"
+    { rt ci || echo $? >"$room/ci"; } | LAST=$room/last NEW=$room/new START=$start tools/progress
+    return "$(cat "$room/ci")"
+}
+
+count scripts tools/test_run.sh
+count proofs prove
+if failed proofs; then
+    echo "What each crate said stands in target/log/NAME.say. The program presolve and the library for C and Rust are not tried, since not all is proved."
+    finish
 fi
+count presolve ./test_presolve.sh
 count library ./test_library.sh
-cat "$room/proofs.line" "$room/library.line" | awk '{ passed += $1; failed += $3 } END { print passed " passed, " failed " failed" }'
-exit "$(cat "$room/library.status")"
+if ! failed scripts && ! failed presolve && ! failed library; then
+    echo "$(($(date +%s) - start)) end" >>"$room/new"
+    times=$room/new
+fi
+finish
