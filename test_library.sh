@@ -1,7 +1,7 @@
 #!/bin/sh
 # Makes the static library, and builds and runs the examples in C and in Rust and the tests of rust/ over it.
-# The archive is for x86-64. On another processor the examples in C are built by a cross compiler, installed where that may be, and run under the kit's emulator.
-# What cannot be run here is said in a line. The last line is `N passed, M failed`.
+# The archive is for x86-64. On another processor the examples in C are built by a cross compiler where there is one, and run under the kit's emulator.
+# What cannot be run here is said in a line, with what is missing; nothing is installed. The last line is `N passed, M failed`.
 set -eu
 cd "$(dirname "$0")"
 passed=0 failed=0 passed_over=0
@@ -34,23 +34,22 @@ try 'the archive' rt staticlib ombradiec
 home=$(dirname "$(dirname "$(rt doc)")")
 kit=$home/on/$(uname -m)/toolchain
 
-# The compiler for x86-64, installed where root may; nothing where there is none.
+# The compiler of programs for x86-64, or nothing where there is none.
 c_compiler() {
-    if [ "$(uname -m)" = x86_64 ]; then
-        command -v gcc || command -v cc || :
-        return
-    fi
-    if ! makes_programs && [ "$(id -u)" = 0 ] && command -v apt-get >/dev/null; then
-        install_cross || { apt update && install_cross; } || :
-    fi >/dev/null 2>&1
-    makes_programs && command -v x86_64-linux-gnu-gcc || :
+    case $(uname -m) in
+    x86_64) set -- gcc cc ;;
+    *) set -- x86_64-linux-gnu-gcc ;;
+    esac
+    for compiler in "$@"; do
+        if echo '#include <stdio.h>' | "$compiler" -x c -fsyntax-only - 2>/dev/null; then
+            echo "$compiler"
+            return
+        fi
+    done
 }
 
-install_cross() { apt install -y --no-install-recommends gcc-x86-64-linux-gnu libc6-dev-amd64-cross; }
-
-apt() { DEBIAN_FRONTEND=noninteractive timeout 180 apt-get -o Acquire::Retries=0 -o Acquire::http::Timeout=10 "$@" </dev/null; }
-
-makes_programs() { echo '#include <stdio.h>' | x86_64-linux-gnu-gcc -x c -fsyntax-only - 2>/dev/null; }
+missing='there is no gcc or cc here that has the headers of the C library'
+[ "$(uname -m)" = x86_64 ] || missing='there is no C compiler for x86-64 here: Debian has gcc-x86-64-linux-gnu with libc6-dev-amd64-cross'
 
 run() { # PROGRAM
     if [ "$(uname -m)" = x86_64 ]; then
@@ -70,7 +69,7 @@ c_example() { # NAME
 compiler=$(c_compiler)
 for example in plan calls; do
     if [ -z "$compiler" ]; then
-        pass_over "$example.c" 'there is no C compiler for x86-64 here'
+        pass_over "$example.c" "$missing"
     elif [ "$(uname -m)" != x86_64 ] && [ ! -x "$kit/bin/qemu-x86_64" ]; then
         pass_over "$example.c" 'the kit has no emulator here'
     else
