@@ -1,6 +1,7 @@
 /* Ombradiec: a presolver for quadratic 0/1 problems.
  *
- * Link target/staticlib/libombradiec.a, which `rt staticlib ombradiec` makes, into an x86-64 Linux program.
+ * Link target/staticlib/libombradiec.a, which `rt staticlib ombradiec` makes, into an x86-64 Linux program. Of the C
+ * library it needs memset and memcpy, and nothing else.
  *
  * A slice is a pointer and a length in elements. A slice that a call writes to overlaps no other slice of the call.
  * The pointer of an empty slice is aligned and not null. Floats are computed as C starts: rounded to nearest, and
@@ -47,7 +48,7 @@ typedef uint64_t ombradiec_answer;
 #define OMBRADIEC_START 6     /* the start values are not n long, or a byte is above 2 */
 #define OMBRADIEC_ARGUMENT 7  /* a probed variable, a probed value or a constraint is not as the call asks */
 #define OMBRADIEC_SCRATCH 8   /* a scratch is too short */
-#define OMBRADIEC_ROOM 9      /* an answer list does not fit; it is all zeros then */
+#define OMBRADIEC_ROOM 9      /* an answer list does not fit; each is all zeros then, so both lists of a probe */
 #define OMBRADIEC_CLASH 10    /* the constraints clash */
 
 /* a start value, or a probe value, that is not given */
