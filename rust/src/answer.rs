@@ -5,13 +5,16 @@ use std::fmt;
 /// field is worked in floats, whose sums may round.
 #[derive(Clone, Copy, Debug, PartialEq, Eq)]
 pub enum Grade {
+    /// Some sum may round.
     Inexact,
+    /// No sum rounds: there is no diagonal entry, every 2c and every q is whole, and none is above 2^31 in size.
     Exact,
 }
 
 /// What a call on a field answers when it refuses nothing.
 #[derive(Clone, Copy, Debug, PartialEq, Eq)]
 pub struct Done {
+    /// The grade of the field as it was given.
     pub grade: Grade,
     /// How many items stand at the front of the answer list, of [`shift`](crate::shift) how many entries are left; else 0.
     pub count: usize,
@@ -19,7 +22,10 @@ pub struct Done {
     pub pairs: usize,
 }
 
-/// Why a call did nothing; tested in this order.
+/// Why a call gave no answer; tested in this order.
+///
+/// No refusal changes a field or start values. The others up to [`Scratch`](Refusal::Scratch) change no answer list either;
+/// [`Room`](Refusal::Room) and [`Clash`](Refusal::Clash) are found only when the work is done.
 #[derive(Clone, Copy, Debug, PartialEq, Eq, PartialOrd, Ord, Hash)]
 pub enum Refusal {
     /// There are more than 4,096 variables.
@@ -38,9 +44,10 @@ pub enum Refusal {
     Argument = 7,
     /// A scratch is too short; [`Scratch`](crate::Scratch) never is.
     Scratch = 8,
-    /// An answer list does not fit; it is all zeros then.
+    /// An answer list does not fit. Then each answer list has lost what it held: [`Values`](crate::Values) are all free, and
+    /// other lists all zeros.
     Room = 9,
-    /// The constraints clash.
+    /// The constraints clash: no values meet them all.
     Clash = 10,
 }
 
@@ -91,8 +98,8 @@ impl Error for Refusal {}
 pub(crate) fn read(answer: u64) -> Result<Done, Refusal> {
     match (answer & 0xff) as usize {
         0 => Ok(Done {
-            grade: if answer >> 8 & 0xff == 1 { Grade::Exact } else { Grade::Inexact },
-            count: (answer >> 16 & 0xfff_ffff) as usize,
+            grade: if (answer >> 8) & 0xff == 1 { Grade::Exact } else { Grade::Inexact },
+            count: ((answer >> 16) & 0xfff_ffff) as usize,
             pairs: (answer >> 44) as usize,
         }),
         refusal => Err(Refusal::ALL[refusal - 1]),

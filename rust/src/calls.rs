@@ -36,6 +36,14 @@ fn on_values(call: OnValues, field: &Field, start: &mut Values, scratch: &mut Sc
     on_field!(call, field, start.as_mut_ptr(), start.len(), f.as_mut_ptr(), f.len(), u.as_mut_ptr(), u.len())
 }
 
+/// After [`Refusal::Room`] the library's value list is all zeros, which would read as found: all of it is freed.
+fn freed(answer: Result<Done, Refusal>, values: &mut Values) -> Result<Done, Refusal> {
+    if answer == Err(Refusal::Room) {
+        values.clear();
+    }
+    answer
+}
+
 /// Puts every value that the gradient forces into `start`. On an exact field every best completion has them.
 ///
 /// ```
@@ -231,21 +239,22 @@ pub fn probe_one(
     scratch: &mut Scratch,
 ) -> Result<Done, Refusal> {
     let (f, u) = scratch.lend(field.variables(), field.quad.len());
-    let values = &mut values.0;
-    on_field!(
+    let found = &mut values.0;
+    let answer = on_field!(
         ombradiec_probe_one,
         field,
         start.0.as_ptr(),
         start.0.len(),
         variable,
         value.into(),
-        values.as_mut_ptr(),
-        values.len(),
+        found.as_mut_ptr(),
+        found.len(),
         f.as_mut_ptr(),
         f.len(),
         u.as_mut_ptr(),
         u.len()
-    )
+    );
+    freed(answer, values)
 }
 
 /// Puts what both probes of every free variable find into `values`, and at the front of `constraints`, sorted and without
@@ -268,23 +277,24 @@ pub fn probe(
     scratch: &mut Scratch,
 ) -> Result<Done, Refusal> {
     let (f, u) = scratch.lend(field.variables(), field.quad.len());
-    let values = &mut values.0;
+    let found = &mut values.0;
     // A constraint is three u16 and nothing else.
     let (triples, triples_len) = (constraints.as_mut_ptr().cast(), 3 * constraints.len());
-    on_field!(
+    let answer = on_field!(
         ombradiec_probe,
         field,
         start.0.as_ptr(),
         start.0.len(),
-        values.as_mut_ptr(),
-        values.len(),
+        found.as_mut_ptr(),
+        found.len(),
         triples,
         triples_len,
         f.as_mut_ptr(),
         f.len(),
         u.as_mut_ptr(),
         u.len()
-    )
+    );
+    freed(answer, values)
 }
 
 /// The same as [`probe`] of up to `candidates` free variables, those of the greatest sum of |q| over entries with both ends
@@ -307,24 +317,25 @@ pub fn probe_limited(
     scratch: &mut Scratch,
 ) -> Result<Done, Refusal> {
     let (f, u) = scratch.lend(field.variables(), field.quad.len());
-    let values = &mut values.0;
+    let found = &mut values.0;
     // A constraint is three u16 and nothing else.
     let (triples, triples_len) = (constraints.as_mut_ptr().cast(), 3 * constraints.len());
-    on_field!(
+    let answer = on_field!(
         ombradiec_probe_limited,
         field,
         start.0.as_ptr(),
         start.0.len(),
         candidates,
-        values.as_mut_ptr(),
-        values.len(),
+        found.as_mut_ptr(),
+        found.len(),
         triples,
         triples_len,
         f.as_mut_ptr(),
         f.len(),
         u.as_mut_ptr(),
         u.len()
-    )
+    );
+    freed(answer, values)
 }
 
 /// Puts every value that the constraints imply into `start`, or finds that they clash; then `start` does not change. There is

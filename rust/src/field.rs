@@ -80,29 +80,42 @@ impl Values {
         self.0[i] = value.map_or(2, u8::from);
     }
 
+    /// Frees all variables.
+    pub(crate) fn clear(&mut self) {
+        self.0.fill(2);
+    }
+
     /// The variables that have a value, rising, with their values.
     pub fn given(&self) -> impl Iterator<Item = (usize, bool)> + '_ {
         (0..self.0.len()).filter_map(|i| self.get(i).map(|value| (i, value)))
     }
 }
 
-/// Which pairs of values a constraint forbids.
+/// Which pairs of values (first, second) a constraint forbids.
 #[derive(Clone, Copy, Debug, PartialEq, Eq, PartialOrd, Ord, Hash)]
 pub enum Kind {
+    /// One of the two is 1: not 0, 0.
     AtLeastOne = 0,
+    /// One is 1 and the other 0: not 0, 0 and not 1, 1.
     ExactlyOne = 1,
+    /// One of the two is 0: not 1, 1.
     NoMoreThanOne = 2,
+    /// The first is not below the second, and may equal it: not 0, 1.
     GreaterThan = 3,
+    /// The first is not above the second, and may equal it: not 1, 0.
     LessThan = 4,
+    /// The two are the same: not 0, 1 and not 1, 0.
     Equal = 5,
 }
 
-/// A constraint between two variables, as the library lays it out.
+/// A constraint between two variables, as the library lays it out. The default, all zeros, fills a list that is lent.
 #[derive(Clone, Copy, Debug, Default, PartialEq, Eq, PartialOrd, Ord, Hash)]
 #[repr(transparent)]
 pub struct Constraint(pub(crate) [u16; 3]);
 
 impl Constraint {
+    /// A constraint of this kind on two variables, in this order.
+    ///
     /// ```
     /// use ombradiec::{Constraint, Kind};
     /// let one = Constraint::new(0, 1, Kind::ExactlyOne);
@@ -112,14 +125,17 @@ impl Constraint {
         Constraint([first, second, kind as u16])
     }
 
+    /// The first variable.
     pub fn first(self) -> u16 {
         self.0[0]
     }
 
+    /// The second variable.
     pub fn second(self) -> u16 {
         self.0[1]
     }
 
+    /// Which pairs of their values it forbids.
     pub fn kind(self) -> Kind {
         [Kind::AtLeastOne, Kind::ExactlyOne, Kind::NoMoreThanOne, Kind::GreaterThan, Kind::LessThan, Kind::Equal]
             [usize::from(self.0[2])]
@@ -134,6 +150,7 @@ pub struct Scratch {
 }
 
 impl Scratch {
+    /// No memory yet.
     pub fn new() -> Scratch {
         Scratch::default()
     }

@@ -1,4 +1,8 @@
-//! A presolver for quadratic 0/1 problems: which of up to 4,096 variables have the same value in every best solution.
+//! A presolver for quadratic 0/1 problems of up to 4,096 variables: it forces easy ones before a solver sees the rest.
+//!
+//! [`closure`] forces what the signs of the gradient decide; on an exact field every best solution has these values, though
+//! others may be the same in every best solution too. [`components`], [`preprocess`] and [`heavy`] force more: values that
+//! some best solution has. [`probe`], [`pairs`] and [`anchors`] find constraints and symmetries.
 //!
 //! Each call is proved to meet its promise, for every input; this crate is a thin, safe layer over the archive
 //! `libombradiec.a` (x86-64 Linux), which `rt staticlib ombradiec` makes. It depends on nothing else.
@@ -15,6 +19,8 @@
 //! assert_eq!(values.get(1), Some(false));
 //! # Ok::<(), ombradiec::Refusal>(())
 //! ```
+#![deny(missing_docs)]
+
 mod answer;
 mod calls;
 mod field;

@@ -44,6 +44,41 @@ fn a_probed_variable_is_free() {
 }
 
 #[test]
+fn values_without_room_read_as_free() {
+    // the probes find ExactlyOne, and there is room for no constraint
+    let field = Field::new(&[-1.0, -1.0], &[(0, 1, 4.0)]);
+    let (start, mut scratch, free) = (Values::free(2), Scratch::new(), Values::free(2));
+    let held = || {
+        let mut values = Values::free(2);
+        values.set(0, Some(false));
+        values.set(1, Some(true));
+        values
+    };
+    let mut values = held();
+    assert_eq!(probe(&field, &start, &mut values, &mut [], &mut scratch), Err(Refusal::Room));
+    assert_eq!(values, free);
+    let mut values = held();
+    assert_eq!(probe_limited(&field, &start, 2, &mut values, &mut [], &mut scratch), Err(Refusal::Room));
+    assert_eq!(values, free);
+    let mut short = Values::free(1);
+    short.set(0, Some(true));
+    assert_eq!(probe_one(&field, &start, 0, true, &mut short, &mut scratch), Err(Refusal::Room));
+    assert_eq!(short, Values::free(1));
+}
+
+#[test]
+fn another_refusal_leaves_values_as_they_were() {
+    let mut values = Values::free(1);
+    values.set(0, Some(true));
+    let before = values.clone();
+    let mut scratch = Scratch::new();
+    let field = Field::new(&[f64::NAN], &[]);
+    assert_eq!(probe(&field, &Values::free(1), &mut values, &mut [], &mut scratch), Err(Refusal::Weights));
+    assert_eq!(probe_one(&field, &Values::free(1), 0, true, &mut values, &mut scratch), Err(Refusal::Weights));
+    assert_eq!(values, before);
+}
+
+#[test]
 fn a_list_without_room_ends_as_zeros() {
     let mut list = [7];
     assert_eq!(no_effect(&Field::new(&[0.0; 2], &[]), &mut list, &mut Scratch::new()), Err(Refusal::Room));
