@@ -4,4 +4,6 @@ pub mod Rounding
 pub mod Splitting
 pub mod Exact
 pub mod Ladder
+pub mod Overflow
+pub mod Scaling
 pub mod Theorems

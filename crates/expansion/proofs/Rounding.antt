@@ -1,8 +1,8 @@
 -- What a sum of two floats is where it is rounded, and where it is not, counted in the smallest unit of the format: for either format. Assumes nothing.
-use mathlib.Core.Path.{_≡_, sym, ap, _∙_, subst}
+use mathlib.Core.Path.{_≡_, refl, sym, ap, _∙_, subst}
 use mathlib.Core.Bool.{Bool, true, false, not, _&&_, cond}
 use Prim.Native.Nat.{ℕ, suc, _+_, _-_, _*_, _/_, _^_, _≤_, _<_}
-use native.Mathlib.Nat.{mul-assoc, add-mul, mul-pos, mul-div-cancel, le-of-lt, sub-add-cancel, mul-le-mul-right, le-of-mul-le-mul-right, one-mul}
+use native.Mathlib.Nat.{add-comm, mul-comm, mul-assoc, add-mul, mul-pos, mul-div-cancel, le-of-lt, sub-add-cancel, mul-le-mul-right, le-of-mul-le-mul-right, one-mul}
 use native.Mathlib.Omega.{arith}
 use lib.Dec.{T, ltb, ltb→lt, nltb→le}
 use lib.Pow.{pow-pos}
@@ -110,7 +110,7 @@ module _ (f : Format) (p l : ℕ) (s : Bool) (num c : ℕ) (C : 0 < c) (h : Sign
       ∙ ap (λ (k : ℕ). (cond s l p - cond s p l) * k) (one-mul c)
       ∙ ap (λ (k : ℕ). k * c) (side-gap p l s one-side)
 
-  round-rounded : T (finite (round f s num c)) → Rounded f p l (round f s num c)
+  pub round-rounded : T (finite (round f s num c)) → Rounded f p l (round f s num c)
   round-rounded t =
       let under = round-below f s num c (gap p l) C is-gap t in
       record {
@@ -119,7 +119,7 @@ module _ (f : Format) (p l : ℕ) (s : Bool) (num c : ℕ) (C : 0 < c) (h : Sign
         below = under;
       }
 
-  round-plain : Few (prec f) (gap p l) → gap p l < overflow f → Counts f 0 (round f s num c) p l
+  pub round-plain : Few (prec f) (gap p l) → gap p l < overflow f → Counts f 0 (round f s num c) p l
   round-plain x b =
       let e : rounded (prec f) (gap p l) ≡ gap p l = rounded-few (two-le-pos (prec f) (two f)) x in
       counts-of f 0 (round f s num c) s (gap p l) (2 ^ low f) p l (pow-pos (low f))
@@ -133,3 +133,39 @@ module _ (f : Format) (x y : Float) (p l p' l' : ℕ) (h : Counts f 0 x p l) (k 
   -- and not rounded where it has few digits
   pub add-plain : Few (prec f) (gap (p + p') (l + l')) → gap (p + p') (l + l') < overflow f → Counts f 0 (add f x y) (p + p') (l + l')
   add-plain d b = add-rounds f 0 p l p' l' (λ z. Counts f 0 z (p + p') (l + l')) (λ s num c C w. round-plain f (p + p') (l + l') s num c C w d b) x y h k
+
+-- ---- a sum does not depend on the order of its terms
+
+apart-swap : (f : Format) (a b c : ℕ) → sum f true a false b c ≡ sum f false b true a c
+unfolding sum
+apart-swap f a b c = go (ltb a b) (ltb b a) (ltb→lt a b) (nltb→le a b) (ltb→lt b a) (nltb→le b a)
+  where
+    go : (i j : Bool) → (T i → a < b) → (T (not i) → b ≤ a) → (T j → b < a) → (T (not j) → a ≤ b)
+        → cond i (round f false (b - a) c) (round f (true && j) (a - b) c) ≡ cond j (round f true (a - b) c) (round f false (b - a) c)
+    go true true i n j m = absurd (omega (arith, i tt, j tt))
+    go true false i n j m = refl
+    go false true i n j m = refl
+    go false false i n j m = let e : a - b ≡ b - a = omega (arith, n tt, m tt) in ap (λ (z : ℕ). round f false z c) e
+
+sum-swap : (f : Format) (s : Bool) (a : ℕ) (t : Bool) (b c : ℕ) → sum f s a t b c ≡ sum f t b s a c
+unfolding sum
+sum-swap f true a true b c = ap (λ (z : ℕ). round f true z c) (add-comm a b)
+sum-swap f false a false b c = ap (λ (z : ℕ). round f false z c) (add-comm a b)
+sum-swap f true a false b c = apart-swap f a b c
+sum-swap f false a true b c = sym (apart-swap f b a c)
+
+pub add-swap : (f : Format) (x y : Float) → add f x y ≡ add f y x
+unfolding add
+add-swap f nan nan = refl
+add-swap f nan (inf t) = refl
+add-swap f nan (fin t n d) = refl
+add-swap f (inf s) nan = refl
+add-swap f (inf true) (inf true) = refl
+add-swap f (inf true) (inf false) = refl
+add-swap f (inf false) (inf true) = refl
+add-swap f (inf false) (inf false) = refl
+add-swap f (inf s) (fin t n d) = refl
+add-swap f (fin s m e) nan = refl
+add-swap f (fin s m e) (inf t) = refl
+add-swap f (fin s m e) (fin t n d) =
+    sum-swap f s (m * up e * down d) t (n * up d * down e) (down e * down d) ∙ ap (λ (z : ℕ). sum f t (n * up d * down e) s (m * up e * down d) z) (mul-comm (down e) (down d))

@@ -1,17 +1,20 @@
 -- The theorems about the error-free sum, each in one statement. Assumes nothing.
-use Prim.Native.Nat.{ℕ}
+use Prim.Native.Nat.{ℕ, _≤_}
 use mathlib.Core.Path.{_≡_}
 use mathlib.Core.Logic.{_↔_}
 use mathlib.Core.Bool.{true}
 use mathlib.Core.List.{List, []}
 use lib.Dec.{T}
+use lib.ListN.{length}
 use lib.Ieee.{Float, binary64, fits}
 use Rattle.whole.specs.Whole.{Whole, _⊕_, Zero}
 use Rattle.weights.specs.Worth.{Worth, Small, read}
-use Rattle.expansion.specs.Sum.{Expansion, parts, plus, comesToZero}
+use Rattle.expansion.specs.Sum.{Expansion, parts, invalid, plus, comesToZero}
 use Rattle.expansion.specs.Exact.{AllHeld, total, addAll, Totals, Plain}
+use Rattle.expansion.specs.Overflow.{Overflows}
 use Rattle.expansion.proofs.Exact as exact
 use Rattle.expansion.proofs.Ladder as ladder
+use Rattle.expansion.proofs.Overflow as overflow
 
 -- One add: the parts, as whole numbers of the unit 2^-1074, come to x more, or a sum has overflowed.
 pub one-add : (x : Float) {e : Expansion} {a : Whole} → T (fits binary64 x) → Totals e a → Totals (plus x e) (a ⊕ read 0 x)
@@ -27,6 +30,14 @@ zero-certain = ladder.sum-certain
 
 pub zero-exactly : {l r : List Float} → AllHeld l → addAll (parts []) l ≡ parts r → (comesToZero (addAll (parts []) l) ≡ true) ↔ Zero (total l)
 zero-exactly = ladder.sum-exactly
+
+-- It is invalid exactly if a number added, or an f64 sum on its way, is not finite: nothing else makes it so, and nothing hides it.
+pub invalid-exactly : (l : List Float) → (addAll (parts []) l ≡ invalid) ↔ Overflows l
+invalid-exactly = overflow.invalid-when
+
+-- There is at most one part for each number added.
+pub one-part-each : (l : List Float) {r : List Float} → addAll (parts []) l ≡ parts r → length r ≤ length l
+one-part-each = overflow.parts-few
 
 -- Where every sum is exact in a unit, as on an exact field, there is never more than one part and no overflow.
 pub exact-add : {u : ℕ} {x : Float} {e : Expansion} {a b : Whole} → Plain u e a → Worth u x b → Small a → Small b → Small (a ⊕ b) → Plain u (plus x e) (a ⊕ b)
