@@ -7,7 +7,7 @@ use mathlib.Core.List.{List, [], _∷_}
 use native.Mathlib.Omega.{arith}
 use borrow.Author.Tests.{eqb-true, eq-eqb, ne-eqb}
 use lib.Dec.{eqb}
-use lib.ListN.{length, getD}
+use lib.ListN.{length, getD, take}
 use lib.Ieee.{Float, binary64, mul, eq, ne}
 use Rattle.whole.specs.Whole.{Whole, nothing, _⊕_, _⊙_, only, sum, _≈_, Zero, Under}
 use Rattle.whole.proofs.Sums.{sum-add}
@@ -27,12 +27,9 @@ use Rattle.field.proofs.Reading.{linear-worth, linear-under, quad-worth, quad-u
 use Rattle.places.specs.Places.{keep, places}
 use Rattle.places.proofs.Places.{tail, tail-end, tail-step, places-le, places-touch}
 use Rattle.anchors.specs.Sums.{balanceAt, balanceOver, balanceOf, balanced, plainOver, plainSum}
+use Rattle.anchors.specs.Number.{gather}
 
 -- ---- a sum over the places of i is a sum over the entries that touch it
-
-unfoldable pub gather : (ℕ → Whole) → List ℕ → Whole
-gather g [] = nothing
-gather g (k ∷ ks) = g k ⊕ gather g ks
 
 -- entry k touches i
 abbrev pub touches : Field → ℕ → ℕ → Bool
@@ -63,6 +60,18 @@ module _ {F : Field} (S : Shaped F) (g : ℕ → Whole) (i : ℕ) where
   pub gather-places : gather g (places (F .rows) (F .cols) i) ≈ sum (entries F) term
   unfolding places sum
   gather-places = omega (arith, split-sum (entries F) 0 (omega arith))
+
+-- the first t of a list
+pub take-short : (t : ℕ) (ks : List ℕ) → length (take t ks) ≤ length ks
+take-short zero ks = omega arith
+take-short (suc t) [] = omega arith
+take-short (suc t) (k ∷ ks) = omega (arith, take-short t ks)
+
+within-take : {m : ℕ} (t : ℕ) (ks : List ℕ) → ((h : ℕ) → h < length ks → getD ks h 0 < m) → (h : ℕ) → h < length (take t ks) → getD (take t ks) h 0 < m
+within-take zero ks all h l = absurd (omega arith)
+within-take (suc t) [] all h l = absurd (omega arith)
+within-take (suc t) (k ∷ ks) all zero l = all 0 (omega arith)
+within-take (suc t) (k ∷ ks) all (suc h) l = within-take t ks (λ x b. all (suc x) (omega arith)) h (omega arith)
 
 -- two tests of one thing
 same-test : {A : Type 0} (a b : Bool) → ((a ≡ true) ↔ A) → ((b ≡ true) ↔ A) → a ≡ b
@@ -138,11 +147,23 @@ module _ {F : Field} (S : Shaped F) (x : ExactIn halves F) where
     unfolding balanceOf
     balance-plain = let a = linear-under x i hi in plain-over (places (F .rows) (F .cols) i) 0 few within (omega (arith, a)) first-plain
 
+    -- 4c and any of the entries, one after another
+    worth-along : (ks : List ℕ) → 0 + length ks ≤ 32768 → ((h : ℕ) → h < length ks → getD ks h 0 < entries F)
+        → Worth halves (plainOver F (mul binary64 four64 (linearOf F i)) ks) (nothing ⊕ wholeOf halves F .linear i ⊙ 4 ⊕ gather (twice F) ks)
+    worth-along ks hn all =
+        let a = linear-under x i hi in
+        worth-over ks 0 hn all (omega (arith, a)) (as-worth (four-worth (linear-worth x i hi) (omega (arith, a))) (omega arith))
+
     plain-sum-worth : Worth halves (plainSum F i) allOf
     unfolding plainSum
-    plain-sum-worth =
-        let a = linear-under x i hi in
-        worth-over (places (F .rows) (F .cols) i) 0 few within (omega (arith, a)) (as-worth (four-worth (linear-worth x i hi) (omega (arith, a))) (omega arith))
+    plain-sum-worth = worth-along (places (F .rows) (F .cols) i) few within
+
+    -- every plain sum on the way is exact
+    pub plain-sums : (t : ℕ) → Worth halves (plainOver F (mul binary64 four64 (linearOf F i)) (take t (places (F .rows) (F .cols) i)))
+        (wholeOf halves F .linear i ⊙ 4 ⊕ gather (twice F) (take t (places (F .rows) (F .cols) i)))
+    plain-sums t =
+        let ks = places (F .rows) (F .cols) i in
+        as-worth (worth-along (take t ks) (omega (arith, few, take-short t ks)) (within-take t ks within)) (omega arith)
 
     -- the plain sum is 0 exactly if the error-free sum comes to 0
     pub plain-sum-tells : eq (plainSum F i) zero64 ≡ balanced F i

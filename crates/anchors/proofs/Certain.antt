@@ -9,14 +9,14 @@ use lib.ListN.{length, getD}
 use lib.Ieee.{Float, binary64, mul, ne}
 use lib.Ieee.Fits.{mul-fits}
 use Rattle.whole.specs.Whole.{Zero}
-use Rattle.weights.specs.Worth.{zero64, two64, four64}
+use Rattle.weights.specs.Worth.{zero64, four64}
 use Rattle.expansion.specs.Sum.{Expansion, parts, plus}
 use Rattle.expansion.specs.Exact.{AllHeld, none-held, more-held, total, addAll}
 use Rattle.expansion.proofs.Ladder.{sum-certain, sum-exactly}
 use Rattle.field.specs.Field.{Field, entries, linearOf, quadOf, Shaped}
 use Rattle.places.specs.Places.{places}
 use Rattle.places.proofs.Places.{places-touch}
-use Rattle.anchors.specs.Sums.{onDiagonal, balanceAt, balanceOver, balanceOf, balanced}
+use Rattle.anchors.specs.Sums.{onDiagonal, doubled, balanceAt, balanceOver, balanceOf, balanced}
 use Rattle.anchors.specs.Rule.{termsAt, termsOver, terms, HeldWeights}
 
 add-append : (e : Expansion) (l r : List Float) → addAll e (l ++ r) ≡ addAll (addAll e l) r
@@ -28,18 +28,18 @@ balance-at : (F : Field) (e : Expansion) (k : ℕ) → balanceAt F e k ≡ addAl
 unfolding balanceAt termsAt addAll
 balance-at F e k = go (onDiagonal F k) (ne (quadOf F k) zero64)
   where
-    go : (b d : Bool) → cond b (plus (mul binary64 two64 (quadOf F k)) e) (cond d (plus (quadOf F k) e) e)
-        ≡ addAll e (cond b (mul binary64 two64 (quadOf F k) ∷ []) (cond d (quadOf F k ∷ []) []))
+    go : (b d : Bool) → cond b (plus (doubled F k) e) (cond d (plus (quadOf F k) e) e)
+        ≡ addAll e (cond b (doubled F k ∷ []) (cond d (quadOf F k ∷ []) []))
     go true d = refl
     go false true = refl
     go false false = refl
 
-balance-over : (F : Field) (e : Expansion) (ks : List ℕ) → balanceOver F e ks ≡ addAll e (termsOver F ks)
+pub balance-over : (F : Field) (e : Expansion) (ks : List ℕ) → balanceOver F e ks ≡ addAll e (termsOver F ks)
 unfolding balanceOver termsOver addAll
 balance-over F e [] = refl
 balance-over F e (k ∷ ks) = balance-over F (balanceAt F e k) ks ∙ ap (λ (a : Expansion). addAll a (termsOver F ks)) (balance-at F e k) ∙ sym (add-append e (termsAt F k) (termsOver F ks))
 
-balance-terms : (F : Field) (i : ℕ) → balanceOf F i ≡ addAll (parts []) (terms F i)
+pub balance-terms : (F : Field) (i : ℕ) → balanceOf F i ≡ addAll (parts []) (terms F i)
 unfolding balanceOf terms addAll
 balance-terms F i = balance-over F (plus (mul binary64 four64 (linearOf F i)) (parts [])) (places (F .rows) (F .cols) i)
 
@@ -52,8 +52,8 @@ module _ {F : Field} (S : Shaped F) (h : HeldWeights F) where
   unfolding termsAt
   held-at k l = go (onDiagonal F k) (ne (quadOf F k) zero64)
     where
-      go : (b d : Bool) → AllHeld (cond b (mul binary64 two64 (quadOf F k) ∷ []) (cond d (quadOf F k ∷ []) []))
-      go true d = more-held (mul-fits binary64 two64 (quadOf F k)) none-held
+      go : (b d : Bool) → AllHeld (cond b (doubled F k ∷ []) (cond d (quadOf F k ∷ []) []))
+      go true d = more-held (mul-fits binary64 _ (quadOf F k)) none-held
       go false true = more-held (h k l) none-held
       go false false = none-held
 
@@ -62,7 +62,7 @@ module _ {F : Field} (S : Shaped F) (h : HeldWeights F) where
   held-over [] all = none-held
   held-over (k ∷ ks) all = held-append (held-at k (all 0 (omega arith))) (held-over ks (λ x l. all (suc x) (omega arith)))
 
-  held-terms : (i : ℕ) → AllHeld (terms F i)
+  pub held-terms : (i : ℕ) → AllHeld (terms F i)
   unfolding terms
   held-terms i =
       more-held (mul-fits binary64 four64 (linearOf F i))

@@ -24,7 +24,8 @@ use Rattle.places.proofs.Places.{places-le, places-touch}
 use Rattle.anchors.specs.Sums.{weightAt, weightOver, weightOf}
 use Rattle.anchors.specs.Rule.{Before, Leads}
 use Rattle.anchors.specs.EdgeWeight.{edge, edge-weight, Outweighs, LeadsByWeight}
-use Rattle.anchors.proofs.Balance.{gather, touches, gather-places}
+use Rattle.anchors.specs.Number.{gather}
+use Rattle.anchors.proofs.Balance.{touches, gather-places}
 
 module _ {F : Field} (S : Shaped F) (x : ExactIn halves F) where
   abbrev W : meaning.Field

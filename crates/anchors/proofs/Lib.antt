@@ -10,3 +10,5 @@ pub mod Ruling
 pub mod Turning
 pub mod Demands
 pub mod ExactWeight
+pub mod Number
+pub mod ByNumber

@@ -7,7 +7,7 @@ use native.Mathlib.Omega.{arith}
 use borrow.Author.Tests.{eq-eqb, ne-eqb}
 use lib.ListN.{length, getD}
 use lib.Ieee.{Float, binary64, add, mul, ne}
-use Rattle.weights.specs.Worth.{magnitude, zero64, two64, four64}
+use Rattle.weights.specs.Worth.{magnitude, zero64, four64}
 use Rattle.expansion.specs.declared.ExactSum.{ExactSum}
 use Rattle.expansion.specs.declared.ExactSum.the-variants.{Parts}
 use Rattle.expansion.specs.Sum.{Expansion, parts, plus, comesToZero, sumIn, countOf, isZero, Adds}
@@ -15,13 +15,13 @@ use Rattle.expansion.proofs.Carrying.{zero-is}
 use Rattle.field.specs.Field.{Field, variables, entries, linearOf, rowEnd, columnEnd, quadOf}
 use Rattle.places.proofs.Places.{places-le}
 use Rattle.places.proofs.Walk.{walk-turn, Along, along-start, along-turn, along-end, part-long}
-use Rattle.anchors.specs.Sums.{balanceAt, balanceOver, balanceOf, balanced, plainOver, plainSum, weightAt, weightOver, weightOf, AddsAt, Walkable}
+use Rattle.anchors.specs.Sums.{doubled, balanceAt, balanceOver, balanceOf, balanced, plainOver, plainSum, weightAt, weightOver, weightOf, AddsAt, Walkable}
 
 -- ---- one entry
 
 module _ (F : Field) (k : ℕ) where
   module _ {s r : ExactSum} {f f′ : List Float} where
-    pub adds-twice : rowEnd F k ≡ columnEnd F k → Adds (mul binary64 two64 (quadOf F k)) s f f′ r → AddsAt F k s f f′ r
+    pub adds-twice : rowEnd F k ≡ columnEnd F k → Adds (doubled F k) s f f′ r → AddsAt F k s f f′ r
     unfolding balanceAt
     adds-twice d a = record { sum = rw (eq-eqb (rowEnd F k) (columnEnd F k) d) (a .sum); grows = a .grows }
 

@@ -4,3 +4,4 @@ pub mod Call
 pub mod Cells
 pub mod Rule
 pub mod EdgeWeight
+pub mod Number

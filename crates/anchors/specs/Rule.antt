@@ -7,11 +7,11 @@ use mathlib.Core.List.{List, [], _∷_, _++_}
 use lib.ListN.{length, getD}
 use lib.Dec.{T}
 use lib.Ieee.{Float, binary64, mul, lt, eq, ne, fits}
-use Rattle.weights.specs.Worth.{zero64, two64, four64}
+use Rattle.weights.specs.Worth.{zero64, four64}
 use Rattle.field.specs.Field.{Field, entries, linearOf, quadOf}
 use Rattle.places.specs.Places.{places}
 use Rattle.parts.specs.Part.{has}
-use Rattle.anchors.specs.Sums.{onDiagonal, balanced, weightOf}
+use Rattle.anchors.specs.Sums.{onDiagonal, doubled, balanced, weightOf}
 
 -- "the greatest sum of |q| off the diagonal, then the lowest index": a stands before i
 abbrev pub Before : Field → ℕ → ℕ → Type 0
@@ -27,17 +27,20 @@ pub record Turns (F : Field) (s : List ℕ) (least : ℕ) (K : List ℕ) : Type 
   pub free : (i : ℕ) → has K i ≡ true → getD s i 0 ≡ 2
   pub symmetric : (i : ℕ) → has K i ≡ true → balanced F i ≡ true
 
--- the anchors of parts, in the parts' order
-pub data AnchorsOf (F : Field) (s : List ℕ) (least : ℕ) : List (List ℕ) → List ℕ → Type 0 where
-  no-part : AnchorsOf F s least [] []
-  anchored : {K : List ℕ} {Ks : List (List ℕ)} {a : ℕ} {l : List ℕ} → Turns F s least K → Leads F K a → AnchorsOf F s least Ks l → AnchorsOf F s least (K ∷ Ks) (a ∷ l)
-  passed-over : {K : List ℕ} {Ks : List (List ℕ)} {l : List ℕ} → (Turns F s least K → ⊥) → AnchorsOf F s least Ks l → AnchorsOf F s least (K ∷ Ks) l
+-- the anchors of parts, in the parts' order: of each that turns, the member that leads it
+pub data AnchorsBy (turns : List ℕ → Type 0) (leads : List ℕ → ℕ → Type 0) : List (List ℕ) → List ℕ → Type 0 where
+  no-part : AnchorsBy turns leads [] []
+  anchored : {K : List ℕ} {Ks : List (List ℕ)} {a : ℕ} {l : List ℕ} → turns K → leads K a → AnchorsBy turns leads Ks l → AnchorsBy turns leads (K ∷ Ks) (a ∷ l)
+  passed-over : {K : List ℕ} {Ks : List (List ℕ)} {l : List ℕ} → (turns K → ⊥) → AnchorsBy turns leads Ks l → AnchorsBy turns leads (K ∷ Ks) l
+
+abbrev pub AnchorsOf : Field → List ℕ → ℕ → List (List ℕ) → List ℕ → Type 0
+AnchorsOf F s least = AnchorsBy (Turns F s least) (Leads F)
 
 -- ---- what is added at a variable
 
 -- "4c, then q of each entry in order (2q on the diagonal)"
 unfoldable pub termsAt : Field → ℕ → List Float
-termsAt F k = cond (onDiagonal F k) (mul binary64 two64 (quadOf F k) ∷ []) (cond (ne (quadOf F k) zero64) (quadOf F k ∷ []) [])
+termsAt F k = cond (onDiagonal F k) (doubled F k ∷ []) (cond (ne (quadOf F k) zero64) (quadOf F k ∷ []) [])
 
 unfoldable pub termsOver : Field → List ℕ → List Float
 termsOver F [] = []

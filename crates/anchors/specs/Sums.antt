@@ -15,9 +15,13 @@ use Rattle.places.specs.Places.{places, Adjacent}
 abbrev pub onDiagonal : Field → ℕ → Bool
 onDiagonal F k = eqb (rowEnd F k) (columnEnd F k)
 
+-- its 2q
+abbrev pub doubled : Field → ℕ → Float
+doubled F k = mul binary64 two64 (quadOf F k)
+
 -- "q of each entry in order (2q on the diagonal)"; a stored zero off the diagonal is passed over
 unfoldable pub balanceAt : Field → Expansion → ℕ → Expansion
-balanceAt F e k = cond (onDiagonal F k) (plus (mul binary64 two64 (quadOf F k)) e) (cond (ne (quadOf F k) zero64) (plus (quadOf F k) e) e)
+balanceAt F e k = cond (onDiagonal F k) (plus (doubled F k) e) (cond (ne (quadOf F k) zero64) (plus (quadOf F k) e) e)
 
 unfoldable pub balanceOver : Field → Expansion → List ℕ → Expansion
 balanceOver F e [] = e

@@ -1,0 +1,39 @@
+-- Document 01's sum as a number ("Anchors"), for every field of f64 weights: counted in the smallest unit, 2^-1074, of which every finite f64 is a whole number. Assumes nothing.
+use Prim.Native.Nat.{ℕ, _<_, _≤_}
+use mathlib.Core.Path.{_≡_}
+use mathlib.Core.Bool.{true, cond, _||_}
+use mathlib.Core.List.{List, [], _∷_}
+use lib.Dec.{T, eqb}
+use lib.ListN.{length, getD}
+use lib.Ieee.{binary64, fits}
+use Rattle.whole.specs.Whole.{Whole, nothing, _⊕_, _⊙_, only, sum, Zero}
+use Rattle.weights.specs.Worth.{read}
+use Rattle.expansion.specs.Overflow.{Valid}
+use Rattle.field.specs.Field.{Field, variables, entries, linearOf, rowEnd, columnEnd, quadOf}
+use Rattle.parts.specs.Part.{has}
+use Rattle.anchors.specs.Rule.{terms, HeldWeights}
+
+-- q of entry k, "2q on the diagonal"
+abbrev pub entryOf : Field → ℕ → Whole
+entryOf F k = cond (eqb (rowEnd F k) (columnEnd F k)) (read 0 (quadOf F k) ⊙ 2) (read 0 (quadOf F k))
+
+-- "4c, then q of each entry", of those with an end at variable i
+abbrev pub numberOf : Field → ℕ → Whole
+numberOf F i = read 0 (linearOf F i) ⊙ 4 ⊕ sum (entries F) (λ k. only (eqb (rowEnd F k) i || eqb (columnEnd F k) i) (entryOf F k))
+
+-- `Turns` without the sum's own parts: "Overflow, of 4c also, makes it invalid and its component gets no anchor", and every number is 0
+pub record TurnsByNumber (F : Field) (s : List ℕ) (least : ℕ) (K : List ℕ) : Type 0 where
+  pub large : least ≤ length K
+  pub free : (i : ℕ) → has K i ≡ true → getD s i 0 ≡ 2
+  pub valid : (i : ℕ) → has K i ≡ true → Valid (terms F i)
+  pub zero : (i : ℕ) → has K i ≡ true → Zero (numberOf F i)
+
+-- every weight is an f64
+pub record HeldField (F : Field) : Type 0 where
+  pub linear : (i : ℕ) → i < variables F → T (fits binary64 (linearOf F i))
+  pub quad : HeldWeights F
+
+-- the sum of g over a list of entries
+unfoldable pub gather : (ℕ → Whole) → List ℕ → Whole
+gather g [] = nothing
+gather g (k ∷ ks) = g k ⊕ gather g ks
