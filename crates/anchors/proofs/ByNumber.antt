@@ -28,7 +28,7 @@ use Rattle.parts.proofs.Theorems.{components-found}
 use Rattle.anchors.specs.Sums.{balanceOver, balanceOf, balanced, plainOver}
 use Rattle.anchors.specs.Rule.{Leads, Turns, AnchorsBy, no-part, anchored, passed-over, terms}
 use Rattle.anchors.specs.Call.{Admitted, Left, anchorsCall}
-use Rattle.anchors.specs.Number.{numberOf, TurnsByNumber, HeldField, gather}
+use Rattle.anchors.specs.Number.{sumOf, TurnsByNumber, HeldField, gather}
 use Rattle.anchors.proofs.Balance as balance
 use Rattle.anchors.proofs.Number as number
 use Rattle.anchors.proofs.Demands.{done-when, done-leaves, anchors-by-rule}
@@ -41,11 +41,11 @@ invalid-by-overflow = number.balance-invalid
 
 module _ {F : Field} (S : Shaped F) (fine : Finite F) (h : HeldField F) (i : ℕ) (hi : i < variables F) where
   -- Where it is valid its parts add up to the number: 4c and q of each entry, 2q on the diagonal.
-  pub sum-by-number : Totals (balanceOf F i) (numberOf F i)
+  pub sum-by-number : Totals (balanceOf F i) (sumOf F i)
   sum-by-number = number.balance-number S fine h i hi
 
   -- So it is symmetric exactly if no sum overflows and the number is 0.
-  pub symmetric-by-number : (balanced F i ≡ true) ↔ (Valid (terms F i) × Zero (numberOf F i))
+  pub symmetric-by-number : (balanced F i ≡ true) ↔ (Valid (terms F i) × Zero (sumOf F i))
   symmetric-by-number = number.balanced-number S fine h i hi
 
 -- "one variable at a time needs m+1 parts": after any t of its entries there are no more.

@@ -62,7 +62,7 @@ module _ {F : Field} (S : Shaped F) (x : ExactIn halves F) where
   edge-is : (i k : ℕ) → k < entries F → only (touches F i k) (sizeAt k) ≈ edge W i k
   edge-is i k h = rw (off-diagonal k h) refl
 
-  pub weight-worth : (i : ℕ) → Worth (suc halves) (weightOf F i) (edge-weight W i)
+  pub weight-worth : (i : ℕ) → Worth (suc halves) (weightOf F i) (edge-weight (wholeOf halves F) i)
   unfolding weightOf
   weight-worth i =
       let few : 0 + length (places (F .rows) (F .cols) i) ≤ 32768 = omega (arith, places-le (F .rows) (F .cols) i, S .rows-long, S .few-entries) in
@@ -83,7 +83,7 @@ module _ {F : Field} (S : Shaped F) (x : ExactIn halves F) where
   level a i = eq-worth (weight-worth i) (weight-worth a)
 
   -- a variable stands before another exactly if it does in whole numbers
-  pub before-exact : (a i : ℕ) → Before F a i ↔ Outweighs W a i
+  pub before-exact : (a i : ℕ) → Before F a i ↔ Outweighs (wholeOf halves F) a i
   before-exact a i = (to, from)
     where
       to : Before F a i → Outweighs W a i
@@ -95,7 +95,7 @@ module _ {F : Field} (S : Shaped F) (x : ExactIn halves F) where
       from (inr h) = inr (level a i ∙ eq-eqb (weight i .plus + weight a .less) (weight a .plus + weight i .less) (omega (arith, h .0)), h .1)
 
   -- the leader of a part is its member of greatest weight in whole numbers, then of lowest index
-  pub leads-exact : (K : List ℕ) (a : ℕ) → Leads F K a ↔ LeadsByWeight W K a
+  pub leads-exact : (K : List ℕ) (a : ℕ) → Leads F K a ↔ LeadsByWeight (wholeOf halves F) K a
   leads-exact K a = (
     (λ l. record { member = l .member; first = λ i h. before-exact a i .0 (l .first i h) }),
     λ l. record { member = l .member; first = λ i h. before-exact a i .1 (l .first i h) },

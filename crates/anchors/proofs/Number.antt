@@ -25,7 +25,7 @@ use Rattle.places.specs.Places.{places}
 use Rattle.places.proofs.Places.{places-le, places-touch}
 use Rattle.anchors.specs.Sums.{onDiagonal, doubled, balanceOver, balanceOf, balanced}
 use Rattle.anchors.specs.Rule.{termsAt, termsOver, terms}
-use Rattle.anchors.specs.Number.{entryOf, numberOf, HeldField, gather}
+use Rattle.anchors.specs.Number.{entryOf, sumOf, HeldField, gather}
 use Rattle.anchors.proofs.Balance.{gather-places, take-short}
 use Rattle.anchors.proofs.Certain.{balance-over, balance-terms, held-terms, balance-certain, balance-exactly}
 
@@ -71,7 +71,7 @@ module _ {F : Field} (S : Shaped F) (fine : Finite F) (h : HeldField F) where
     abbrev ks : List ℕ
     ks = places (F .rows) (F .cols) i
 
-    pub terms-number : Valid (terms F i) → total (terms F i) ≈ numberOf F i
+    pub terms-number : Valid (terms F i) → total (terms F i) ≈ sumOf F i
     unfolding terms total allFinite
     terms-number v =
         let b = both (finite (mul binary64 four64 (linearOf F i))) (allFinite (termsOver F ks)) (valid-finite (terms F i) v) in
@@ -98,20 +98,20 @@ zero-valid F i e = go (allFinite (sumsFrom [] (terms F i))) refl
     go false v = let z : comesToZero invalid ≡ true = rw (balance-invalid F i .1 v) at e in absurd (false≢true z)
 
 module _ {F : Field} (S : Shaped F) (fine : Finite F) (h : HeldField F) (i : ℕ) (hi : i < variables F) where
-  pub balance-number : Totals (balanceOf F i) (numberOf F i)
+  pub balance-number : Totals (balanceOf F i) (sumOf F i)
   balance-number = go (allFinite (sumsFrom [] (terms F i))) refl
     where
-      go : (b : Bool) → allFinite (sumsFrom [] (terms F i)) ≡ b → Totals (balanceOf F i) (numberOf F i)
+      go : (b : Bool) → allFinite (sumsFrom [] (terms F i)) ≡ b → Totals (balanceOf F i) (sumOf F i)
       go true v = totals-as (rw (balance-terms F i) (sum-from-none (held-terms S (h .quad) i))) (terms-number S fine h i hi v)
       go false v = rw (balance-invalid F i .1 v) overflown
 
-  pub balanced-number : (balanced F i ≡ true) ↔ (Valid (terms F i) × Zero (numberOf F i))
+  pub balanced-number : (balanced F i ≡ true) ↔ (Valid (terms F i) × Zero (sumOf F i))
   balanced-number = (to, from)
     where
-      to : balanced F i ≡ true → Valid (terms F i) × Zero (numberOf F i)
+      to : balanced F i ≡ true → Valid (terms F i) × Zero (sumOf F i)
       to e = let v = zero-valid F i e in (v, omega (arith, terms-number S fine h i hi v, balance-certain S (h .quad) i e))
 
-      from : Valid (terms F i) × Zero (numberOf F i) → balanced F i ≡ true
+      from : Valid (terms F i) × Zero (sumOf F i) → balanced F i ≡ true
       from p =
           let r = valid-parts (terms F i) (p .0) in
           balance-exactly S (h .quad) i (balance-terms F i ∙ r .1) .1 (omega (arith, terms-number S fine h i hi (p .0), p .1))

@@ -18,15 +18,16 @@ abbrev pub entryOf : Field → ℕ → Whole
 entryOf F k = cond (eqb (rowEnd F k) (columnEnd F k)) (read 0 (quadOf F k) ⊙ 2) (read 0 (quadOf F k))
 
 -- "4c, then q of each entry", of those with an end at variable i
-abbrev pub numberOf : Field → ℕ → Whole
-numberOf F i = read 0 (linearOf F i) ⊙ 4 ⊕ sum (entries F) (λ k. only (eqb (rowEnd F k) i || eqb (columnEnd F k) i) (entryOf F k))
+abbrev pub sumOf : Field → ℕ → Whole
+sumOf F i = read 0 (linearOf F i) ⊙ 4 ⊕ sum (entries F) (λ k. only (eqb (rowEnd F k) i || eqb (columnEnd F k) i) (entryOf F k))
 
--- `Turns` without the sum's own parts: "Overflow, of 4c also, makes it invalid and its component gets no anchor", and every number is 0
+-- "a component with any start value, or smaller than the given least size, has none"; "Overflow, of 4c also, makes it invalid and its component gets no anchor"; the number
+-- of every member is 0
 pub record TurnsByNumber (F : Field) (s : List ℕ) (least : ℕ) (K : List ℕ) : Type 0 where
   pub large : least ≤ length K
   pub free : (i : ℕ) → has K i ≡ true → getD s i 0 ≡ 2
   pub valid : (i : ℕ) → has K i ≡ true → Valid (terms F i)
-  pub zero : (i : ℕ) → has K i ≡ true → Zero (numberOf F i)
+  pub zero : (i : ℕ) → has K i ≡ true → Zero (sumOf F i)
 
 -- every weight is an f64
 pub record HeldField (F : Field) : Type 0 where
