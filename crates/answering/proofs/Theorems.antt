@@ -21,16 +21,18 @@ use Rattle.field.specs.declared.Refusal.the-variants.{Order, Diagonal, Weights}
 use Rattle.field.specs.Answers.{numberOf}
 use Rattle.field.specs.Field.{Field}
 use Rattle.field.specs.Grade.{gradeOf}
-use Rattle.field.specs.Table.{FirstToFail, fails, passes}
+use Rattle.field.specs.Table.{FirstToFail, fails, passes, tested}
 use Rattle.field.specs.Tests.{shapeTests, standardTests, Sound}
 use Rattle.field.proofs.Means.{few-means, lists-mean, start-means, standard-passes}
+use Rattle.field.proofs.Exact.{exact-means}
 use Rattle.field.proofs.Table.{first-refuses}
 use Rattle.run.specs.Run.{closure}
+use Rattle.run.proofs.Theorems.{closure-is-closure}
 use Rattle.endian.specs.Bytes.{bytesOf}
 use Rattle.text.specs.Text.{decimal, refusedText, gradeLine, answerText}
 use Rattle.records.specs.Told.{Told, outcome, Outcome, parsed}
 use Rattle.records.specs.WellFormed.{Item, weight, entry, given, spell, spelled, tells, Fine, Tells, none, next, WellFormed}
-use Rattle.answering.specs.Answer.{checkedText, fieldText, fieldTold, toldText, outcomeText, answerBytes}
+use Rattle.answering.specs.Answer.{checkedText, fieldText, fieldTold, toldText, outcomeText, answerBytes, Answered, ShowsClosure, longestInput}
 use Rattle.answering.proofs.Answers.{number-small}
 use Rattle.records.proofs.Laid.{Within}
 use Rattle.records.proofs.Front.{parsed-within}
@@ -48,11 +50,6 @@ pub failed-text : (t : Told) {r : Refusal} → FirstToFail (standardTests (field
 unfolding fieldText checkedText
 failed-text t first = rw (first-refuses first)
 
--- a well-formed input has the text of what it tells, and any other is `refused 11`
-pub record Answered (s text : List ℕ) : Type 0 where
-  pub told : (u : Told) → WellFormed s u → text ≡ toldText u
-  pub other : ((u : Told) → WellFormed s u → ⊥) → text ≡ refusedText 11
-
 module _ (s : List ℕ) (bytes : (i : ℕ) → getD s i 0 < 256) where
   -- THE ANSWER
   pub answer-exactly : Answered s (answerBytes s)
@@ -65,6 +62,35 @@ module _ (s : List ℕ) (bytes : (i : ℕ) → getD s i 0 < 256) where
       by : ((u : Told) → WellFormed s u → ⊥) → (b : Bool) → parsed s .whole ≡ b → cond b (toldText (parsed s .told)) (refusedText 11) ≡ refusedText 11
       by not-one true e = absurd (not-one (parsed s .told) (parsed-means s bytes (parsed s .told) .0 (ap (λ (b : Bool). outcome b (parsed s .told)) e)))
       by not-one false e = refl
+
+-- ---- the closure over whole numbers
+
+module _ (F : Field) (s : List ℕ) where
+  -- the first letter tells a refusal from a grade, and the seventh one grade from the other
+  says-exact : take 12 (fieldText F s) ≡ gradeLine Exact → (tested (standardTests F s) ≡ Passed) × (gradeOf F ≡ Exact)
+  unfolding fieldText checkedText answerText gradeLine refusedText
+  says-exact = by (tested (standardTests F s))
+    where
+      told : (g : Grade) → take 12 (answerText g s (closure F s)) ≡ gradeLine Exact → g ≡ Exact
+      told Exact e = refl
+      told Inexact e = absurd (omega (arith, ap (λ (l : List ℕ). getD l 6 0) e))
+
+      by : (k : Checked) → take 12 (checkedText k F s) ≡ gradeLine Exact → (k ≡ Passed) × (gradeOf F ≡ Exact)
+      by Passed e = (refl, told (gradeOf F) e)
+      by (Failed r) e = absurd (omega (arith, ap (λ (l : List ℕ). getD l 0 0) e))
+
+module _ (s : List ℕ) (bytes : (i : ℕ) → getD s i 0 < 256) (u : Told) (w : WellFormed s u) where
+  -- DEMAND 2. Where the answer is `grade exact`, its x lines are the gradient closure over whole numbers, no more and no fewer.
+  pub exact-shows : take 12 (answerBytes s) ≡ gradeLine Exact → ShowsClosure (fieldTold u) (u .start) (answerBytes s)
+  exact-shows e =
+      let text : answerBytes s ≡ toldText u = answer-exactly s bytes .told u w in
+      let says = says-exact (fieldTold u) (u .start) (ap (take 12) (sym text) ∙ e) in
+      let sound = standard-passes (fieldTold u) (u .start) .0 (says .0) in
+      record {
+        values = closure (fieldTold u) (u .start);
+        closes = closure-is-closure (sound .shaped) (exact-means (fieldTold u) (sound .shaped .rows-long) .0 (says .1)) (sound .start);
+        shown = text ∙ sound-text u sound ∙ ap (λ (g : Grade). answerText g (u .start) (closure (fieldTold u) (u .start))) (says .1);
+      }
 
 -- ---- the longest input
 
@@ -98,11 +124,11 @@ module _ (s : List ℕ) (bytes : (i : ℕ) → getD s i 0 < 256) where
   told-within u w = let told : parsed s .told ≡ u = ap (λ (o : Outcome). o .told) (parsed-means s bytes u .1 w) in rw told at (parsed-within s)
 
   -- 256 weights, 1,024 entries and 256 given values
-  pub longest : (u : Told) → WellFormed s u → length s ≤ 18178
+  pub longest : (u : Told) → WellFormed s u → length s ≤ longestInput
   unfolding frees
   longest u w = let within = told-within u w in omega (arith, size (w .told), ap length (w .bytes), within .few-variables, within .few-entries, within .start)
 
-  longer : 18178 < length s → answerBytes s ≡ refusedText 11
+  longer : longestInput < length s → answerBytes s ≡ refusedText 11
   longer long = answer-exactly s bytes .other (λ u w. omega (arith, longest u w))
 
 take-bytes : (n : ℕ) (s : List ℕ) → ((i : ℕ) → getD s i 0 < 256) → (i : ℕ) → getD (take n s) i 0 < 256
@@ -112,7 +138,7 @@ take-bytes (suc n) (x ∷ s) bytes zero = bytes zero
 take-bytes (suc n) (x ∷ s) bytes (suc i) = take-bytes n s (λ j. bytes (suc j)) i
 
 -- one byte more than the longest well-formed input decides: what follows changes nothing
-pub answer-decided : (s : List ℕ) → ((i : ℕ) → getD s i 0 < 256) → (n : ℕ) → 18178 < n → answerBytes (take n s) ≡ answerBytes s
+pub answer-decided : (s : List ℕ) → ((i : ℕ) → getD s i 0 < 256) → (n : ℕ) → longestInput < n → answerBytes (take n s) ≡ answerBytes s
 answer-decided s bytes n enough = by (ltb n (length s)) refl
   where
     by : (b : Bool) → ltb n (length s) ≡ b → answerBytes (take n s) ≡ answerBytes s

@@ -1,7 +1,5 @@
--- Case g of document 01: the bytes of its records, and the text of its answer, byte by byte. Assumes nothing.
-use Prim.Native.Nat.{ℕ}
+-- The answer to case g, byte by byte. Assumes nothing.
 use mathlib.Core.Path.{_≡_, refl}
-use mathlib.Core.List.{List, [], _∷_, _++_}
 use lib.Ieee.{add, sub, mul, le, lt, ofInt, ofBits}
 use Rattle.weights.specs.Counts.{wholeIn}
 use Rattle.weights.specs.Worth.{magnitude}
@@ -19,20 +17,7 @@ use Rattle.records.specs.Reading.{weightAt, entryAt, givenAt, markedAt, readAt}
 use Rattle.records.specs.Told.{taken, readFrom, parsed}
 use Rattle.text.specs.Text.{decimal, gradeLine, forcedLine, endLine, forced, forcedLines, answerText}
 use Rattle.answering.specs.Answer.{checkedText, fieldText, answerBytes}
-
--- VC -5, VC -1, QE 0 1 4 and ZZ
-abbrev pub input-g : List ℕ
-input-g =
-    (86 ∷ 67 ∷ 0 ∷ 0 ∷ 0 ∷ 0 ∷ 0 ∷ 0 ∷ 20 ∷ 192 ∷ [])
-    ++ ((86 ∷ 67 ∷ 0 ∷ 0 ∷ 0 ∷ 0 ∷ 0 ∷ 0 ∷ 240 ∷ 191 ∷ [])
-    ++ ((81 ∷ 69 ∷ 0 ∷ 0 ∷ 1 ∷ 0 ∷ 0 ∷ 0 ∷ 0 ∷ 0 ∷ 0 ∷ 0 ∷ 16 ∷ 64 ∷ [])
-    ++ (90 ∷ 90 ∷ [])))
-
--- grade exact, x 0 1, x 1 0, end 2
-abbrev pub output-g : List ℕ
-output-g =
-    (103 ∷ 114 ∷ 97 ∷ 100 ∷ 101 ∷ 32 ∷ 101 ∷ 120 ∷ 97 ∷ 99 ∷ 116 ∷ 10 ∷ [])
-    ++ ((120 ∷ 32 ∷ 48 ∷ 32 ∷ 49 ∷ 10 ∷ []) ++ ((120 ∷ 32 ∷ 49 ∷ 32 ∷ 48 ∷ 10 ∷ []) ++ (101 ∷ 110 ∷ 100 ∷ 32 ∷ 50 ∷ 10 ∷ [])))
+use Rattle.answering.specs.CaseG.{input-g, output-g}
 
 pub case-g : answerBytes input-g ≡ output-g
 unfolding answerBytes parsed readFrom taken readAt markedAt weightAt entryAt givenAt floatAt numberAt valueOf fieldText checkedText tested

@@ -6,14 +6,19 @@ use mathlib.Core.List.{List}
 use lib.ListN.{length}
 use Rattle.field.specs.declared.Checked.{Checked}
 use Rattle.field.specs.declared.Checked.the-variants.{Passed, Failed}
+use Rattle.field.specs.declared.Grade.the-variants.{Exact}
 use Rattle.field.specs.Answers.{numberOf}
 use Rattle.field.specs.Field.{Field, fieldOf, variables, entries}
-use Rattle.field.specs.Grade.{gradeOf}
+use Rattle.field.specs.Grade.{halves, gradeOf}
+use Rattle.field.specs.Reading.{wholeOf}
 use Rattle.field.specs.Table.{tested}
 use Rattle.field.specs.Tests.{standardTests}
+use Rattle.meaning.specs.Gradient.{Forces}
+use Rattle.meaning.specs.Steps.{Closure}
 use Rattle.run.specs.Run.{closure}
 use Rattle.text.specs.Text.{refusedText, answerText}
 use Rattle.records.specs.Told.{Told, Outcome, parsed}
+use Rattle.records.specs.WellFormed.{WellFormed}
 
 -- "any other refusal `refused` and its number. Otherwise it runs the closure", prints the grade first, and shows what was forced
 unfoldable pub checkedText : Checked → Field → List ℕ → List ℕ
@@ -37,6 +42,23 @@ outcomeText o = cond (o .whole) (toldText (o .told)) (refusedText 11)
 
 unfoldable pub answerBytes : List ℕ → List ℕ
 answerBytes s = outcomeText (parsed s)
+
+-- ---- the same in the words of the meaning
+
+-- a well-formed input has the text of what it tells, and any other is `refused 11`
+pub record Answered (s text : List ℕ) : Type 0 where
+  pub told : (u : Told) → WellFormed s u → text ≡ toldText u
+  pub other : ((u : Told) → WellFormed s u → ⊥) → text ≡ refusedText 11
+
+-- the text is `grade exact`, an x line for each variable that is free in the start values and has a value in their closure over whole numbers, and `end` with their count
+pub record ShowsClosure (F : Field) (start text : List ℕ) : Type 0 where
+  pub values : List ℕ
+  pub closes : Closure (Forces (wholeOf halves F)) start values
+  pub shown : text ≡ answerText Exact start values
+
+-- the bytes of 256 weights, 1,024 entries, 256 given values and the end
+abbrev pub longestInput : ℕ
+longestInput = 18178
 
 -- ---- the memory that any input can need: 256 variables, 1,024 entries, and the longest text
 

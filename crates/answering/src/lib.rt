@@ -5,13 +5,13 @@ use records::parsing::parse;
 use text::put_bytes;
 use text::write_answer;
 use text::write_refused;
-ghost use Prim.Native.Nat.{_≤_};
-ghost use lib.ListN.{length};
+ghost use Prim.Native.Nat.{_≤_, _<_};
+ghost use lib.ListN.{length, take};
 ghost use Rattle.scratch.specs.Lent.{before, after};
 ghost use Rattle.field.specs.Field.{lent, given};
 ghost use Rattle.text.specs.Text.{Written};
 ghost use Rattle.records.specs.Parsing.{listsOf, Room};
-ghost use Rattle.answering.specs.Answer.{Enough, Fits, fieldText, answerBytes};
+ghost use Rattle.answering.specs.Answer.{Enough, Fits, fieldText, answerBytes, longestInput};
 
 // The closure works on a copy: the start values say which variables were given.
 fn answer_field(
@@ -76,7 +76,7 @@ fn answer_in(
 }
 
 // The text for an input, at the front of `out`, which has room for any: 22 bytes for the grade and the end, and 10 for each of 256 x lines.
-pub fn answer(bytes: &[u8], out: &mut [u8; 2582]) -> usize
+fn answer_bytes(bytes: &[u8], out: &mut [u8; 2582]) -> usize
     ensures { λ r. ⌜ Written (answerBytes (before bytes)) (before out) (after out) r ⌝ }
 {
     let mut c = [0.0; 256];
@@ -99,4 +99,22 @@ pub fn answer(bytes: &[u8], out: &mut [u8; 2582]) -> usize
         &mut u,
         out,
     )
+}
+
+// The text for the first n bytes, or for all where there are fewer.
+fn answer_front(bytes: &[u8], n: usize, out: &mut [u8; 2582]) -> usize
+    ensures { λ r. ⌜ Written (answerBytes (take n (before bytes))) (before out) (after out) r ⌝ }
+{
+    if n > bytes.len() {
+        return answer_bytes(bytes, out);
+    }
+    answer_bytes(&bytes[..n], out)
+}
+
+// The text for the n bytes that were read into `input`, which has room for one more than the longest well-formed input has: what follows changes no answer.
+pub fn answer(input: &[u8; 18179], n: usize, out: &mut [u8; 2582]) -> usize
+    ensures { λ r. ⌜ Written (answerBytes (take n (before input))) (before out) (after out) r ⌝ }
+    ensures { λ r. ⌜ longestInput < length (before input) ⌝ }
+{
+    answer_front(input, n, out)
 }

@@ -3,10 +3,10 @@ use libc::STDIN_FILENO;
 use libc::STDOUT_FILENO;
 
 fn main() {
-    // One byte more than the longest well-formed input (256 * 10 + 1,024 * 14 + 256 * 5 + 2): what follows it changes no answer.
+    // One byte more than the longest well-formed input, as `answer` asks: what follows it changes no answer.
     let mut input = [0u8; 18179];
     let n = io::read_full(STDIN_FILENO, &mut input);
     let mut text = [0u8; 2582];
-    let size = answering::answer(&input[..n], &mut text);
+    let size = answering::answer(&input, n, &mut text);
     io::write_all(STDOUT_FILENO, &text[..size]);
 }

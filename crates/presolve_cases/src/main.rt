@@ -18,7 +18,7 @@ fn answer_next() -> bool {
         return false;
     }
     let mut text = [0u8; 2582];
-    let r = answering::answer(&input[..n], &mut text);
+    let r = answering::answer(&input, n, &mut text);
     io::write_all(STDOUT_FILENO, &text[..r])
 }
 

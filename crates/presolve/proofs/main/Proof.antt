@@ -12,20 +12,14 @@ slice-aggregate-read-full c = search needs
 read-full-requires : tie.Need-read-full-requires
 read-full-requires c κs = search needs
 
-array-share-prefix-input : tie.Need-array-share-prefix-input
-array-share-prefix-input c = search needs
-
-slice-aggregate-answer : tie.Need-slice-aggregate-answer
-slice-aggregate-answer c = search needs
-
 answer-requires : tie.Need-answer-requires
 answer-requires c κs = search needs
 
 array-share-prefix-text : tie.Need-array-share-prefix-text
-array-share-prefix-text c = written-fits (c .answer .ensures)
+array-share-prefix-text c = written-fits (c .answer .ensures .0)
 
 slice-aggregate-write-all : tie.Need-slice-aggregate-write-all
-slice-aggregate-write-all c = sym (length-take-le _ _ (written-fits (c .before .answer .ensures)))
+slice-aggregate-write-all c = sym (length-take-le _ _ (written-fits (c .before .answer .ensures .0)))
 
 write-all-requires : tie.Need-write-all-requires
 write-all-requires c κs = search needs
@@ -39,8 +33,6 @@ main-spec =
     (tie.spec
     slice-aggregate-read-full
     read-full-requires
-    array-share-prefix-input
-    slice-aggregate-answer
     answer-requires
     array-share-prefix-text
     slice-aggregate-write-all

@@ -1,18 +1,10 @@
 -- Each part that `answer_next` lends lies within its array. Assumes nothing.
-use Prim.Native.Nat.{ℕ, _≤_}
-use mathlib.Core.List.{List, _++_}
-use lib.ListN.{length, length-append}
 use mathlib.Core.Path.{sym}
 use lib.Seq.{length-take-le}
 use Rattle.text.proofs.Writes.{written-fits}
-use native.Mathlib.Omega.{arith}
 use borrow.Author.Needs.{needs}
 use Rattle.presolve_cases.proofs.answer_next.Statement.{statement}
 use Rattle.presolve_cases.proofs.answer_next.Tie as tie
-
--- what is counted at the front of a part is within the whole
-within : (n : ℕ) (part rest : List ℕ) → n ≤ length part → n ≤ length (part ++ rest)
-within n part rest h = omega (arith, length-append part rest)
 
 slice-aggregate-read-full : tie.Need-slice-aggregate-read-full
 slice-aggregate-read-full c = search needs
@@ -47,20 +39,14 @@ read-full-requires-2 c κs = search needs
 returns-3 : tie.Need-returns-3
 returns-3 c = search needs
 
-array-share-prefix-input : tie.Need-array-share-prefix-input
-array-share-prefix-input c = within _ (c .before .before .read-full2 .last .1 .0) _ (c .before .before .read-full2 .ensures .0)
-
-slice-aggregate-answer : tie.Need-slice-aggregate-answer
-slice-aggregate-answer c = sym (length-take-le _ _ (within _ (c .before .before .before .read-full2 .last .1 .0) _ (c .before .before .before .read-full2 .ensures .0)))
-
 answer-requires : tie.Need-answer-requires
 answer-requires c κs = search needs
 
 array-share-prefix-text : tie.Need-array-share-prefix-text
-array-share-prefix-text c = written-fits (c .answer .ensures)
+array-share-prefix-text c = written-fits (c .answer .ensures .0)
 
 slice-aggregate-write-all : tie.Need-slice-aggregate-write-all
-slice-aggregate-write-all c = sym (length-take-le _ _ (written-fits (c .before .answer .ensures)))
+slice-aggregate-write-all c = sym (length-take-le _ _ (written-fits (c .before .answer .ensures .0)))
 
 write-all-requires : tie.Need-write-all-requires
 write-all-requires c κs = search needs
@@ -83,8 +69,6 @@ answer-next-spec =
     slice-aggregate-read-full-2
     read-full-requires-2
     returns-3
-    array-share-prefix-input
-    slice-aggregate-answer
     answer-requires
     array-share-prefix-text
     slice-aggregate-write-all
