@@ -24,8 +24,9 @@ use Rattle.masks.specs.Masks.{objective, Won}
 use Rattle.masks.proofs.Winner.{winner}
 use Rattle.enumeration.specs.Terms.{termsOf, maskOf, putTo, solved}
 use Rattle.enumeration.specs.Alone.{Alone}
+use Rattle.enumeration.specs.Weighed.{weighed}
 use Rattle.enumeration.proofs.Putting.{put-long}
-use Rattle.enumeration.proofs.Objective.{counted, weighed, same-bits, objective-worth}
+use Rattle.enumeration.proofs.Objective.{counted, same-bits, objective-worth}
 use Rattle.enumeration.proofs.Exchange.{exchange}
 use Rattle.enumeration.proofs.Bits.{put-at, put-other, maskFor, mask-below, mask-bits}
 

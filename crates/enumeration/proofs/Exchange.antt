@@ -17,9 +17,9 @@ use Rattle.field.specs.Reading.{wholeOf}
 use Rattle.parts.specs.Part.{has, Apart}
 use Rattle.enumeration.specs.Terms.{stands}
 use Rattle.enumeration.specs.Alone.{Alone}
+use Rattle.enumeration.specs.Weighed.{fixedPart, pairWeight}
 use Rattle.enumeration.proofs.Sums.{sum-members, collect}
-use Rattle.enumeration.proofs.Fixed.{fixedPart}
-use Rattle.enumeration.proofs.Stands.{pairWeight, pair-sum}
+use Rattle.enumeration.proofs.Stands.{pair-sum}
 use Rattle.enumeration.proofs.Objective.{on, counted}
 
 -- ---- terms that tests pick

@@ -26,14 +26,7 @@ use Rattle.places.specs.Places.{keep, places}
 use Rattle.places.proofs.Places.{tail, tail-end, tail-step, other-column, other-row}
 use Rattle.parts.proofs.Listed.{neither}
 use Rattle.enumeration.specs.Terms.{linearAt, linearFrom, linearPart}
-
--- "q if its other end is 1, nothing if 0", and nothing if it is free
-abbrev pub without : Whole → Whole
-without q = nothing
-
--- the linear part in whole numbers
-abbrev pub fixedPart : ℕ → Field → List ℕ → ℕ → Whole
-fixedPart u F t i = gradient without (wholeOf u F) (view t) i
+use Rattle.enumeration.specs.Weighed.{without, fixedPart}
 
 -- one end
 end-worth : {u : ℕ} {x y : Float} {a q : Whole} (v : ℕ) → v ≤ 2 → Worth u x a → Under (2 ^ 49) a → Worth u y q → Under (2 ^ 31) q

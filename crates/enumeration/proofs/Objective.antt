@@ -20,8 +20,8 @@ use Rattle.masks.specs.Masks.{Term, has, objective}
 use Rattle.masks.proofs.Digits.{has-bit, has-both}
 use Rattle.masks.proofs.Adds.{Adds, adds-none, adds-one, adds-then}
 use Rattle.enumeration.specs.Terms.{entryOf, linearTerms, termAt, pairTerm, columnTerms, pairTerms, termsOf}
-use Rattle.enumeration.proofs.Fixed.{fixedPart, part-worth, part-under}
-use Rattle.enumeration.proofs.Stands.{pairWeight}
+use Rattle.enumeration.specs.Weighed.{fixedPart, pairWeight, weighed}
+use Rattle.enumeration.proofs.Fixed.{part-worth, part-under}
 
 -- variable i is 1
 abbrev pub on : List ℕ → ℕ → Bool
@@ -33,13 +33,7 @@ counted u F t ms z =
     sum (length ms) (λ b. only (on z (getD ms b 0)) (fixedPart u F t (getD ms b 0)))
     ⊕ sum (length ms) (λ b. sum (length ms) (λ a. only (on z (getD ms a 0) && on z (getD ms b 0)) (pairWeight u F (getD ms a 0) (getD ms b 0))))
 
--- and what those count whose bits a mask has
-abbrev pub weighed : ℕ → Field → List ℕ → List ℕ → ℕ → Whole
-weighed u F t ms mask =
-    sum (length ms) (λ b. only (has mask (2 ^ b)) (fixedPart u F t (getD ms b 0)))
-    ⊕ sum (length ms) (λ b. sum (length ms) (λ a. only (has mask (bitOr (2 ^ a) (2 ^ b))) (pairWeight u F (getD ms a 0) (getD ms b 0))))
-
--- they are the same where bit b is the value of member b
+-- the mask counts the same where bit b is the value of member b
 pub same-bits : (u : ℕ) (F : Field) (t ms z : List ℕ) (mask : ℕ) → ((b : ℕ) → b < length ms → mask / 2 ^ b % 2 ≡ getD z (getD ms b 0) 0) → weighed u F t ms mask ≈ counted u F t ms z
 same-bits u F t ms z mask bits =
     omega (

@@ -20,6 +20,7 @@ use Rattle.places.specs.Places.{keep, places}
 use Rattle.places.proofs.Places.{tail, tail-end, tail-step}
 use Rattle.parts.proofs.Listed.{neither}
 use Rattle.enumeration.specs.Terms.{stands, entryFrom, entryOf}
+use Rattle.enumeration.specs.Weighed.{pairWeight}
 
 -- ---- it stands once
 
@@ -103,10 +104,6 @@ module _ {F : Field} (shaped : Shaped F) (i j : ℕ) where
   found = sought (entries F) 0 (omega arith)
 
 -- ---- its weight
-
--- the weight of the entry (i, j), and nothing where none stands
-unfoldable pub pairWeight : ℕ → Field → ℕ → ℕ → Whole
-pairWeight u F i j = cond (ltb (entryOf F i j) (entries F)) (wholeOf u F .weight (entryOf F i j)) nothing
 
 module _ (u : ℕ) {F : Field} (shaped : Shaped F) (i j : ℕ) where
   pub pair-sum : pairWeight u F i j ≈ sum (entries F) (λ k. only (stands (F .rows) (F .cols) i j k) (wholeOf u F .weight k))

@@ -1,3 +1,4 @@
 pub mod Held
 pub mod Terms
+pub mod Weighed
 pub mod Alone
