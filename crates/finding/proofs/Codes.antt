@@ -5,13 +5,7 @@ use native.Mathlib.Omega.{arith}
 use Rattle.meaning.specs.Kinds.{Kind, at-least-one, exactly-one, no-more-than-one, greater-than, less-than, equal, Constraint}
 use Rattle.constraints.specs.Codes.{kindAt}
 use Rattle.constraints.specs.Triple.{constraintOf}
-use Rattle.finding.specs.Finds.{codeFor, tripleOf}
-
--- each kind and each code of the six
-pub record CodeIs : Type 0 where
-  pub kind-back : (k : Kind) → kindAt (codeFor k) ≡ k
-  pub code-back : (code : ℕ) → code ≤ 5 → codeFor (kindAt code) ≡ code
-  pub small : (k : Kind) → codeFor k ≤ 5
+use Rattle.finding.specs.Finds.{codeFor, tripleOf, CodeIs}
 
 kind-there : (k : Kind) → kindAt (codeFor k) ≡ k
 kind-there at-least-one = refl

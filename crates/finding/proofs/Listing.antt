@@ -14,9 +14,10 @@ use lib.ListN.{length, getD}
 use Rattle.probe.specs.Found.{Finding}
 use Rattle.finding.specs.Finds.{givesAt}
 use Rattle.finding.specs.Emit.{Bench, bench, findingIn, emitOf, emitTo, chosenTo, Emits, Emittable}
+use Rattle.finding.specs.Enters.{Enters}
 use Rattle.finding.proofs.Emitted.{entered-end}
 use Rattle.finding.proofs.Entered.{SmallFinding, found-small}
-use Rattle.finding.proofs.Entering.{Enters, enters-none, enters-one, enters-then}
+use Rattle.finding.proofs.Entering.{enters-none, enters-one, enters-then}
 
 -- j is one of the first k variables of the list at `from`, and its value is not below `least`
 pub record Listed (t : List ℕ) (least : ℕ) (u : List ℕ) (from k j : ℕ) : Type 0 where

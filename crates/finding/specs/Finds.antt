@@ -1,10 +1,12 @@
 -- What both probes of one candidate find of every other free variable: probe values and constraints. Executable on every field. Assumes nothing.
-use Prim.Native.Nat.{ℕ, zero, suc}
+use Prim.Native.Nat.{ℕ, zero, suc, _≤_}
+use mathlib.Core.Path.{_≡_}
 use mathlib.Core.Bool.{cond}
 use mathlib.Core.List.{List, [], _∷_}
 use lib.Dec.{eqb, ltb}
 use lib.ListN.{length, getD, set, replicate}
 use Rattle.meaning.specs.Kinds.{Kind, at-least-one, exactly-one, no-more-than-one, greater-than, less-than, equal, Constraint}
+use Rattle.constraints.specs.Codes.{kindAt}
 use Rattle.constraints.specs.Triple.{Triple, triple}
 use Rattle.constraints.specs.Keys.{keyOf}
 use Rattle.field.specs.Field.{Field, variables}
@@ -23,6 +25,12 @@ codeFor no-more-than-one = 2
 codeFor greater-than = 3
 codeFor less-than = 4
 codeFor equal = 5
+
+-- each of the six kinds has a code from 0 to 5 of its own, and each such code a kind
+pub record CodeIs : Type 0 where
+  pub kind-back : (k : Kind) → kindAt (codeFor k) ≡ k
+  pub code-back : (code : ℕ) → code ≤ 5 → codeFor (kindAt code) ≡ code
+  pub small : (k : Kind) → codeFor k ≤ 5
 
 -- "A constraint is three u16: first, second, kind"
 abbrev pub tripleOf : Constraint → Triple

@@ -23,7 +23,8 @@ use Rattle.probe.specs.Found.{nothing}
 use Rattle.finding.specs.Finds.{wins, givesAt, findingOf, finding, constraintsTo}
 use Rattle.finding.specs.Emit.{layTo, Layable, bench, findingIn, emitTo, chosenTo, Emittable}
 use Rattle.finding.proofs.Entered.{gathering-same}
-use Rattle.finding.proofs.Entering.{Enters, enters-then, enters-as, enters-values, enters-gathers}
+use Rattle.finding.specs.Enters.{Enters}
+use Rattle.finding.proofs.Entering.{enters-then, enters-as, enters-values, enters-gathers}
 use Rattle.finding.proofs.Listing.{Listed, emit-enters, emit-most}
 use Rattle.finding.proofs.Copied.{front-by}
 use Rattle.finding.proofs.Laid.{lay-long, lay-others, lay-at}
