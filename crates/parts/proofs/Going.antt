@@ -12,8 +12,8 @@ use lib.Seq.{getD-set-same, getD-set-other, set-out}
 use Rattle.meaning.specs.Free.{frees}
 use Rattle.meaning.proofs.Free.{frees-set}
 use Rattle.field.specs.Field.{Field, Shaped}
-use Rattle.places.specs.Places.{places, otherEnd}
-use Rattle.places.proofs.Places.{Touches, places-touch}
+use Rattle.places.specs.Places.{places, otherEnd, Touches}
+use Rattle.places.proofs.Places.{places-touch}
 use Rattle.parts.specs.Walk.{Search, search, joins, push, visit, visitAt, visitAll, serve}
 use Rattle.parts.specs.Part.{has, Apart, Open, Joined, Reaches, there}
 use Rattle.parts.proofs.Listed.{has-there, has-else, apart-there, places-all, other-is, other-ends}

@@ -9,8 +9,8 @@ use native.Mathlib.Omega.{arith}
 use borrow.Author.Tests.{eq-eqb, ne-eqb, eqb-true, eqb-false}
 use lib.ListN.{length, getD}
 use lib.Dec.{eqb}
-use Rattle.places.specs.Places.{keep, placesFrom, places, otherEnd}
-use Rattle.places.proofs.Places.{Touches, other-column, other-row}
+use Rattle.places.specs.Places.{keep, placesFrom, places, otherEnd, Touches}
+use Rattle.places.proofs.Places.{other-column, other-row}
 use Rattle.parts.specs.Part.{has, Apart}
 
 -- ---- one or the other

@@ -6,9 +6,9 @@ use native.Mathlib.Numerals.{add-one}
 use native.Mathlib.Omega.{arith}
 use lib.ListN.{length, getD, set, take, length-set}
 use lib.Seq.{slice, slice-cons, slice-empty, take-set-le, getD-drop, getD-take}
-use Rattle.places.specs.Places.{Adjacent, places, degree, start}
+use Rattle.places.specs.Places.{Adjacent, places, degree, start, Touches}
 use Rattle.places.proofs.Slices.{front-getD, front-slice}
-use Rattle.places.proofs.Places.{Touches, places-touch}
+use Rattle.places.proofs.Places.{places-touch}
 use Rattle.places.proofs.Starts.{start-rises, start-suc, start-most}
 
 -- ---- the part of i

@@ -19,8 +19,8 @@ use Rattle.rows.specs.Row.{addTerm}
 use Rattle.rows.specs.Model.{coeffOf, atEnd, atEntry, rowTo, rowOf}
 use Rattle.rows.specs.Stored.{upTo}
 use Rattle.rows.proofs.Upto.{length-upTo, getD-upTo}
-use Rattle.places.specs.Places.{places, otherEnd}
-use Rattle.places.proofs.Places.{Touches, other-column, other-row}
+use Rattle.places.specs.Places.{places, otherEnd, Touches}
+use Rattle.places.proofs.Places.{other-column, other-row}
 use Rattle.scanning.proofs.Order.{places-all}
 use Rattle.run.specs.Run.{Run, noRow, rowFor, isFree, closureRun, closure}
 use Rattle.run.proofs.Room.{free-after}

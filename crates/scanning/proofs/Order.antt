@@ -10,8 +10,7 @@ use borrow.Author.Tests.{eqb-true, eq-eqb}
 use lib.Dec.{eqb}
 use lib.ListN.{length, getD}
 use Rattle.field.specs.Field.{Field, variables, entries, rowEnd, columnEnd, Before, Shaped}
-use Rattle.places.specs.Places.{keep, placesFrom, places, Adjacent}
-use Rattle.places.proofs.Places.{Touches}
+use Rattle.places.specs.Places.{keep, placesFrom, places, Adjacent, Touches}
 use Rattle.places.proofs.Walk.{part-long, place-get, place-touches}
 use Rattle.scanning.specs.Merge.{In, listAt, nearAt, farAt}
 use Rattle.scanning.proofs.Search.{Rises}

@@ -11,8 +11,7 @@ use Rattle.field.specs.Field.{Field, variables}
 use Rattle.rows.specs.declared.Verdict.the-variants.{Open}
 use Rattle.rows.specs.Row.{judgeOf}
 use Rattle.rows.specs.Stored.{rowOn}
-use Rattle.places.specs.Places.{otherEnd}
-use Rattle.places.proofs.Places.{Touches}
+use Rattle.places.specs.Places.{otherEnd, Touches}
 use Rattle.run.specs.Cells.{Cells, base, Placed}
 use Rattle.scanning.specs.declared.Cursor.{Cursor}
 

@@ -13,8 +13,8 @@ use lib.ListN.{length, getD, set}
 use lib.Seq.{getD-set-other}
 use Rattle.field.specs.Field.{Field, variables}
 use Rattle.rows.specs.Model.{coeffOf, rowOf}
-use Rattle.places.specs.Places.{places, otherEnd}
-use Rattle.places.proofs.Places.{Touches, places-touch}
+use Rattle.places.specs.Places.{places, otherEnd, Touches}
+use Rattle.places.proofs.Places.{places-touch}
 use Rattle.run.specs.Run.{Run, noRow, rowFor, isFree, force, judged, scanTo, moveRow, serveAt, serveAll, serve, work, propagate}
 use Rattle.run.proofs.Keeps.{ByForce, by-judged, by-scan}
 use Rattle.scanning.specs.Merge.{In}
