@@ -11,9 +11,9 @@ use Rattle.whole.specs.Whole.{Whole, nothing, _⊕_, _⊖_, only, sum, min0, ma
 use Rattle.weights.specs.Worth.{Worth, zero64}
 use Rattle.weights.proofs.Worth.{add-worth, sub-worth, as-worth}
 use Rattle.meaning.specs.Field as meaning
-use Rattle.meaning.specs.Pair.{merged, signed, own, pull, settled, third, margin, greatest, difference}
+use Rattle.meaning.specs.Pair.{merged, signed, own, pull, settled, third, margin, greatest, lowest, difference}
 use Rattle.meaning.proofs.Worked.{gap-worked}
-use Rattle.meaning.proofs.Lowest.{lowest, lowest-completion}
+use Rattle.meaning.proofs.Lowest.{lowest-completion}
 use Rattle.meaning.proofs.Margin.{margin-below, margin-reached, greatest-is}
 use Rattle.field.specs.Field.{Field, variables, StartFor}
 use Rattle.field.specs.Reading.{wholeOf}

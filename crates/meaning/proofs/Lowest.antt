@@ -13,17 +13,7 @@ use Rattle.whole.proofs.Sums.{only-same, sum-same}
 use Rattle.meaning.specs.Steps.{Valid}
 use Rattle.meaning.specs.Field.{Completion}
 use Rattle.meaning.specs.Gradient.{share}
-use Rattle.meaning.specs.Pair.{bit, other, pull-part}
-
--- the value v, or where that is free the one of b
-unfoldable pub fill : ℕ → Bool → ℕ
-fill zero b = 0
-fill (suc zero) b = 1
-fill (suc (suc v)) b = bit b
-
-abbrev pub lowest : (ℕ → Whole) → List ℕ → List ℕ
-lowest w [] = []
-lowest w (v ∷ s) = fill v (ltb (w zero .plus) (w zero .less)) ∷ lowest (λ k. w (suc k)) s
+use Rattle.meaning.specs.Pair.{bit, other, pull-part, fill, lowest}
 
 lowest-at : (w : ℕ → Whole) (s : List ℕ) (k : ℕ) → getD (lowest w s) k 0 ≡ fill (getD s k 0) (ltb (w k .plus) (w k .less))
 unfolding fill

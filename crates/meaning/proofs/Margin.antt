@@ -14,12 +14,12 @@ use Rattle.meaning.specs.Steps.{Valid, Extends}
 use Rattle.meaning.specs.Field.{Field, Standard, Within, Completion, Best}
 use Rattle.meaning.specs.Gradient.{share}
 use Rattle.meaning.specs.Kinds.{Forbids, Meets}
-use Rattle.meaning.specs.Pair.{merged, bit, signed, own, pull, other, pull-part, margin, greatest, at, difference, Tolerance, Always, dominated}
+use Rattle.meaning.specs.Pair.{merged, bit, signed, own, pull, other, pull-part, margin, greatest, lowest, least-at, at, difference, Tolerance, Always, dominated}
 use Rattle.meaning.proofs.Forbidden.{only-pair}
 use Rattle.meaning.proofs.Gradient.{share-rises, extends-behind}
 use Rattle.meaning.proofs.Sound.{complete-set}
 use Rattle.meaning.proofs.Corners.{gap-is}
-use Rattle.meaning.proofs.Lowest.{lowest, bit-small, lowest-completion, lowest-reaches}
+use Rattle.meaning.proofs.Lowest.{bit-small, lowest-completion, lowest-reaches}
 
 pub margin-rises : (a b : Bool) (F : Field) {s t : List ℕ} → Extends s t → (i j : ℕ) → margin a b F s i j ⊑ margin a b F t i j
 margin-rises a b F {s = s} {t = t} p i j =
@@ -46,17 +46,14 @@ module _ (F : Field) (st : Standard F) (fits : Within F) (s : List ℕ) (valid :
   pub margin-below : (x : List ℕ) → Completion s x → margin a b F s i j ⊑ difference a b F x i j
   margin-below x c = omega (arith, here x c, margin-rises a b F (c .extends) i j)
 
-  abbrev pub least-at : List ℕ
-  least-at = lowest (pull a b F i j) s
-
-  pub margin-reached : margin a b F s i j ≈ difference a b F least-at i j
-  margin-reached = omega (arith, here least-at (lowest-completion (pull a b F i j) s valid), lowest-reaches (F .n) (pull a b F i j) s i j)
+  pub margin-reached : margin a b F s i j ≈ difference a b F (least-at a b F s i j) i j
+  margin-reached = omega (arith, here (least-at a b F s i j) (lowest-completion (pull a b F i j) s valid), lowest-reaches (F .n) (pull a b F i j) s i j)
 
   module _ (P : Whole → Type 0) (tol : Tolerance P) where
     -- EXACT: a pattern is always above the opposite by more than the tolerance exactly if its margin is
     pub margin-exact : Always P a b F s i j ↔ P (margin a b F s i j)
     margin-exact = (
-      λ all. tol .rises (omega (arith, margin-reached)) (all least-at (lowest-completion (pull a b F i j) s valid)),
+      λ all. tol .rises (omega (arith, margin-reached)) (all (least-at a b F s i j) (lowest-completion (pull a b F i j) s valid)),
       λ h x c. tol .rises (margin-below x c) h,
     )
 

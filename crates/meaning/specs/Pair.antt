@@ -2,10 +2,10 @@
 -- The margin of a pattern is the least of f at (a, b) less f at the opposite pattern, in halves, over all values of the other free variables:
 -- document 01's four bounds are the margins of 11, 00, 10 and 01. Assumes nothing.
 use mathlib.Core.Bool.{Bool, true, false, not, _&&_}
-use mathlib.Core.List.{List}
-use Prim.Native.Nat.{ℕ}
+use mathlib.Core.List.{List, [], _∷_}
+use Prim.Native.Nat.{ℕ, zero, suc}
 use lib.ListN.{getD, set}
-use lib.Dec.{eqb}
+use lib.Dec.{eqb, ltb}
 use Rattle.whole.specs.Whole.{Whole, nothing, _⊕_, _⊖_, _⊑_, only, sum, min0, max0, Above0}
 use Rattle.meaning.specs.Field.{Field, Completion, twice-f}
 use Rattle.meaning.specs.Free.{isFree}
@@ -60,6 +60,21 @@ margin = gap min0
 
 abbrev pub greatest : Bool → Bool → Field → List ℕ → ℕ → ℕ → Whole
 greatest = gap max0
+
+-- the value v, or where that is free the one of b
+unfoldable pub fill : ℕ → Bool → ℕ
+fill zero b = 0
+fill (suc zero) b = 1
+fill (suc (suc v)) b = bit b
+
+-- s with each free place filled: 1 where its weight is below 0, and 0 elsewhere
+abbrev pub lowest : (ℕ → Whole) → List ℕ → List ℕ
+lowest w [] = []
+lowest w (v ∷ s) = fill v (ltb (w zero .plus) (w zero .less)) ∷ lowest (λ k. w (suc k)) s
+
+-- the completion of s that reaches the margin
+abbrev pub least-at : Bool → Bool → Field → List ℕ → ℕ → ℕ → List ℕ
+least-at a b F s i j = lowest (pull a b F i j) s
 
 -- x with the pattern at i and j
 abbrev pub at : Bool → Bool → List ℕ → ℕ → ℕ → List ℕ
