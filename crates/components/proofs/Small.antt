@@ -135,7 +135,7 @@ module _ {F : Field} (S : Shaped F) (s : List ℕ) (long : length s ≡ variable
     large-same many i e = here i e ∙ ap (λ (v : List ℕ). getD v i 0) (large-part F earlier members many) ∙ earlier-same i e
 
     module _ (few : length members ≤ 10) where
-      has-bits : HasBits (smallParts F s) members (maskOf F s members)
+      pub has-bits : HasBits (smallParts F s) members (maskOf F s members)
       has-bits b l =
           here (getD members b 0) (has-at members b l)
           ∙ ap (λ (v : List ℕ). getD v (getD members b 0) 0) (small-part F earlier members few)
