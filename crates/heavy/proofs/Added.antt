@@ -25,7 +25,7 @@ use Rattle.field.proofs.Exact.{exact-means}
 use Rattle.run.specs.Run.{closure}
 use Rattle.run.proofs.Theorems.{closure-valid}
 use Rattle.components.proofs.Bridge.{parts-extend}
-use Rattle.no_effect.proofs.Listed.{NoEntry}
+use Rattle.no_effect.specs.Effect.{NoEntry}
 use Rattle.preprocess.specs.Working.{preprocess}
 use Rattle.preprocess.specs.Call.{preprocessCall}
 use Rattle.preprocess.proofs.Idle.{idle-start}
@@ -84,7 +84,7 @@ module _ {F : Field} {s : List ℕ} (S : Sound F s) where
   worked : preprocessCall F s floats words .values ≡ preprocess F s
   worked = preprocessing.values-are F s floats words (gradeOf F) called
 
-  preprocess-extends : Extends s (preprocess F s)
+  pub preprocess-extends : Extends s (preprocess F s)
   preprocess-extends = rw worked at (preprocessing.values-extend F s floats words (gradeOf F) called)
 
   -- with every value of the closure, and 0 for a free variable of no effect

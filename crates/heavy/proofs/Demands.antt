@@ -25,7 +25,7 @@ use Rattle.field.specs.Reading.{wholeOf}
 use Rattle.field.specs.Call.{Left, left}
 use Rattle.field.proofs.ValuesCall as values
 use Rattle.run.specs.Run.{closure}
-use Rattle.no_effect.proofs.Listed.{NoEntry}
+use Rattle.no_effect.specs.Effect.{NoEntry}
 use Rattle.preprocess.specs.Working.{preprocess}
 use Rattle.heavy.specs.Rounds.{round, rounds, allRounds, heavy}
 use Rattle.heavy.specs.Call.{heavyCall}
@@ -90,7 +90,7 @@ module _ (F : Field) (s : List ℕ) (f : List Float) (u : List ℕ) where
     pub values-are : heavyCall F s f u .values ≡ heavy F s
     values-are = values.values-are _ F s f u g e
 
-    sound : Sound F s
+    pub sound : Sound F s
     sound = values.ready _ F s f u g e .sound
 
     -- The start values are kept, a 1 of a variable of no effect too ..

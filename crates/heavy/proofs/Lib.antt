@@ -4,3 +4,5 @@ pub mod Added
 pub mod Standing
 pub mod Going
 pub mod Demands
+pub mod Unseen
+pub mod Ended

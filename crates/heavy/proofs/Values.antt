@@ -42,7 +42,7 @@ module _ (t s : List ℕ) where
   unfolding laidOver
   laid-long = length-upTo _ (length s)
 
-  laid-value : (j : ℕ) → j < length s → getD t j 0 < 2 → getD (laidOver t s) j 0 ≡ getD t j 0
+  pub laid-value : (j : ℕ) → j < length s → getD t j 0 < 2 → getD (laidOver t s) j 0 ≡ getD t j 0
   unfolding laidOver laidAt
   laid-value j l h = getD-upTo (λ j. laidAt (getD t j 0) (getD s j 0)) (length s) j 0 l ∙ rw (lt-ltb (getD t j 0) 2 h)
 
@@ -51,7 +51,7 @@ module _ (t s : List ℕ) where
   laid-none j l h = getD-upTo (λ j. laidAt (getD t j 0) (getD s j 0)) (length s) j 0 l ∙ rw (le-ltb (getD t j 0) 2 h)
 
   -- each place has the value of t, or that of s
-  laid-at : (j : ℕ) → ((j < length s) × ((getD t j 0 < 2) × (getD (laidOver t s) j 0 ≡ getD t j 0))) ⊎ (getD (laidOver t s) j 0 ≡ getD s j 0)
+  pub laid-at : (j : ℕ) → ((j < length s) × ((getD t j 0 < 2) × (getD (laidOver t s) j 0 ≡ getD t j 0))) ⊎ (getD (laidOver t s) j 0 ≡ getD s j 0)
   laid-at j = elim (decLt j (length s)) [
     | no out ↦ inr (List·getD-eq-default (laidOver t s) 0 {n = j} (omega (arith, laid-long)) ∙ sym (List·getD-eq-default s 0 {n = j} (omega arith)))
     | yes l ↦ elim (decLt (getD t j 0) 2) [

@@ -29,10 +29,10 @@ use Rattle.field.specs.Grade.{halves, gradeOf}
 use Rattle.field.specs.Reading.{wholeOf}
 use Rattle.field.proofs.Table.{refused-by, refused-exactly, group-no, group-ok}
 use Rattle.field.proofs.Exact.{exact-means}
-use Rattle.no_effect.specs.Effect.{hasNoEffect, noEffect}
+use Rattle.no_effect.specs.Effect.{hasNoEffect, noEffect, NoEntry}
 use Rattle.no_effect.specs.Call.{Left, left, wordTests, Prepared, fits, noEffectTests, answered, leaves, noEffectCall}
 use Rattle.no_effect.proofs.Laws.{word-passes}
-use Rattle.no_effect.proofs.Listed.{chosen-passes, chosen-rises, chosen-all, NoEntry, effect-means, effect-exact}
+use Rattle.no_effect.proofs.Listed.{chosen-passes, chosen-rises, chosen-all, effect-means, effect-exact}
 
 -- any two results that the promise permits are equal
 pub one-result : (F : Field) (l u : List ℕ) (x y : Left) → x ≡ noEffectCall F l u → y ≡ noEffectCall F l u → x ≡ y

@@ -17,7 +17,7 @@ use Rattle.field.specs.Grade.{ExactIn}
 use Rattle.field.specs.Reading.{wholeOf}
 use Rattle.field.proofs.Reading.{linear-worth}
 use Rattle.no_effect.specs.Putting.{chosenFrom}
-use Rattle.no_effect.specs.Effect.{apartAt, untouched, hasNoEffect}
+use Rattle.no_effect.specs.Effect.{apartAt, untouched, hasNoEffect, NoEntry}
 
 -- ---- the numbers that pass
 
@@ -68,10 +68,6 @@ chosen-all p i (suc k) x h = elim (ℕ-discrete x i) [
     there false w = w
 
 -- ---- no effect
-
--- neither end of any entry is i
-abbrev pub NoEntry : Field → ℕ → Type 0
-NoEntry F i = (k : ℕ) → k < entries F → (rowEnd F k ≢ i) × (columnEnd F k ≢ i)
 
 -- "no entry, c = 0"
 pub effect-means : (F : Field) (i : ℕ) → length (F .rows) ≡ entries F → (hasNoEffect F i ≡ true) ↔ (NoEntry F i × (eq (linearOf F i) zero64 ≡ true))

@@ -1,6 +1,7 @@
 -- The variables of no effect (document 01: "No-effect variables (no entry, c = 0)"). Assumes nothing.
 use Prim.Native.Nat.{ℕ, _<_}
 use mathlib.Core.Path.{_≡_}
+use mathlib.Core.Logic.{_≢_}
 use mathlib.Core.Bool.{Bool, cond, not, _&&_}
 use mathlib.Core.List.{List}
 use lib.Dec.{eqb}
@@ -8,7 +9,7 @@ use lib.ListN.{length, getD, drop}
 use lib.Ieee.{Float, nan, eq}
 use Rattle.weights.specs.Worth.{zero64}
 use Rattle.scratch.specs.All.{allBelow}
-use Rattle.field.specs.Field.{Field, variables, linearOf}
+use Rattle.field.specs.Field.{Field, variables, entries, linearOf, rowEnd, columnEnd}
 use Rattle.no_effect.specs.Putting.{chosen, Putting, putAll}
 
 -- neither end of entry k is i
@@ -22,6 +23,10 @@ untouched rows cols i = allBelow (apartAt rows cols i) (length rows)
 -- "no entry, c = 0"; the sign of a zero does not matter
 unfoldable pub hasNoEffect : Field → ℕ → Bool
 hasNoEffect F i = untouched (F .rows) (F .cols) i && eq (linearOf F i) zero64
+
+-- "no entry" in words: neither end of any entry is i
+abbrev pub NoEntry : Field → ℕ → Type 0
+NoEntry F i = (k : ℕ) → k < entries F → (rowEnd F k ≢ i) × (columnEnd F k ≢ i)
 
 -- all of them, rising
 unfoldable pub noEffect : Field → List ℕ

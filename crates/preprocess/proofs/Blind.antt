@@ -26,8 +26,8 @@ use Rattle.rows.proofs.Upto.{getD-upTo, upTo-same}
 use Rattle.places.specs.Places.{places, otherEnd}
 use Rattle.places.proofs.Places.{places-touch, other-column, other-row}
 use Rattle.run.specs.Run.{Run, noRow, rowFor, isFree, force, settle, judged, scanAt, scanTo, moved, moveRow, serveAt, serveAll, serve, work, propagate, closureRun, closure}
-use Rattle.no_effect.specs.Effect.{hasNoEffect}
-use Rattle.no_effect.proofs.Listed.{NoEntry, effect-means}
+use Rattle.no_effect.specs.Effect.{hasNoEffect, NoEntry}
+use Rattle.no_effect.proofs.Listed.{effect-means}
 
 -- ---- a row of no effect is open
 
@@ -49,7 +49,7 @@ zero-open (fin s m d) e =
 
 module _ {F : Field} (S : Shaped F) where
   -- an end of an entry has an effect
-  ends-touch : (k : ℕ) → k < entries F → (hasNoEffect F (rowEnd F k) ≡ false) × (hasNoEffect F (columnEnd F k) ≡ false)
+  pub ends-touch : (k : ℕ) → k < entries F → (hasNoEffect F (rowEnd F k) ≡ false) × (hasNoEffect F (columnEnd F k) ≡ false)
   ends-touch k h = (by (rowEnd F k) (hasNoEffect F (rowEnd F k)) refl (λ n. n k h .0 refl), by (columnEnd F k) (hasNoEffect F (columnEnd F k)) refl (λ n. n k h .1 refl))
     where
       by : (i : ℕ) (b : Bool) → hasNoEffect F i ≡ b → (NoEntry F i → ⊥) → hasNoEffect F i ≡ false

@@ -27,8 +27,8 @@ use Rattle.field.proofs.ValuesCall as values
 use Rattle.run.specs.Run.{closure}
 use Rattle.run.proofs.Theorems.{closure-extends, closure-valid, closure-stands}
 use Rattle.components.proofs.Bridge.{parts-extend, parts-safe}
-use Rattle.no_effect.specs.Effect.{hasNoEffect}
-use Rattle.no_effect.proofs.Listed.{NoEntry, effect-means}
+use Rattle.no_effect.specs.Effect.{hasNoEffect, NoEntry}
+use Rattle.no_effect.proofs.Listed.{effect-means}
 use Rattle.preprocess.specs.Working.{withNoEffect, preprocess}
 use Rattle.preprocess.specs.Call.{preprocessCall}
 use Rattle.preprocess.proofs.Idle.{idle-start, idle-extends, idle-zero, idle-stands, closure-stays}
@@ -52,7 +52,7 @@ module _ (F : Field) (shaped : Shaped F) {s : List ℕ} (start : StartFor (varia
   preprocess-closes : Extends (closure F s) (preprocess F s)
   preprocess-closes = extends-trans (closure-stays shaped start) from-closed
 
-  preprocess-idle : (i : ℕ) → i < variables F → hasNoEffect F i ≡ true → getD s i 0 ≡ 2 → getD (preprocess F s) i 0 ≡ 0
+  pub preprocess-idle : (i : ℕ) → i < variables F → hasNoEffect F i ≡ true → getD s i 0 ≡ 2 → getD (preprocess F s) i 0 ≡ 0
   preprocess-idle i h e free =
       let z = idle-zero F s i h e free in
       ⊎-elim (λ two. absurd (omega arith)) (λ k. k ∙ z) (from-idle .kept i)

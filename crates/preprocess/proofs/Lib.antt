@@ -3,3 +3,5 @@ pub mod Blind
 pub mod Idle
 pub mod Laws
 pub mod Demands
+pub mod Unseen
+pub mod Sizes
