@@ -1,3 +1,5 @@
 pub mod Worked
+pub mod Held
+pub mod AtZero
 pub mod OneResult
 pub mod Swallowed

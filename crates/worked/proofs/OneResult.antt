@@ -15,10 +15,7 @@ use Rattle.pairs.specs.Call as pairs
 use Rattle.probe.specs.Call as probe
 use Rattle.probes.specs.Call as probes
 use Rattle.propagation.specs.Call as propagation
-
--- what a promise permits is one result
-abbrev pub One : {A : Type 0} → A → Type 0
-One {A} promised = (r r′ : A) → r ≡ promised → r′ ≡ promised → r ≡ r′
+use Rattle.worked.specs.One.{One}
 
 -- a promise that is one equation
 pub one : {A : Type 0} {promised : A} → One promised

@@ -1,28 +1,14 @@
--- The swallowed rate over whole numbers: "a best completion is 1,0,1,0", and 0,0,1,1, which the closure gives, is none. It is counted in quarters,
--- of which each of its weights is a whole number. Assumes nothing.
+-- The swallowed rate over whole numbers: "a best completion is 1,0,1,0", and 0,0,1,1, which the closure gives, is none. Assumes nothing.
 use Prim.Native.Nat.{ℕ, zero, suc, _<_}
 use mathlib.Core.Path.{_≡_, refl}
 use mathlib.Core.Logic.{_⊎_, inl, inr, ⊎-elim}
-use mathlib.Core.List.{List, [], _∷_}
+use mathlib.Core.List.{List}
 use native.Mathlib.Omega.{arith}
 use lib.ListN.{getD}
 use Rattle.whole.specs.Whole.{_⊑_, sum}
 use Rattle.weights.specs.Counts.{plus, minus}
-use Rattle.meaning.specs.Field.{Field, twice-f, Best}
-use Rattle.field.specs.Reading.{wholeOf}
-use Rattle.worked.specs.Fields.{swallowing}
-
-abbrev rates : Field
-rates = wholeOf 1072 swallowing
-
-abbrev free : List ℕ
-free = 2 ∷ 2 ∷ 2 ∷ 2 ∷ []
-
-abbrev best : List ℕ
-best = 1 ∷ 0 ∷ 1 ∷ 0 ∷ []
-
-abbrev forced : List ℕ
-forced = 0 ∷ 0 ∷ 1 ∷ 1 ∷ []
+use Rattle.meaning.specs.Field.{twice-f, Best}
+use Rattle.worked.specs.Swallowed.{rates, free, best, forced}
 
 zero-or-one : (a : ℕ) → a < 2 → (a ≡ 0) ⊎ (a ≡ 1)
 zero-or-one zero h = inl refl

@@ -25,7 +25,7 @@ use Rattle.pairs.specs.declared.Paired.the-variants as paired
 use Rattle.pairs.specs.Call as pairs
 use Rattle.anchors.specs.Call as anchors
 use Rattle.propagation.specs.Call as propagation
-use Rattle.worked.specs.Fields.{nought, half, minus-half, minus-one, two, minus-two, four, minus-five, six, alone, joined, apart, opposed, swallowing, unbalanced, with-zero, parted, two-pairs, linked, at-tolerance}
+use Rattle.worked.specs.Fields.{nought, half, minus-half, minus-one, two, minus-two, four, minus-five, six, alone, joined, apart, opposed, swallowing, unbalanced, two-parts, overflowing, on-diagonal, with-zero, parted, popped, one-term, two-pairs, linked, at-tolerance}
 
 -- a call, the field with its grade, the start values, what else it is given, and what it answers
 pub data Case : Type 0 where
@@ -99,6 +99,10 @@ cases =
     ∷ completes (joined (minus-half ∷ minus-half ∷ []) two) Exact (2 ∷ 2 ∷ []) (1 ∷ 0 ∷ [])
     -- a given variable parts two others, and its value counts in their linear parts
     ∷ completes parted Exact (2 ∷ 1 ∷ 2 ∷ []) (1 ∷ 1 ∷ 1 ∷ [])
+    -- "Bit order is pop order": 1 and 2 are alike, and the last in, 2, has the lower bit
+    ∷ completes popped Exact (2 ∷ 2 ∷ 2 ∷ []) (0 ∷ 0 ∷ 1 ∷ [])
+    -- what a given variable adds is summed into one linear term first, where large weights swallow small ones
+    ∷ completes one-term Inexact (2 ∷ 2 ∷ 1 ∷ []) (0 ∷ 0 ∷ 1 ∷ [])
     -- both probes of case i, and what a start value leaves out
     ∷ probes-one (joined (minus-one ∷ minus-one ∷ []) four) Exact (2 ∷ 2 ∷ []) 0 0 (0 ∷ 1 ∷ [])
     ∷ probes-one (joined (minus-one ∷ minus-one ∷ []) four) Exact (2 ∷ 2 ∷ []) 0 1 (1 ∷ 0 ∷ [])
@@ -114,6 +118,10 @@ cases =
     ∷ anchors-at (joined (minus-half ∷ minus-half ∷ []) two) Exact (2 ∷ 0 ∷ []) 2 []
     ∷ anchors-at with-zero Exact (2 ∷ 2 ∷ 2 ∷ []) 0 (0 ∷ 2 ∷ [])
     ∷ anchors-at unbalanced Inexact (2 ∷ 2 ∷ 2 ∷ []) 0 []
+    -- a sum of two parts that comes to 0, an overflow of 4c, and "2q on the diagonal"
+    ∷ anchors-at two-parts Inexact (2 ∷ 2 ∷ 2 ∷ []) 0 (0 ∷ [])
+    ∷ anchors-at overflowing Inexact (2 ∷ 2 ∷ []) 0 []
+    ∷ anchors-at on-diagonal Inexact (2 ∷ []) 1 (0 ∷ [])
     ∷ []
 
 -- ---- what each call leaves, and what the list says

@@ -78,6 +78,28 @@ unbalanced =
     (1 ∷ 2 ∷ [])
     (one ∷ fin true 1 (pos 62) ∷ [])
 
+-- c=(2^58,0,2^58), (1,0) -1, (0,1) 1, (0,2) -2^60: at variable 0 the sum is 2^60 - 1 + 1 - 2^60, which takes two parts and comes to 0
+abbrev pub two-parts : Field
+two-parts =
+    fieldOf
+    (fin false 1 (pos 58) ∷ nought ∷ fin false 1 (pos 58) ∷ [])
+    (1 ∷ 0 ∷ 0 ∷ [])
+    (0 ∷ 1 ∷ 2 ∷ [])
+    (minus-one ∷ one ∷ fin true 1 (pos 60) ∷ [])
+
+-- c=(2^1022,2^1022), (1,0) -2^1023, (0,1) -2^1023: the sum is 0, and 4c overflows
+abbrev pub overflowing : Field
+overflowing =
+    fieldOf
+    (fin false 1 (pos 1022) ∷ fin false 1 (pos 1022) ∷ [])
+    (1 ∷ 0 ∷ [])
+    (0 ∷ 1 ∷ [])
+    (fin true 1 (pos 1023) ∷ fin true 1 (pos 1023) ∷ [])
+
+-- c=(-0.5), (0,0) 1: 4c + 2q is 0, and 4c + q is not
+abbrev pub on-diagonal : Field
+on-diagonal = fieldOf (minus-half ∷ []) (0 ∷ []) (0 ∷ []) (one ∷ [])
+
 -- c=(-0.5,-0.5,0), (0,1) 2, and a stored zero at (1,2)
 abbrev pub with-zero : Field
 with-zero = fieldOf (minus-half ∷ minus-half ∷ nought ∷ []) (0 ∷ 1 ∷ []) (1 ∷ 2 ∷ []) (two ∷ nought ∷ [])
@@ -85,6 +107,19 @@ with-zero = fieldOf (minus-half ∷ minus-half ∷ nought ∷ []) (0 ∷ 1 ∷ [
 -- c=(-5,-1,0), (0,1) 4, (2,1) -2: where variable 1 is given, it parts the two others
 abbrev pub parted : Field
 parted = fieldOf (minus-five ∷ minus-one ∷ nought ∷ []) (0 ∷ 2 ∷ []) (1 ∷ 1 ∷ []) (four ∷ minus-two ∷ [])
+
+-- c=(1,-0.5,-0.5), (0,1) 0, (0,2) 0, (1,2) 2: from variable 0 the stack holds 1 and then 2
+abbrev pub popped : Field
+popped = fieldOf (one ∷ minus-half ∷ minus-half ∷ []) (0 ∷ 0 ∷ 1 ∷ []) (1 ∷ 2 ∷ 2 ∷ []) (nought ∷ nought ∷ two ∷ [])
+
+-- c=(0.5,-1,-2), (2,0) 2, (0,1) -1, (2,1) 2^61, (1,2) -2^61: where variable 2 is 1, the linear part of 1 is -1 + 2^60 - 2^60, which rounds to 0
+abbrev pub one-term : Field
+one-term =
+    fieldOf
+    (half ∷ minus-one ∷ minus-two ∷ [])
+    (2 ∷ 0 ∷ 2 ∷ 1 ∷ [])
+    (0 ∷ 1 ∷ 1 ∷ 2 ∷ [])
+    (two ∷ minus-one ∷ fin false 1 (pos 61) ∷ fin true 1 (pos 61) ∷ [])
 
 -- c=(-1,-1,-1,-1), (0,1) 4, (2,3) 8: two pairs, the second with the greater mass
 abbrev pub two-pairs : Field
@@ -97,7 +132,7 @@ linked =
     (nought ∷ fin true 3 (pos 0) ∷ replicate 9 minus-one)
     (0 ∷ 0 ∷ 1 ∷ 2 ∷ replicate 7 3)
     (1 ∷ 2 ∷ 3 ∷ 3 ∷ 4 ∷ 5 ∷ 6 ∷ 7 ∷ 8 ∷ 9 ∷ 10 ∷ [])
-    (four ∷ fin true 8 (pos 0) ∷ replicate 9 four)
+    (four ∷ fin true 1 (pos 3) ∷ replicate 9 four)
 
 -- c=(1e-10,0), no entries
 abbrev pub at-tolerance : Field

@@ -1,2 +1,5 @@
 pub mod Fields
 pub mod Cases
+pub mod Held
+pub mod One
+pub mod Swallowed

@@ -1,0 +1,33 @@
+-- Which cases a caller can lend: every weight is an f64, every end and every word of a constraint a u16, every start value a byte. Assumes nothing.
+use Prim.Native.Nat.{ℕ}
+use mathlib.Core.Bool.{Bool, true, _&&_}
+use mathlib.Core.List.{List, [], _∷_}
+use lib.Dec.{ltb}
+use lib.Ieee.{binary64, fits}
+use Rattle.field.specs.Field.{Field}
+use Rattle.worked.specs.Cases.{Case, closes, completes, preprocesses, rounds, probes-one, probes-all, probes-some, compares, anchors-at, propagates}
+
+-- every element passes
+unfoldable pub every : {A : Type 0} → (A → Bool) → List A → Bool
+every p [] = true
+every p (x ∷ l) = p x && every p l
+
+abbrev pub heldField : Field → Bool
+heldField F =
+    every (fits binary64) (F .linear) && every (fits binary64) (F .quad) && every (λ i. ltb i 65536) (F .rows) && every (λ i. ltb i 65536) (F .cols)
+
+abbrev pub heldBytes : List ℕ → Bool
+heldBytes s = every (λ v. ltb v 256) s
+
+-- what a case gives its call
+unfoldable pub held : Case → Bool
+held (closes F g s t) = heldField F && heldBytes s
+held (completes F g s t) = heldField F && heldBytes s
+held (preprocesses F g s t) = heldField F && heldBytes s
+held (rounds F g s t) = heldField F && heldBytes s
+held (probes-one F g s i v t) = heldField F && heldBytes s && ltb i 65536 && ltb v 256
+held (probes-all F g s t k) = heldField F && heldBytes s
+held (probes-some F g s limit t k) = heldField F && heldBytes s
+held (compares F g s k items examined) = heldField F && heldBytes s
+held (anchors-at F g s least l) = heldField F && heldBytes s
+held (propagates s k r t) = heldBytes s && every (λ w. ltb w 65536) k

@@ -1,0 +1,22 @@
+-- The swallowed rate over whole numbers, counted in quarters, of which each of its weights is a whole number. Assumes nothing.
+use Prim.Native.Nat.{ℕ}
+use mathlib.Core.List.{List, [], _∷_}
+use Rattle.meaning.specs.Field.{Field}
+use Rattle.field.specs.Reading.{wholeOf}
+use Rattle.worked.specs.Fields.{swallowing}
+
+-- the field in quarters
+abbrev pub rates : Field
+rates = wholeOf 1072 swallowing
+
+-- nothing is given
+abbrev pub free : List ℕ
+free = 2 ∷ 2 ∷ 2 ∷ 2 ∷ []
+
+-- "a best completion is 1,0,1,0"
+abbrev pub best : List ℕ
+best = 1 ∷ 0 ∷ 1 ∷ 0 ∷ []
+
+-- "The Rust forces 0,0,1,1"
+abbrev pub forced : List ℕ
+forced = 0 ∷ 0 ∷ 1 ∷ 1 ∷ []
