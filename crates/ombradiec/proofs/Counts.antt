@@ -34,6 +34,7 @@ use Rattle.pairs.specs.Listing.{examined, freePairs, allowed, found}
 use Rattle.pairs.specs.Call as pairing
 use Rattle.pairs.proofs.ListLaws.{few-found}
 use Rattle.packing.specs.Layout.{countOf, pairedCount, pairsExamined}
+use Rattle.ombradiec.specs.Reading.{Few}
 
 -- ---- no_effect: at most n
 
@@ -108,11 +109,6 @@ examined-few limit s = omega (arith, length-take (allowed limit) (freePairs s))
 found-few : (F : Field) (s : List ℕ) (limit : ℕ) → length (found F s limit) ≤ 500000
 unfolding found
 found-few F s limit = omega (arith, few-found F s (examined limit s), examined-few limit s)
-
--- both counts of an answer have room
-pub record Few (a : Paired) : Type 0 where
-  pub count : pairedCount a < 0x1000_0000
-  pub pairs : pairsExamined a < 0x10_0000
 
 module _ (F : Field) (s : List ℕ) (limit : ℕ) (l : List ℕ) (f : List Float) (u : List ℕ) where
   pub pairs-fit : Few (pairing.pairsCall F s limit l f u .answer)

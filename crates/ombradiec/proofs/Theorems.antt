@@ -3,9 +3,7 @@ use Prim.Native.Nat.{ℕ}
 use mathlib.Core.Path.{_≡_, refl, sym, ap, _∙_}
 use mathlib.Core.List.{List}
 use lib.Ieee.{Float}
-use Rattle.field.specs.declared.Answer.{Answer}
-use Rattle.field.specs.declared.Counted.{Counted}
-use Rattle.field.specs.Answers.{checkedNumber, answerNumber, countedNumber}
+use Rattle.field.specs.Answers.{checkedNumber}
 use Rattle.field.specs.Field.{Field}
 use Rattle.field.specs.Call as values
 use Rattle.closure.specs.Call as closing
@@ -19,8 +17,9 @@ use Rattle.pairs.specs.Call as pairing
 use Rattle.probe.specs.Call as probing
 use Rattle.probes.specs.Call as searching
 use Rattle.propagation.specs.Call as propagating
-use Rattle.packing.specs.Layout.{Reads, packedChecked, packedAnswer, packedCounted, packedPaired, answerGrade, countedGrade, countOf, pairedGrade, pairedCount, pairsExamined}
+use Rattle.packing.specs.Layout.{Reads, packedChecked, packedAnswer, packedCounted, packedPaired, pairedGrade, pairedCount, pairsExamined}
 use Rattle.ombradiec.specs.Exported.{Exported}
+use Rattle.ombradiec.specs.Reading.{AnswerRead, CountRead}
 use Rattle.packing.proofs.Reading.{checked-reads, answer-reads, counted-reads, paired-reads}
 use Rattle.ombradiec.proofs.Counts.{no-effect-fits, shift-fits, anchors-fit, pairs-fit}
 use Rattle.ombradiec.proofs.Probed.{probe-fits, probe-limited-fits}
@@ -47,12 +46,6 @@ module _ {A L : Type 0} {packed : A → ℕ} (answerIn : L → A) {left left′ 
   one-leaving e e′ = leaves-is answerIn back e ∙ sym (leaves-is answerIn back′ e′)
 
 -- ---- each call: what is read from its number is the answer of its model
-
-abbrev pub AnswerRead : Answer → ℕ → Type 0
-AnswerRead a r = Reads r (answerNumber a) (answerGrade a) 0 0
-
-abbrev pub CountRead : Counted → ℕ → Type 0
-CountRead a r = Reads r (countedNumber a) (countedGrade a) (countOf a) 0
 
 module _ (F : Field) (s : List ℕ) (f : List Float) (u : List ℕ) {s′ : List ℕ} {f′ : List Float} {u′ : List ℕ} {r : ℕ} where
   pub closure-reads : Exported packedAnswer (λ a. values.left a s′ f′ u′) r (closing.closureCall F s f u) → AnswerRead (closing.closureCall F s f u .answer) r

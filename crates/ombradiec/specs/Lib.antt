@@ -1,2 +1,3 @@
--- What an exported call promises. Assumes nothing.
+-- What an exported call promises, and what is read from its number. Assumes nothing.
 pub mod Exported
+pub mod Reading
