@@ -6,11 +6,11 @@ use native.Mathlib.Omega.{arith}
 use lib.ListN.{getD}
 use lib.Dec.{eqb, ltb}
 use lib.Ieee.{lt}
-use Rattle.whole.specs.Whole.{Whole, _⊕_, sum, min0, max0, Under}
+use Rattle.whole.specs.Whole.{Whole, sum, min0, max0, Under}
 use Rattle.whole.proofs.Sums.{only-under}
 use Rattle.weights.specs.Worth.{Worth, zero64}
 use Rattle.weights.proofs.Worth.{half-worth, as-worth, above-zero, below-zero}
-use Rattle.meaning.specs.Gradient.{View, view, part, low, high, verdict}
+use Rattle.meaning.specs.Gradient.{View, view, low, high, verdict}
 use Rattle.meaning.proofs.Views.{reach, min0-under, max0-under, share-under}
 use Rattle.field.specs.Field.{Field, variables, entries, rowEnd, columnEnd, Shaped, StartFor}
 use Rattle.field.specs.Grade.{ExactIn}
@@ -19,11 +19,8 @@ use Rattle.rows.specs.Row.{judgeOf, valueOf}
 use Rattle.rows.specs.Model.{coeffOf, atEntry, rowTo, rowOf}
 use Rattle.field.specs.Reading.{wholeOf}
 use Rattle.rows.specs.Counted.{RowWorth}
+pub use Rattle.rows.specs.Counted.{boundTo}
 use Rattle.rows.proofs.Terms.{as-row, end-worth, value-worth}
-
--- row i's bound after k entries, in whole numbers, as a view sees them
-abbrev pub boundTo : (Whole → Whole) → ℕ → Field → View → ℕ → ℕ → Whole
-boundTo free u F w i k = wholeOf u F .linear i ⊕ sum k (part free (wholeOf u F) w i)
 
 module _ {u : ℕ} {F : Field} (exact : ExactIn u F) where
   pub coeff-worth : (k : ℕ) → k < entries F → Worth u (coeffOf F k) (wholeOf u F .weight k)
