@@ -1,0 +1,4 @@
+pub mod Call
+pub mod Usual
+pub mod Answers
+pub mod Values
