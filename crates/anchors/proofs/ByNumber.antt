@@ -87,7 +87,7 @@ module _ (F : Field) (s : List ℕ) (least : ℕ) (list : List ℕ) (f : List Fl
   admitted : Admitted F s (length f) (length u)
   admitted = done-when F s least list f u .0 (ap (λ (x : Left). x .answer) (done-leaves F s least list f u g k e)) .0
 
-  pub anchors-by-number : AnchorsBy (TurnsByNumber F s least) (Leads F) (components F false (opened true s)) (take k (anchorsCall F s least list f u .list))
+  pub anchors-by-number : AnchorsBy (TurnsByNumber F s least) (Leads F) (components F false (opened true s)) (take k (anchorsCall F s least list f u .lent .list))
   anchors-by-number =
       let a = admitted in
       let long : length (opened true s) ≡ variables F = opened-long true s ∙ a .start .long in

@@ -1,6 +1,6 @@
 -- What the call `anchors` answers and leaves, as one function of what it is given, for every input. Assumes nothing.
 use Prim.Native.Nat.{ℕ, _≤_, _+_, _*_}
-use mathlib.Core.Bool.{Bool, true, false}
+use mathlib.Core.Bool.{Bool}
 use mathlib.Core.List.{List, [], _∷_, _++_}
 use lib.ListN.{length}
 use lib.Dec.{leb}
@@ -10,13 +10,13 @@ use Rattle.scratch.specs.Cleared.{cleared}
 use Rattle.scratch.specs.Over.{over}
 use Rattle.field.specs.declared.Counted.{Counted}
 use Rattle.field.specs.declared.Counted.the-variants.{Counts, Refuses}
-use Rattle.field.specs.declared.Checked.{Checked}
-use Rattle.field.specs.declared.Checked.the-variants.{Passed, Failed}
 use Rattle.field.specs.declared.Refusal.the-variants.{Start, Scratch, Room}
 use Rattle.field.specs.Field.{Field, variables, entries, Shaped, StartFor}
-use Rattle.field.specs.Table.{Test, test, tested}
+use Rattle.field.specs.Table.{Test, test}
 use Rattle.field.specs.Tests.{looseTests, startFits, floatsFit, wordsFit, Finite}
 use Rattle.field.specs.Grade.{gradeOf}
+use Rattle.calls.specs.Call as any
+use Rattle.calls.specs.Call.{called, stage, usual}
 use Rattle.anchors.specs.Model.{anchorsOf}
 
 -- 1, 2, 3, 5, 6 and 8
@@ -36,27 +36,34 @@ pub record Admitted (F : Field) (s : List ℕ) (floats words : ℕ) : Type 0 whe
   pub floats-room : 8 * variables F + 4 * entries F + 16 ≤ floats
   pub words-room : 16 * variables F + 8 * entries F + 16 ≤ words
 
--- the answer, and the three lent lists afterwards
-pub record Left : Type 0 where
-  pub answer : Counted
+-- whether the list has room for every anchor: "9 is given exactly if a full answer has more items than its list has room for"
+abbrev pub fits : Field → List ℕ → ℕ → List ℕ → Bool
+fits F s least list = leb (length (anchorsOf F s least)) (length list)
+
+-- the whole table: 1, 2, 3, 5, 6, 8 and 9
+abbrev pub anchorTable : Field → List ℕ → ℕ → List ℕ → ℕ → ℕ → List Test
+anchorTable F s least list floats words = anchorTests F s floats words ++ test Room (fits F s least list) ∷ []
+
+-- the three lent lists
+pub record Lent : Type 0 where
   pub list : List ℕ
   pub floats : List Float
   pub words : List ℕ
 
+abbrev pub lent : List ℕ → List Float → List ℕ → Lent
+lent l f u = record { list = l; floats = f; words = u }
+
+-- the answer, and the three lent lists afterwards
+abbrev pub Left : Type 0
+Left = any.Left Counted Lent
+
 abbrev pub left : Counted → List ℕ → List Float → List ℕ → Left
-left r l f u = record { answer = r; list = l; floats = f; words = u }
+left r l f u = any.left r (lent l f u)
 
--- "9 is given exactly if a full answer has more items than its list has room for ..; then each answer list is all zeros";
+-- tests 1, 2, 3, 5, 6 and 8, then room, then the anchors: "then each answer list is all zeros"; "After passing 8, scratch ends as all zeros";
 -- "elements past an answer list's last item are unchanged"
-unfoldable pub answered : Bool → Field → List ℕ → List ℕ → List Float → List ℕ → Left
-answered true F found list f u = left (Counts (gradeOf F) (length found)) (over found list) (cleared zero64 f) (cleared 0 u)
-answered false F found list f u = left (Refuses Room) (cleared 0 list) (cleared zero64 f) (cleared 0 u)
-
--- "1 to 8 change nothing lent"; "After passing 8, scratch ends as all zeros"
-unfoldable pub leaves : Checked → Field → List ℕ → ℕ → List ℕ → List Float → List ℕ → Left
-leaves Passed F s least list f u = answered (leb (length (anchorsOf F s least)) (length list)) F (anchorsOf F s least) list f u
-leaves (Failed r) F s least list f u = left (Refuses r) list f u
-
--- tests 1, 2, 3, 5, 6 and 8, then the anchors
 unfoldable pub anchorsCall : Field → List ℕ → ℕ → List ℕ → List Float → List ℕ → Left
-anchorsCall F s least list f u = leaves (tested (anchorTests F s (length f) (length u))) F s least list f u
+anchorsCall F s least list f u =
+    called
+    (usual Refuses (lent list f u) (anchorTests F s (length f) (length u)) (stage Room (fits F s least list) (lent (cleared 0 list) (cleared zero64 f) (cleared 0 u)) ∷ [])
+    (left (Counts (gradeOf F) (length (anchorsOf F s least))) (over (anchorsOf F s least) list) (cleared zero64 f) (cleared 0 u)))

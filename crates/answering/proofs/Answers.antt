@@ -7,6 +7,8 @@ use native.Mathlib.Omega.{arith}
 use lib.ListN.{length, take}
 use lib.Seq.{length-take-le}
 use lib.Ieee.{Float}
+use Rattle.weights.specs.Worth.{zero64}
+use Rattle.scratch.specs.Cleared.{cleared}
 use Rattle.field.specs.declared.Answer.{Answer}
 use Rattle.field.specs.declared.Answer.the-variants.{Done, Refused}
 use Rattle.field.specs.declared.Checked.{Checked}
@@ -18,9 +20,11 @@ use Rattle.field.specs.Answers.{numberOf}
 use Rattle.field.specs.Field.{Field, fieldOf, variables, entries}
 use Rattle.field.specs.Table.{Test, test, tested}
 use Rattle.field.specs.Tests.{floatsFit, wordsFit, standardTests, readyTests}
-use Rattle.field.specs.Call.{Left, left, leaves, valuesCall}
+use Rattle.field.specs.Grade.{gradeOf}
 use Rattle.field.proofs.Means.{floats-mean, words-mean}
 use Rattle.field.proofs.Table.{test-ok, none-left, group-no, group-ok}
+use Rattle.calls.specs.Values.{Left, left}
+use Rattle.calls.proofs.Values.{refused-call, done-call}
 use Rattle.run.specs.Run.{closure}
 use Rattle.closure.specs.Call.{closureCall}
 use Rattle.records.specs.Told.{Told, parsed}
@@ -68,28 +72,37 @@ scratch-fits F s {f} {u} floats words = go (tested (standardTests F s)) refl
 
 module _ (f : List Float) (u : List ℕ) {F : Field} {s v v′ : List ℕ} {f′ : List Float} {u′ : List ℕ} {k out : ℕ} {a : Answer}
     (fits : Fits F s k) (enough : Enough (length f) (length u) out) (same : v ≡ s) (call : left a v′ f′ u′ ≡ closureCall F v f u) where
-  decided : left a v′ f′ u′ ≡ leaves (tested (standardTests F s)) closure F s f u
-  unfolding valuesCall
-  decided =
+  decided : left a v′ f′ u′ ≡ closureCall F s f u
+  decided = call ∙ ap (λ (l : List ℕ). closureCall F l f u) same
+
+  ready : tested (readyTests F s (length f) (length u)) ≡ tested (standardTests F s)
+  ready =
       let floats : 8 * variables F + 4 * entries F + 16 ≤ length f = omega (arith, fits .few-variables, fits .few-entries, enough .floats) in
       let words : 16 * variables F + 8 * entries F + 16 ≤ length u = omega (arith, fits .few-variables, fits .few-entries, enough .words) in
-      call ∙ ap (λ (l : List ℕ). closureCall F l f u) same ∙ ap (λ (k : Checked). leaves k closure F s f u) (scratch-fits F s floats words)
+      scratch-fits F s floats words
+
+  -- what is left, where the tests pass and where one fails
+  done-left : tested (readyTests F s (length f) (length u)) ≡ Passed → left a v′ f′ u′ ≡ left (Done (gradeOf F)) (closure F s) (cleared zero64 f) (cleared 0 u)
+  done-left p = decided ∙ sym (done-call closure F s f u refl p refl refl refl refl refl refl)
+
+  refused-left : {r : Refusal} → tested (readyTests F s (length f) (length u)) ≡ Failed r → left a v′ f′ u′ ≡ left (Refused r) s f u
+  refused-left p = decided ∙ sym (refused-call closure F s f u refl p)
 
   pub done-text : {g : Grade} → a ≡ Done g → answerText g s v′ ≡ fieldText F s
-  unfolding fieldText checkedText leaves
-  done-text {g} e = by (tested (standardTests F s)) decided
+  unfolding fieldText checkedText
+  done-text {g} e = by (tested (standardTests F s)) ready
     where
-      by : (k : Checked) → left a v′ f′ u′ ≡ leaves k closure F s f u → answerText g s v′ ≡ checkedText k F s
-      by Passed q = cc (ap (λ (l : Left). l .answer) q, ap (λ (l : Left). l .values) q)
-      by (Failed r) q = let z : _≡_ {A = ℕ} 0 1 = cc (ap (λ (l : Left). l .answer) q) in absurd (omega arith)
+      by : (k : Checked) → tested (readyTests F s (length f) (length u)) ≡ k → answerText g s v′ ≡ checkedText k F s
+      by Passed p = cc (ap (λ (l : Left). l .answer) (done-left p), ap (λ (l : Left). l .lent .values) (done-left p))
+      by (Failed r) p = let z : _≡_ {A = ℕ} 0 1 = cc (ap (λ (l : Left). l .answer) (refused-left p)) in absurd (omega arith)
 
   pub refused-text : {r : Refusal} → a ≡ Refused r → refusedText (numberOf r) ≡ fieldText F s
-  unfolding fieldText checkedText leaves
-  refused-text {r} e = by (tested (standardTests F s)) decided
+  unfolding fieldText checkedText
+  refused-text {r} e = by (tested (standardTests F s)) ready
     where
-      by : (k : Checked) → left a v′ f′ u′ ≡ leaves k closure F s f u → refusedText (numberOf r) ≡ checkedText k F s
-      by Passed q = let z : _≡_ {A = ℕ} 0 1 = cc (ap (λ (l : Left). l .answer) q) in absurd (omega arith)
-      by (Failed t) q = let z : r ≡ t = cc (ap (λ (l : Left). l .answer) q) in ap (λ (x : Refusal). refusedText (numberOf x)) z
+      by : (k : Checked) → tested (readyTests F s (length f) (length u)) ≡ k → refusedText (numberOf r) ≡ checkedText k F s
+      by Passed p = let z : _≡_ {A = ℕ} 0 1 = cc (ap (λ (l : Left). l .answer) (done-left p)) in absurd (omega arith)
+      by (Failed t) p = let z : r ≡ t = cc (ap (λ (l : Left). l .answer) (refused-left p)) in ap (λ (x : Refusal). refusedText (numberOf x)) z
 
 -- ---- the input's text
 

@@ -1,5 +1,5 @@
 // The cases of a stream (docs/CASES.md): how they are read, their lists, the shift, and the calls that do not stand on the probes of many variables.
-pub mod calls;
 pub mod contents;
+pub mod making;
 pub mod reading;
 pub mod shifting;

@@ -19,8 +19,8 @@ use Rattle.field.specs.Table.{FirstToFail}
 use Rattle.field.specs.Tests.{readyTests, Ready}
 use Rattle.field.specs.Grade.{halves, gradeOf}
 use Rattle.field.specs.Reading.{wholeOf}
-use Rattle.field.specs.Call.{Left, left}
-use Rattle.field.proofs.ValuesCall as values
+use Rattle.calls.specs.Values.{Left, left}
+use Rattle.calls.proofs.Values as values
 use Rattle.run.specs.Run.{closure}
 use Rattle.run.proofs.Theorems as run
 use Rattle.closure.specs.Call.{closureCall}
@@ -47,20 +47,20 @@ module _ (F : Field) (s : List ℕ) (f : List Float) (u : List ℕ) where
     pub done-leaves : closureCall F s f u ≡ left (Done (gradeOf F)) (closure F s) (cleared zero64 f) (cleared 0 u)
     done-leaves = values.done-leaves _ F s f u g e
 
-    pub values-are : closureCall F s f u .values ≡ closure F s
+    pub values-are : closureCall F s f u .lent .values ≡ closure F s
     values-are = values.values-are _ F s f u g e
 
 module _ (F : Field) (s : List ℕ) (f : List Float) (u : List ℕ) (e : closureCall F s f u .answer ≡ Done Exact) where
   -- DEMAND 2. On an exact field the values are the gradient closure over whole numbers, no more and no fewer.
-  pub values-close : Closure (Forces (wholeOf halves F)) s (closureCall F s f u .values)
+  pub values-close : Closure (Forces (wholeOf halves F)) s (closureCall F s f u .lent .values)
   values-close = let x = values.exact-field _ F s f u e in rw (values-are F s f u Exact e) (run.closure-is-closure (x .0) (x .1 .0) (x .1 .1))
 
   -- DEMAND 3. Every best completion of the start values obeys every one of them.
-  pub best-obeys : {x : List ℕ} → Best (wholeOf halves F) s x → Extends (closureCall F s f u .values) x
+  pub best-obeys : {x : List ℕ} → Best (wholeOf halves F) s x → Extends (closureCall F s f u .lent .values) x
   best-obeys b = let x = values.exact-field _ F s f u e in rw (values-are F s f u Exact e) (run.closure-obeyed (x .0) (x .1 .0) (x .1 .1) b)
 
   -- Further start values that contradict none of them keep each.
   pub further-keep : (s′ : List ℕ) (f′ : List Float) (u′ : List ℕ) → closureCall F s′ f′ u′ .answer ≡ Done Exact
-      → Extends s s′ → Agrees s′ (closureCall F s f u .values) → Extends (closureCall F s f u .values) (closureCall F s′ f′ u′ .values)
+      → Extends s s′ → Agrees s′ (closureCall F s f u .lent .values) → Extends (closureCall F s f u .lent .values) (closureCall F s′ f′ u′ .lent .values)
   further-keep s′ f′ u′ e′ = let x = values.exact-field _ F s f u e in let y = values.exact-field _ F s′ f′ u′ e′ in
       rw (values-are F s f u Exact e, values-are F s′ f′ u′ Exact e′) (run.closure-keeps (x .0) (x .1 .0) (x .1 .1) (y .1 .1))

@@ -7,7 +7,7 @@ ghost use Rattle.scratch.specs.Lent.{before, after};
 ghost use Rattle.field.specs.Field.{lent, given};
 ghost use Rattle.field.specs.Tests.{Ready};
 ghost use Rattle.run.specs.Run as model;
-ghost use Rattle.field.specs.Call.{left};
+ghost use Rattle.calls.specs.Values.{left};
 ghost use Rattle.closure.specs.Call.{closureCall};
 
 // The places, the rows, and the run from them.

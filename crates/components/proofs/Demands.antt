@@ -21,8 +21,8 @@ use Rattle.field.specs.Table.{FirstToFail}
 use Rattle.field.specs.Tests.{readyTests, Ready}
 use Rattle.field.specs.Grade.{halves, gradeOf}
 use Rattle.field.specs.Reading.{wholeOf}
-use Rattle.field.specs.Call.{Left, left}
-use Rattle.field.proofs.ValuesCall as values
+use Rattle.calls.specs.Values.{Left, left}
+use Rattle.calls.proofs.Values as values
 use Rattle.parts.specs.Walk.{components}
 use Rattle.parts.specs.Part.{Open, Component}
 use Rattle.masks.specs.Masks.{objective, Won, First, HasBits}
@@ -54,28 +54,28 @@ module _ (F : Field) (s : List ℕ) (f : List Float) (u : List ℕ) where
     pub done-leaves : componentsCall F s f u ≡ left (Done (gradeOf F)) (smallParts F s) (cleared zero64 f) (cleared 0 u)
     done-leaves = values.done-leaves _ F s f u g e
 
-    pub values-are : componentsCall F s f u .values ≡ smallParts F s
+    pub values-are : componentsCall F s f u .lent .values ≡ smallParts F s
     values-are = values.values-are _ F s f u g e
 
     -- Whatever the grade, they extend the start values.
-    pub values-extend : Extends s (componentsCall F s f u .values)
+    pub values-extend : Extends s (componentsCall F s f u .lent .values)
     values-extend = let S = values.ready _ F s f u g e .sound in rw values-are (parts-extend (S .shaped) (S .start) .0)
 
     -- "Those of at most 10 are enumerated": a free variable of such a component has a value afterwards,
-    pub small-valued : {i : ℕ} → Open s i → {mine : List ℕ} → Component F true s i mine → length mine ≤ 10 → getD (componentsCall F s f u .values) i 0 < 2
+    pub small-valued : {i : ℕ} → Open s i → {mine : List ℕ} → Component F true s i mine → length mine ≤ 10 → getD (componentsCall F s f u .lent .values) i 0 < 2
     small-valued free C few = let S = values.ready _ F s f u g e .sound in rw values-are (small.small-valued (S .shaped) s (S .start .long) free C few)
 
     -- and one of a larger component is still free.
-    pub large-kept : {i : ℕ} → Open s i → {mine : List ℕ} → Component F true s i mine → 10 < length mine → getD (componentsCall F s f u .values) i 0 ≡ 2
+    pub large-kept : {i : ℕ} → Open s i → {mine : List ℕ} → Component F true s i mine → 10 < length mine → getD (componentsCall F s f u .lent .values) i 0 ≡ 2
     large-kept free C many = let S = values.ready _ F s f u g e .sound in rw values-are (small.large-kept (S .shaped) s (S .start .long) free C many)
 
     -- "of equal objectives the lowest mask wins": its bits, in pop order, are the values of a component of at most 10, whatever the sums are.
     pub lowest-first : (p : ℕ) → p < length (components F true s) → (let K = getD (components F true s) p [] in
-        length K ≤ 10 → (mask : ℕ) × (First (objective (termsOf F s K)) (2 ^ length K) mask × HasBits (componentsCall F s f u .values) K mask))
+        length K ≤ 10 → (mask : ℕ) × (First (objective (termsOf F s K)) (2 ^ length K) mask × HasBits (componentsCall F s f u .lent .values) K mask))
     lowest-first p h few = let S = values.ready _ F s f u g e .sound in rw values-are (small.lowest-first (S .shaped) s (S .start .long) p h few)
 
 -- DEMAND 3, for values that hold in one best completion. On an exact field some best completion of the start values agrees with all of them.
-pub some-best-agrees : (F : Field) (s : List ℕ) (f : List Float) (u : List ℕ) → componentsCall F s f u .answer ≡ Done Exact → Safe (wholeOf halves F) s (componentsCall F s f u .values)
+pub some-best-agrees : (F : Field) (s : List ℕ) (f : List Float) (u : List ℕ) → componentsCall F s f u .answer ≡ Done Exact → Safe (wholeOf halves F) s (componentsCall F s f u .lent .values)
 some-best-agrees F s f u e =
     let x = values.exact-field _ F s f u e in
     rw (values-are F s f u Exact e) (parts-safe (x .0) (x .1 .1) (omega arith) (x .1 .0))
@@ -83,7 +83,7 @@ some-best-agrees F s f u e =
 -- Of the masks of a component of at most 10 the values are those of the lowest that is best, whatever completion the values of a mask are put into.
 pub lowest-of-best : (F : Field) (s : List ℕ) (f : List Float) (u : List ℕ) → componentsCall F s f u .answer ≡ Done Exact
     → (p : ℕ) → p < length (components F true s) → (let K = getD (components F true s) p [] in length K ≤ 10
-    → (mask : ℕ) × (((x : List ℕ) → Completion s x → Won (λ m. twice-f (wholeOf halves F) (putTo x K m (length K))) (2 ^ length K) mask) × HasBits (componentsCall F s f u .values) K mask))
+    → (mask : ℕ) × (((x : List ℕ) → Completion s x → Won (λ m. twice-f (wholeOf halves F) (putTo x K m (length K))) (2 ^ length K) mask) × HasBits (componentsCall F s f u .lent .values) K mask))
 lowest-of-best F s f u e p h few =
     let x = values.exact-field _ F s f u e in
     rw (values-are F s f u Exact e) (small.lowest-of-best (x .0) s (x .1 .1 .long) p h few (omega arith) (x .1 .0) (x .1 .1))

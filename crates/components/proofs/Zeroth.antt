@@ -14,7 +14,7 @@ use Rattle.weights.specs.Worth.{zero64}
 use Rattle.field.specs.declared.Answer.the-variants.{Done}
 use Rattle.field.specs.declared.Grade.{Grade}
 use Rattle.field.specs.Field.{Field, entries}
-use Rattle.field.proofs.ValuesCall as values
+use Rattle.calls.proofs.Values as values
 use Rattle.rows.specs.Model.{coeffOf}
 use Rattle.parts.specs.Walk.{components}
 use Rattle.masks.specs.Masks.{Term, term, has, plus, sumAt, objective, Best, top, bestOf, lowest, HasBits}
@@ -116,7 +116,7 @@ zeroth-wins F s members h = by (2 ^ length members) (pow-pos (length members)) h
 -- A component of at most 10 of which every mask but 0 sums to NaN or plus infinity gets 0 everywhere.
 pub all-zero : (F : Field) (s : List ℕ) (f : List Float) (u : List ℕ) (g : Grade) → componentsCall F s f u .answer ≡ Done g
     → (p : ℕ) → p < length (components F true s) → (let K = getD (components F true s) p [] in length K ≤ 10
-    → ((m : ℕ) → 0 < m → m < 2 ^ length K → lt (objective (termsOf F s K) m) top ≡ false) → HasBits (componentsCall F s f u .values) K 0)
+    → ((m : ℕ) → 0 < m → m < 2 ^ length K → lt (objective (termsOf F s K) m) top ≡ false) → HasBits (componentsCall F s f u .lent .values) K 0)
 all-zero F s f u g e p h few none =
     let S = values.ready _ F s f u g e .sound in
     let K = getD (components F true s) p [] in

@@ -7,7 +7,7 @@ ghost use lib.ListN.{length};
 ghost use Rattle.scratch.specs.Lent.{before, after};
 ghost use Rattle.field.specs.Field.{lent, given, variables};
 ghost use Rattle.field.specs.Tests.{Ready};
-ghost use Rattle.field.specs.Call.{left};
+ghost use Rattle.calls.specs.Values.{left};
 ghost use Rattle.components.specs.Small.{smallParts};
 ghost use Rattle.components.specs.Stages.{Standing, Staged, stageAt, stageTo, Solved, Solvable};
 ghost use Rattle.components.specs.Call.{componentsCall};

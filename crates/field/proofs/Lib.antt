@@ -3,4 +3,3 @@ pub mod Table
 pub mod Means
 pub mod Exact
 pub mod Reading
-pub mod ValuesCall

@@ -4,4 +4,3 @@ pub mod Table
 pub mod Tests
 pub mod Grade
 pub mod Reading
-pub mod Call

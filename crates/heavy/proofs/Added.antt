@@ -81,7 +81,7 @@ module _ {F : Field} {s : List ℕ} (S : Sound F s) where
     words-room = omega (arith, length-replicate {A = ℕ} (16 * variables F + 8 * entries F + 16) 0);
   })
 
-  worked : preprocessCall F s floats words .values ≡ preprocess F s
+  worked : preprocessCall F s floats words .lent .values ≡ preprocess F s
   worked = preprocessing.values-are F s floats words (gradeOf F) called
 
   pub preprocess-extends : Extends s (preprocess F s)

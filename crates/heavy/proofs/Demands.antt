@@ -22,8 +22,8 @@ use Rattle.field.specs.Table.{FirstToFail}
 use Rattle.field.specs.Tests.{readyTests, Sound, Ready}
 use Rattle.field.specs.Grade.{halves, gradeOf}
 use Rattle.field.specs.Reading.{wholeOf}
-use Rattle.field.specs.Call.{Left, left}
-use Rattle.field.proofs.ValuesCall as values
+use Rattle.calls.specs.Values.{Left, left}
+use Rattle.calls.proofs.Values as values
 use Rattle.run.specs.Run.{closure}
 use Rattle.no_effect.specs.Effect.{NoEntry}
 use Rattle.preprocess.specs.Working.{preprocess}
@@ -87,35 +87,35 @@ module _ (F : Field) (s : List ℕ) (f : List Float) (u : List ℕ) where
     pub done-leaves : heavyCall F s f u ≡ left (Done (gradeOf F)) (heavy F s) (cleared zero64 f) (cleared 0 u)
     done-leaves = values.done-leaves _ F s f u g e
 
-    pub values-are : heavyCall F s f u .values ≡ heavy F s
+    pub values-are : heavyCall F s f u .lent .values ≡ heavy F s
     values-are = values.values-are _ F s f u g e
 
     pub sound : Sound F s
     sound = values.ready _ F s f u g e .sound
 
     -- The start values are kept, a 1 of a variable of no effect too ..
-    pub values-extend : Extends s (heavyCall F s f u .values)
+    pub values-extend : Extends s (heavyCall F s f u .lent .values)
     values-extend = rw values-are (heavy-extends sound)
 
     -- .. a free variable of no effect ends as 0 ..
-    pub idle-ends : (i : ℕ) → i < variables F → NoEntry F i → eq (linearOf F i) zero64 ≡ true → getD s i 0 ≡ 2 → getD (heavyCall F s f u .values) i 0 ≡ 0
+    pub idle-ends : (i : ℕ) → i < variables F → NoEntry F i → eq (linearOf F i) zero64 ≡ true → getD s i 0 ≡ 2 → getD (heavyCall F s f u .lent .values) i 0 ≡ 0
     idle-ends i h apart weightless free =
         let z = preprocess-idle sound i h apart weightless free in
         rw values-are (fixed (heavy-preprocess sound .kept i) (omega arith) ∙ z)
 
     -- .. every value of preprocess is among them, on any field ..
-    pub preprocess-among : Extends (preprocess F s) (heavyCall F s f u .values)
+    pub preprocess-among : Extends (preprocess F s) (heavyCall F s f u .lent .values)
     preprocess-among = rw values-are (heavy-preprocess sound)
 
     -- .. and so is every value of the closure.
-    pub closure-among : Extends (closure F s) (heavyCall F s f u .values)
+    pub closure-among : Extends (closure F s) (heavyCall F s f u .lent .values)
     closure-among = extends-trans (preprocess-closes sound) preprocess-among
 
     -- The stop leaves what n rounds leave, and a further round adds nothing.
-    pub rounds-end : (heavyCall F s f u .values ≡ allRounds F (variables F) s) × (round F (heavyCall F s f u .values) ≡ heavyCall F s f u .values)
+    pub rounds-end : (heavyCall F s f u .lent .values ≡ allRounds F (variables F) s) × (round F (heavyCall F s f u .lent .values) ≡ heavyCall F s f u .lent .values)
     rounds-end = rw values-are (heavy-all sound, heavy-closed sound)
 
 -- DEMAND 3. On an exact field some best completion of the start values agrees with all values.
 pub some-best-agrees : (F : Field) (s : List ℕ) (f : List Float) (u : List ℕ) → heavyCall F s f u .answer ≡ Done Exact
-    → Safe (wholeOf halves F) s (heavyCall F s f u .values)
+    → Safe (wholeOf halves F) s (heavyCall F s f u .lent .values)
 some-best-agrees F s f u e = rw (values-are F s f u Exact e) (heavy-stands (sound F s f u Exact e) (values.graded _ F s f u Exact e))

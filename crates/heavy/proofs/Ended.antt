@@ -82,25 +82,25 @@ module _ {F : Field} where
 -- ---- the call
 
 module _ (F : Field) (s : List ℕ) (f : List Float) (u : List ℕ) (g : Grade) (e : heavyCall F s f u .answer ≡ Done g) where
-  ended : Sound F (heavyCall F s f u .values)
+  ended : Sound F (heavyCall F s f u .lent .values)
   unfolding heavy
   ended = rw (values-are F s f u g e) (rounds-sound (variables F) (sound F s f u g e))
 
-  still : round F (heavyCall F s f u .values) ≡ heavyCall F s f u .values
+  still : round F (heavyCall F s f u .lent .values) ≡ heavyCall F s f u .lent .values
   still = rounds-end F s f u g e .1
 
   -- At the values that it leaves the closure adds none,
-  pub closure-adds-none : closure F (heavyCall F s f u .values) ≡ heavyCall F s f u .values
+  pub closure-adds-none : closure F (heavyCall F s f u .lent .values) ≡ heavyCall F s f u .lent .values
   closure-adds-none = closure-still ended still
 
   -- a variable that is still free is of a component of more than 10,
-  pub left-large : {i : ℕ} → Open (heavyCall F s f u .values) i → {mine : List ℕ} → Component F true (heavyCall F s f u .values) i mine → 10 < length mine
+  pub left-large : {i : ℕ} → Open (heavyCall F s f u .lent .values) i → {mine : List ℕ} → Component F true (heavyCall F s f u .lent .values) i mine → 10 < length mine
   left-large = large-left ended still
 
   -- and the full probe finds no value;
-  pub probe-adds-none : (j : ℕ) → j < variables F → getD (probeValues F (heavyCall F s f u .values)) j 0 < 2 → ⊥
+  pub probe-adds-none : (j : ℕ) → j < variables F → getD (probeValues F (heavyCall F s f u .lent .values)) j 0 < 2 → ⊥
   probe-adds-none = none-probed ended still
 
   -- and every value that it adds comes in some round, from preprocess or from the full probe.
-  pub value-comes : (i : ℕ) → getD s i 0 ≡ 2 → getD (heavyCall F s f u .values) i 0 ≢ 2 → Comes F s (variables F) i (getD (heavyCall F s f u .values) i 0)
+  pub value-comes : (i : ℕ) → getD s i 0 ≡ 2 → getD (heavyCall F s f u .lent .values) i 0 ≢ 2 → Comes F s (variables F) i (getD (heavyCall F s f u .lent .values) i 0)
   value-comes i free = rw (rounds-end F s f u g e .0) (comes-in (variables F) (sound F s f u g e) i free)

@@ -109,6 +109,6 @@ module _ {F : Field} where
 -- The other variables end the same, whether those of no effect are free, 0 or 1 at the start.
 pub idle-unseen : (F : Field) (s s′ : List ℕ) (f f′ : List Float) (u u′ : List ℕ) (g g′ : Grade)
     → heavyCall F s f u .answer ≡ Done g → heavyCall F s′ f′ u′ .answer ≡ Done g′
-    → SameElsewhere F s s′ → SameElsewhere F (heavyCall F s f u .values) (heavyCall F s′ f′ u′ .values)
+    → SameElsewhere F s s′ → SameElsewhere F (heavyCall F s f u .lent .values) (heavyCall F s′ f′ u′ .lent .values)
 idle-unseen F s s′ f f′ u u′ g g′ e e′ E =
     rw (values-are F s f u g e, values-are F s′ f′ u′ g′ e′) (heavy-blind (sound F s f u g e) (sound F s′ f′ u′ g′ e′) E)

@@ -12,7 +12,7 @@ ghost use lib.ListN.{length};
 ghost use Rattle.scratch.specs.Lent.{before, after};
 ghost use Rattle.field.specs.Field.{lent, given, variables};
 ghost use Rattle.field.specs.Tests.{Ready};
-ghost use Rattle.field.specs.Call.{left};
+ghost use Rattle.calls.specs.Values.{left};
 ghost use Rattle.heavy.specs.Rounds.{round as roundOf, heavy as heavyOf};
 ghost use Rattle.heavy.specs.Call.{heavyCall};
 

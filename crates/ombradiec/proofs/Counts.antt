@@ -1,21 +1,17 @@
 -- Every count that a call answers has room in its number. Assumes nothing.
 use Prim.Native.Nat.{ℕ, zero, suc, _≤_, _<_}
-use mathlib.Core.Path.{_≡_, refl, ap}
+use mathlib.Core.Path.{_≡_, ap}
 use mathlib.Core.Bool.{Bool, true, false, cond}
-use mathlib.Core.List.{List, _∷_}
+use mathlib.Core.List.{List, [], _∷_}
 use native.Mathlib.Omega.{arith}
-use lib.Dec.{leb}
 use lib.ListN.{length, length-append, length-take}
 use lib.Ieee.{Float}
-use Rattle.field.specs.declared.Checked.{Checked}
-use Rattle.field.specs.declared.Checked.the-variants.{Passed, Failed}
 use Rattle.field.specs.declared.Counted.{Counted}
-use Rattle.field.specs.declared.Refusal.{Refusal}
-use Rattle.field.specs.declared.Refusal.the-variants.{Room}
+use Rattle.field.specs.declared.Counted.the-variants.{Refuses}
 use Rattle.field.specs.Field.{Field, variables, entries}
-use Rattle.field.specs.Table.{tested}
 use Rattle.field.specs.Tests.{looseTests, readyTests}
 use Rattle.field.proofs.Means.{loose-passes}
+use Rattle.calls.proofs.Usual.{answer-has}
 use Rattle.no_effect.specs.Putting.{chosenFrom}
 use Rattle.no_effect.specs.Effect.{hasNoEffect, noEffect}
 use Rattle.no_effect.specs.Call as effectless
@@ -27,7 +23,6 @@ use Rattle.anchors.specs.Model.{newAt, anchorAt, anchorsTo, anchorsOf}
 use Rattle.anchors.specs.Call as anchoring
 use Rattle.anchors.proofs.Laws.{admitted-passes}
 use Rattle.anchors.proofs.Searching.{new-few}
-use Rattle.constraints.specs.Triple.{room}
 use Rattle.pairs.specs.declared.Paired.{Paired}
 use Rattle.pairs.specs.declared.Paired.the-variants.{Refused}
 use Rattle.pairs.specs.Listing.{examined, freePairs, allowed, found}
@@ -48,16 +43,10 @@ chosen-few p i (suc k) = go (p i) (chosen-few p (suc i) k)
     go false h = omega (arith, h)
 
 pub no-effect-fits : (F : Field) (l u : List ℕ) → countOf (effectless.noEffectCall F l u .answer) < 0x1000_0000
-unfolding effectless.noEffectCall effectless.leaves effectless.answered noEffect
-no-effect-fits F l u = go (tested (effectless.wordTests F (length u))) refl
-  where
-    put : (b : Bool) → variables F ≤ 4096 → countOf (effectless.answered b F l u .answer) < 0x1000_0000
-    put true few = omega (arith, few, chosen-few (hasNoEffect F) 0 (variables F))
-    put false few = omega arith
-
-    go : (x : Checked) → tested (effectless.wordTests F (length u)) ≡ x → countOf (effectless.leaves x F l u .answer) < 0x1000_0000
-    go Passed e = put (effectless.fits F l) (word-passes F (length u) .0 e .loose .shaped .few-variables)
-    go (Failed r) e = omega arith
+unfolding effectless.noEffectCall noEffect
+no-effect-fits F l u =
+    answer-has Refuses _ (effectless.wordTests F (length u)) _ _ (λ a. countOf a < 0x1000_0000) (λ r. omega arith) (λ e.
+    omega (arith, word-passes F (length u) .0 e .loose .shaped .few-variables, chosen-few (hasNoEffect F) 0 (variables F)))
 
 -- the answer of a call is the one in what it leaves
 pub no-effect-few : (F : Field) (l u : List ℕ) {a : Counted} {l′ u′ : List ℕ} → effectless.left a l′ u′ ≡ effectless.noEffectCall F l u → countOf a < 0x1000_0000
@@ -66,12 +55,9 @@ no-effect-few F l u e = omega (arith, no-effect-fits F l u, ap (λ (x : effectle
 -- ---- shift: at most m
 
 pub shift-fits : (F : Field) → countOf (shifting.shiftCall F .answer) < 0x1000_0000
-unfolding shifting.shiftCall shifting.leaves closed closedTo
-shift-fits F = go (tested (looseTests F)) refl
-  where
-    go : (x : Checked) → tested (looseTests F) ≡ x → countOf (shifting.leaves x F .answer) < 0x1000_0000
-    go Passed e = omega (arith, kept-few F (entries F), loose-passes F .0 e .shaped .few-entries)
-    go (Failed r) e = omega arith
+unfolding shifting.shiftCall closed closedTo
+shift-fits F =
+    answer-has Refuses F (looseTests F) [] _ (λ a. countOf a < 0x1000_0000) (λ r. omega arith) (λ e. omega (arith, kept-few F (entries F), loose-passes F .0 e .shaped .few-entries))
 
 pub shift-few : (F : Field) {a : Counted} {G : Field} → shifting.left a G ≡ shifting.shiftCall F → countOf a < 0x1000_0000
 shift-few F e = omega (arith, shift-fits F, ap (λ (x : shifting.Left). countOf (x .answer)) e)
@@ -87,16 +73,10 @@ anchors-within F s least (suc i) =
 
 module _ (F : Field) (s : List ℕ) (least : ℕ) (list : List ℕ) (f : List Float) (u : List ℕ) where
   pub anchors-fit : countOf (anchoring.anchorsCall F s least list f u .answer) < 0x1000_0000
-  unfolding anchoring.anchorsCall anchoring.leaves anchoring.answered anchorsOf
-  anchors-fit = go (tested (anchoring.anchorTests F s (length f) (length u))) refl
-    where
-      put : (b : Bool) → variables F ≤ 4096 → countOf (anchoring.answered b F (anchorsOf F s least) list f u .answer) < 0x1000_0000
-      put true few = omega (arith, few, anchors-within F s least (variables F))
-      put false few = omega arith
-
-      go : (x : Checked) → tested (anchoring.anchorTests F s (length f) (length u)) ≡ x → countOf (anchoring.leaves x F s least list f u .answer) < 0x1000_0000
-      go Passed e = put (leb (length (anchorsOf F s least)) (length list)) (admitted-passes F s (length f) (length u) .0 e .shaped .few-variables)
-      go (Failed r) e = omega arith
+  unfolding anchoring.anchorsCall anchorsOf
+  anchors-fit =
+      answer-has Refuses _ (anchoring.anchorTests F s (length f) (length u)) _ _ (λ a. countOf a < 0x1000_0000) (λ r. omega arith) (λ e.
+      omega (arith, admitted-passes F s (length f) (length u) .0 e .shaped .few-variables, anchors-within F s least (variables F)))
 
   pub anchors-few : {a : Counted} {l′ : List ℕ} {f′ : List Float} {u′ : List ℕ} → anchoring.left a l′ f′ u′ ≡ anchoring.anchorsCall F s least list f u → countOf a < 0x1000_0000
   anchors-few e = omega (arith, anchors-fit, ap (λ (x : anchoring.Left). countOf (x .answer)) e)
@@ -112,19 +92,10 @@ found-few F s limit = omega (arith, few-found F s (examined limit s), examined-f
 
 module _ (F : Field) (s : List ℕ) (limit : ℕ) (l : List ℕ) (f : List Float) (u : List ℕ) where
   pub pairs-fit : Few (pairing.pairsCall F s limit l f u .answer)
-  unfolding pairing.pairsCall pairing.leaves pairing.answered
-  pairs-fit = go (tested (readyTests F s (length f) (length u)))
-    where
-      either : (b : Bool) (x y : pairing.Left) → Few (x .answer) → Few (y .answer) → Few (cond b x y .answer)
-      either true x y p q = p
-      either false x y p q = q
-
-      refused : (r : Refusal) → Few (Refused r)
-      refused r = record { count = omega arith; pairs = omega arith }
-
-      go : (x : Checked) → Few (pairing.leaves x F s limit l f u .answer)
-      go Passed = either (leb (length (found F s limit)) (room l)) _ _ record { count = omega (arith, found-few F s limit); pairs = omega (arith, examined-few limit s) } (refused Room)
-      go (Failed r) = refused r
+  unfolding pairing.pairsCall
+  pairs-fit =
+      answer-has Refused _ (readyTests F s (length f) (length u)) _ _ Few (λ r. record { count = omega arith; pairs = omega arith }) (λ e.
+      record { count = omega (arith, found-few F s limit); pairs = omega (arith, examined-few limit s) })
 
   pub pairs-few : {a : Paired} {l′ : List ℕ} {f′ : List Float} {u′ : List ℕ} → pairing.left a l′ f′ u′ ≡ pairing.pairsCall F s limit l f u → Few a
   pairs-few e = record {

@@ -1,7 +1,6 @@
 -- What probes count has room in its number: at most n constraints of each of at most n candidates. Assumes nothing.
 use Prim.Native.Nat.{ℕ, zero, suc, _+_, _*_, _≤_, _<_}
-use mathlib.Core.Path.{_≡_, refl, ap}
-use mathlib.Core.Bool.{Bool, true, false}
+use mathlib.Core.Path.{_≡_, ap}
 use mathlib.Core.List.{List}
 use native.Mathlib.Nat.{suc-mul, mul-comm, mul-le-mul-right}
 use native.Mathlib.Omega.{arith}
@@ -10,19 +9,18 @@ use lib.Ieee.{Float}
 use Rattle.meaning.specs.Free.{freeTo}
 use Rattle.meaning.proofs.Free.{free-few}
 use Rattle.constraints.specs.Triple.{Triple}
-use Rattle.field.specs.declared.Checked.{Checked}
-use Rattle.field.specs.declared.Checked.the-variants.{Passed, Failed}
 use Rattle.field.specs.declared.Counted.{Counted}
+use Rattle.field.specs.declared.Counted.the-variants.{Refuses}
 use Rattle.field.specs.Field.{Field, variables}
-use Rattle.field.specs.Table.{tested}
 use Rattle.field.specs.Tests.{readyTests}
 use Rattle.field.proofs.Means.{ready-passes}
+use Rattle.calls.proofs.Usual.{answer-has}
 use Rattle.probe.specs.Found.{Finding, nothing, value, constraint}
 use Rattle.sorting.proofs.Numbers.{set-length}
 use Rattle.ranking.specs.Ranking.{ranks, ahead, massOf}
 use Rattle.ranking.proofs.Ordered.{ordered-length}
 use Rattle.finding.specs.Finds.{added, finding, constraintsTo, constraintsOf}
-use Rattle.probes.specs.Call.{allConstraints, Left, left, fits, answered, leaves, candidatesCall, probeCall, probeLimitedCall}
+use Rattle.probes.specs.Call.{allConstraints, Left, left, candidatesCall, probeCall, probeLimitedCall}
 use Rattle.packing.specs.Layout.{countOf}
 
 -- ---- the constraints of some candidates
@@ -59,17 +57,11 @@ ranks-few F s limit =
 
 module _ (F : Field) (s cands t k : List ℕ) (f : List Float) (u : List ℕ) (few : length cands ≤ variables F) where
   candidates-fit : countOf (candidatesCall F s cands t k f u .answer) < 0x1000_0000
-  unfolding candidatesCall leaves answered allConstraints
-  candidates-fit = go (tested (readyTests F s (length f) (length u))) refl
-    where
-      put : (b : Bool) → variables F ≤ 4096 → countOf (answered b F s cands t k f u .answer) < 0x1000_0000
-      put true small =
-          omega (arith, set-length (constraintsOf F s cands (length cands)), of-all F s cands (length cands), few-by-few (length cands) (variables F) few small)
-      put false small = omega arith
-
-      go : (x : Checked) → tested (readyTests F s (length f) (length u)) ≡ x → countOf (leaves x F s cands t k f u .answer) < 0x1000_0000
-      go Passed e = put (fits F s cands t k) (ready-passes F s (length f) (length u) .0 e .sound .shaped .few-variables)
-      go (Failed r) e = omega arith
+  unfolding candidatesCall allConstraints
+  candidates-fit =
+      answer-has Refuses _ (readyTests F s (length f) (length u)) _ _ (λ a. countOf a < 0x1000_0000) (λ r. omega arith) (λ e.
+      let small = ready-passes F s (length f) (length u) .0 e .sound .shaped .few-variables in
+      omega (arith, set-length (constraintsOf F s cands (length cands)), of-all F s cands (length cands), few-by-few (length cands) (variables F) few small))
 
 module _ (F : Field) (s t k : List ℕ) (f : List Float) (u : List ℕ) where
   pub probe-fits : countOf (probeCall F s t k f u .answer) < 0x1000_0000

@@ -5,7 +5,7 @@ use mathlib.Core.List.{List}
 use lib.Ieee.{Float}
 use Rattle.field.specs.Answers.{checkedNumber}
 use Rattle.field.specs.Field.{Field}
-use Rattle.field.specs.Call as values
+use Rattle.calls.specs.Values as values
 use Rattle.closure.specs.Call as closing
 use Rattle.components.specs.Call as components
 use Rattle.preprocess.specs.Call as preprocess

@@ -5,7 +5,7 @@ use packing::pack_counted;
 use packing::pack_paired;
 ghost use Rattle.scratch.specs.Lent.{before, after};
 ghost use Rattle.field.specs.Field.{given};
-ghost use Rattle.field.specs.Call.{left};
+ghost use Rattle.calls.specs.Values.{left};
 ghost use Rattle.closure.specs.Call as closing;
 ghost use Rattle.components.specs.Call as components;
 ghost use Rattle.preprocess.specs.Call as preprocess;

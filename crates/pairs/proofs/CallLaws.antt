@@ -25,9 +25,10 @@ use Rattle.pairs.specs.declared.Paired.the-variants.{Done, Refused}
 use Rattle.pairs.specs.declared.listing.Tally.{Tally}
 use Rattle.neighbours.specs.Parts.{Parted}
 use Rattle.neighbours.specs.Rows.{endsAt, keysAt, weightsAt, size, Laid, Kept, Merged}
+use Rattle.calls.proofs.Usual as usual
 use Rattle.pairs.specs.Listing.{found}
 use Rattle.pairs.specs.Walk.{Prepared, freeAt, Freed, Walked}
-use Rattle.pairs.specs.Call.{left, answered, leaves, pairsCall}
+use Rattle.pairs.specs.Call.{left, pairsCall}
 use Rattle.pairs.proofs.ListLaws.{written-filled, length-written}
 use Rattle.neighbours.proofs.PushLaws.{laid-after}
 
@@ -110,8 +111,8 @@ work-freed E = record { long = refl; front = refl; many = E .many; at = E .at }
 
 module _ (F : Field) (s : List ℕ) (limit : ℕ) (l : List ℕ) (f : List Float) (u : List ℕ) where
   pub refused-call : {r : Refusal} → tested (readyTests F s (length f) (length u)) ≡ Failed r → left (Refused r) l f u ≡ pairsCall F s limit l f u
-  unfolding pairsCall leaves
-  refused-call e = rw e
+  unfolding pairsCall
+  refused-call e = usual.refused-call Refused _ _ _ _ e
 
   module _ {f′ : List Float} {u′ : List ℕ} {l₁ : List ℕ} {x : Tally} (a b : ℕ) (passed : tested (readyTests F s (length f) (length u)) ≡ Passed) (W : Walked F s limit l l₁ x)
       (ef : f′ ≡ replicate a zero64) (lf : a ≡ length f) (eu : u′ ≡ replicate b 0) (lu : b ≡ length u) where
@@ -122,14 +123,14 @@ module _ (F : Field) (s : List ℕ) (limit : ℕ) (l : List ℕ) (f : List Float
         room-of k = k / 3
 
     pub done-call : {g : Grade} → g ≡ gradeOf F → x .items ≤ room l₁ → left (Done g (x .items) (x .pairs)) l₁ f′ u′ ≡ pairsCall F s limit l f u
-    unfolding pairsCall leaves answered
+    unfolding pairsCall
     done-call eg h =
-        let fits : length (found F s limit) ≤ room l = omega (arith, W .items, same-room) in
-        rw (passed, le-leb (length (found F s limit)) (room l) fits, eg, W .items, W .pairs, W .list, written-filled (found F s limit) l fits, ef, lf, eu, lu) refl
+        let enough : length (found F s limit) ≤ room l = omega (arith, W .items, same-room) in
+        rw (eg, W .items, W .pairs, W .list, written-filled (found F s limit) l enough, ef, lf, eu, lu) (usual.last-passes Refused _ _ Room _ _ passed (le-leb _ _ enough))
 
     pub full-call : {l₂ : List ℕ} (c : ℕ) → room l₁ < x .items → l₂ ≡ replicate c 0 → c ≡ length l₁ → left (Refused Room) l₂ f′ u′ ≡ pairsCall F s limit l f u
-    unfolding pairsCall leaves answered
+    unfolding pairsCall
     full-call c h el lc =
         let over : room l < length (found F s limit) = omega (arith, W .items, same-room) in
         let long : length l₁ ≡ length l = ap length (W .list) ∙ length-written (found F s limit) l in
-        rw (passed, lt-leb (length (found F s limit)) (room l) over, el, lc, long, ef, lf, eu, lu) refl
+        rw (el, lc, long, ef, lf, eu, lu) (usual.last-refuses Refused _ _ Room _ _ passed (lt-leb _ _ over))

@@ -1,36 +1,40 @@
 -- Demands 1 to 3 for pair dominance, over the promise of the call `pairs` alone. Assumes nothing.
 use Prim.Native.Nat.{ℕ, _*_, _/_, _≤_, _<_}
 use mathlib.Core.Path.{_≡_, refl, sym, ap, _∙_}
-use mathlib.Core.Logic.{_≢_, _⊎_, inl, inr, ⊎-elim, _↔_}
+use mathlib.Core.Logic.{_≢_, ⊎-elim, _↔_}
 use mathlib.Core.Bool.{Bool, true, false}
 use mathlib.Core.List.{List, [], _∷_, _++_, map, append-assoc, List·Memᴰ, List·Memᴰ·head, List·Memᴰ·tail, List·Memᴰ·not-nil, List·Memᴰ·cases-cons, List·Memᴰ·append-cases}
 use native.Mathlib.Omega.{arith}
-use borrow.Author.Tests.{leb-true, leb-false, le-leb, lt-leb}
-use lib.Dec.{T, leb}
+use borrow.Author.Tests.{leb-false, lt-leb}
+use lib.Dec.{T}
 use lib.ListN.{length, getD, take, drop, take-append-drop}
 use lib.Seq.{take-at}
 use lib.Ieee.{Float}
 use lib.Ieee.Positive.{positive}
 use Rattle.weights.specs.Worth.{zero64}
 use Rattle.scratch.specs.Cleared.{cleared}
+use Rattle.scratch.proofs.Means.{le-is}
 use Rattle.meaning.specs.Field.{Best}
 use Rattle.meaning.specs.Kinds.{Kind, Pair, pair, Meets, at-least-one, exactly-one, no-more-than-one, greater-than, less-than, equal}
 use Rattle.meaning.specs.Pair.{dominated}
 use Rattle.meaning.specs.Steps.{Extends}
-use Rattle.field.specs.declared.Checked.{Checked}
-use Rattle.field.specs.declared.Checked.the-variants.{Passed, Failed}
 use Rattle.field.specs.declared.Grade.{Grade}
 use Rattle.field.specs.declared.Grade.the-variants.{Exact as ExactGrade}
 use Rattle.field.specs.declared.Refusal.{Refusal}
 use Rattle.field.specs.declared.Refusal.the-variants.{Room}
 use Rattle.field.specs.Field.{Field, variables, StartFor}
-use Rattle.field.specs.Table.{tested, FirstToFail}
+use Rattle.field.specs.Table.{FirstToFail}
 use Rattle.field.specs.Tests.{readyTests, Ready}
 use Rattle.field.specs.Grade.{halves, gradeOf}
 use Rattle.field.specs.Reading.{wholeOf}
-use Rattle.field.proofs.Table.{refused-exactly}
+use Rattle.field.proofs.Table.{group-is, last-is}
 use Rattle.field.proofs.Means.{ready-passes}
 use Rattle.field.proofs.Exact.{exact-means}
+use Rattle.calls.specs.Call.{table, no-stage}
+use Rattle.calls.proofs.Call as any
+use Rattle.calls.proofs.Usual as usual
+use Rattle.calls.proofs.Usual.{this-stage, other-stage}
+use Rattle.calls.proofs.Values.{never-room}
 use Rattle.margins.specs.Exact.{Exact}
 use Rattle.margins.specs.Model.{tolerance, boundsOf, pairKinds}
 use Rattle.margins.specs.Dominance.{Dominates, Four}
@@ -41,14 +45,15 @@ use Rattle.margins.proofs.Verdict.{kind-means, kind-sound, kind-pattern, kind-s
 use Rattle.constraints.specs.Triple.{Triple, room, triples, filled, constraintOf}
 use Rattle.constraints.specs.Codes.{kindAt}
 use Rattle.constraints.proofs.Triples.{filled-rest, triples-filled}
+use Rattle.pairs.specs.declared.Paired.{Paired}
 use Rattle.pairs.specs.declared.Paired.the-variants.{Done, Refused}
 use Rattle.pairs.specs.Listing.{allowed, examined, pairCount, codeFor, tripleFor, pairTriples, foundIn, found}
-use Rattle.pairs.specs.Call.{Left, left, answered, leaves, pairsCall, listed, DoneSays}
+use Rattle.pairs.specs.Call.{Left, left, fits, pairsTable, pairsCall, listed, DoneSays}
 use Rattle.pairs.proofs.Examined.{examined-count, longer, FreePair, examined-free, still-examined}
 
 -- any two results that the promise permits are equal
 pub one-result : (F : Field) (s : List ℕ) (limit : ℕ) (l : List ℕ) (f : List Float) (u : List ℕ) (x y : Left) → x ≡ pairsCall F s limit l f u → y ≡ pairsCall F s limit l f u → x ≡ y
-one-result F s limit l f u x y p q = p ∙ sym q
+one-result F s limit l f u = any.one-result (pairsCall F s limit l f u)
 
 -- ---- what is found
 
@@ -128,85 +133,79 @@ longer-found F s limit more h =
 
 -- ---- the answer
 
-clash : {A : Type 0} → _≡_ {A = ℕ} 0 1 → A
-clash z = absurd (omega arith)
+same-refused : (r t : Refusal) → Refused r ≡ Refused t → r ≡ t
+same-refused r t e = cc
+
+done-apart : {A : Type 0} {g : Grade} {items pairs : ℕ} (r : Refusal) → Done g items pairs ≡ Refused r → A
+done-apart r e = let z : _≡_ {A = ℕ} 0 1 = cc in absurd (omega arith)
 
 module _ (F : Field) (s : List ℕ) (limit : ℕ) (l : List ℕ) (f : List Float) (u : List ℕ) where
-  abbrev full : Bool
-  full = leb (length (found F s limit)) (room l)
+  -- DEMAND 1. Refused with r exactly if the tests before r's own pass, and its own fails: 9 is the last.
+  pub refused-when : (r : Refusal) → (pairsCall F s limit l f u .answer ≡ Refused r) ↔ FirstToFail (pairsTable F s limit l (length f) (length u)) r
+  unfolding pairsCall table
+  refused-when = usual.refused-when Refused _ _ _ _ same-refused done-apart refl
 
-  abbrev checked : Checked
-  checked = tested (readyTests F s (length f) (length u))
-
-  -- A test refuses exactly by the table; past the tests the one refusal is 9, given exactly if there are more constraints than room.
-  refused-as : (r : Refusal) (k : Checked) → (leaves k F s limit l f u .answer ≡ Refused r) ↔ ((k ≡ Failed r) ⊎ ((k ≡ Passed) × ((r ≡ Room) × (full ≡ false))))
-  unfolding leaves answered
-  refused-as r (Failed t) = ((λ e. inl (let z : t ≡ r = cc in ap Failed z)), ⊎-elim (λ e. let z : t ≡ r = cc in ap Refused z) (λ e. clash (cc (e .0))))
-  refused-as r Passed = go full refl
-    where
-      go : (b : Bool) → full ≡ b → (answered F s limit l f u .answer ≡ Refused r) ↔ ((Passed ≡ Failed r) ⊎ ((Passed ≡ Passed) × ((r ≡ Room) × (full ≡ false))))
-      go true e = rw e ((λ q. clash (cc)), ⊎-elim (λ q. clash (cc)) (λ q. clash (let z : true ≡ false = q .1 .1 in cc)))
-      go false e = rw e ((λ q. let z : r ≡ Room = cc in inr (refl, (z, refl))), ⊎-elim (λ q. clash (cc)) (λ q. ap Refused (sym (q .1 .0))))
-
-  -- DEMAND 1. Refused with r exactly if r's test is the first to fail, or all pass, r is 9 and there are more constraints than room.
-  pub refused-when : (r : Refusal) → (pairsCall F s limit l f u .answer ≡ Refused r)
-      ↔ (FirstToFail (readyTests F s (length f) (length u)) r ⊎ (Ready F s (length f) (length u) × ((r ≡ Room) × (room l < length (found F s limit)))))
+  -- A refusal 1 to 8 changes nothing lent.
+  pub refused-leaves : (r : Refusal) → r ≢ Room → pairsCall F s limit l f u .answer ≡ Refused r → pairsCall F s limit l f u ≡ left (Refused r) l f u
   unfolding pairsCall
-  refused-when r =
-      let p = refused-as r checked in
-      let t = refused-exactly (readyTests F s (length f) (length u)) r in
-      let d = ready-passes F s (length f) (length u) in (
-        λ e. ⊎-elim (λ q. inl (t .0 q)) (λ q. inr (d .0 (q .0), (q .1 .0, leb-false (length (found F s limit)) (room l) (q .1 .1)))) (p .0 e),
-        λ h. p .1 (⊎-elim (λ q. inl (t .1 q)) (λ q. inr (d .1 (q .0), (q .1 .0, lt-leb (length (found F s limit)) (room l) (q .1 .1)))) h),
-      )
+  refused-leaves r n e = usual.refused-leaves Refused _ _ _ _ same-refused done-apart r (other-stage n no-stage) e
 
-  -- A refusal 1 to 8 changes nothing lent; 9 leaves zeros in the list and in both scratches.
-  pub refused-leaves : (r : Refusal) → FirstToFail (readyTests F s (length f) (length u)) r → pairsCall F s limit l f u ≡ left (Refused r) l f u
-  unfolding pairsCall leaves
-  refused-leaves r h = rw (refused-exactly (readyTests F s (length f) (length u)) r .1 h)
+  -- It is 9 exactly if all tests pass and there are more constraints than room,
+  pub room-when : (pairsCall F s limit l f u .answer ≡ Refused Room) ↔ (Ready F s (length f) (length u) × (room l < length (found F s limit)))
+  unfolding pairsCall
+  room-when =
+      let t = usual.last-when Refused _ _ Room _ _ same-refused done-apart (never-room F s (length f) (length u)) (fits F s limit l) in
+      let p = ready-passes F s (length f) (length u) in
+      ((λ e. (p .0 (t .0 e .0), leb-false _ _ (t .0 e .1))), λ h. t .1 (p .1 (h .0), lt-leb _ _ (h .1)))
 
-  pub room-leaves : Ready F s (length f) (length u) → room l < length (found F s limit) → pairsCall F s limit l f u ≡ left (Refused Room) (cleared 0 l) (cleared zero64 f) (cleared 0 u)
-  unfolding pairsCall leaves answered
-  room-leaves h more = rw (ready-passes F s (length f) (length u) .1 h, lt-leb (length (found F s limit)) (room l) more) refl
+  -- and leaves zeros in the list and in both scratches.
+  pub room-leaves : pairsCall F s limit l f u .answer ≡ Refused Room → pairsCall F s limit l f u ≡ left (Refused Room) (cleared 0 l) (cleared zero64 f) (cleared 0 u)
+  unfolding pairsCall
+  room-leaves e = usual.later-leaves Refused _ _ _ _ same-refused done-apart Room _ (never-room F s (length f) (length u)) (this-stage no-stage) e
 
-  done-as : (g : Grade) (items pairs : ℕ) (k : Checked) (b : Bool) → full ≡ b → leaves k F s limit l f u .answer ≡ Done g items pairs
-      → (k ≡ Passed) × ((full ≡ true) × (Done (gradeOf F) (length (found F s limit)) (length (examined limit s)) ≡ Done g items pairs))
-  unfolding leaves answered
-  done-as g items pairs (Failed r) b eb e = clash (cc)
-  done-as g items pairs Passed true eb e = (refl, (eb, rw eb at e))
-  done-as g items pairs Passed false eb e = let q : Refused Room ≡ Done g items pairs = rw eb at e in clash (cc)
+  -- what the call answers and leaves when it is done
+  abbrev result : Left
+  result = left (Done (gradeOf F) (length (found F s limit)) (length (examined limit s))) (filled (found F s limit) l) (cleared zero64 f) (cleared 0 u)
+
+  passed : (pairsCall F s limit l f u .answer ≡ result .answer) ↔ (Ready F s (length f) (length u) × (length (found F s limit) ≤ room l))
+  unfolding pairsCall table
+  passed =
+      usual.done-when Refused _ _ _ _ same-refused done-apart
+      (group-is (readyTests F s (length f) (length u)) _ (ready-passes F s (length f) (length u)) (last-is Room _ (le-is (length (found F s limit)) (room l))))
+
+  ended : {g : Grade} {items pairs : ℕ} → pairsCall F s limit l f u .answer ≡ Done g items pairs → pairsCall F s limit l f u ≡ result
+  unfolding pairsCall
+  ended e = usual.done-leaves Refused _ _ _ _ same-refused done-apart (λ r z. done-apart r (sym e ∙ z))
 
   -- The call is done exactly if every test passes and the list has room, and then gives the grade, the number of constraints and the number of pairs by the formula.
   pub done-when : (g : Grade) (items pairs : ℕ) → (pairsCall F s limit l f u .answer ≡ Done g items pairs) ↔ DoneSays F s limit l f u g items pairs
-  unfolding pairsCall leaves answered
-  done-when g items pairs =
-      let p = ready-passes F s (length f) (length u) in (
-        λ e.
-            let d = done-as g items pairs checked full refl e in
-            let q = d .1 .1 in
-            let eg : g ≡ gradeOf F = cc in
-            let ei : items ≡ length (found F s limit) = cc in
-            let ep : pairs ≡ length (examined limit s) = cc in
-            record { ready = p .0 (d .0); enough = leb-true _ _ (d .1 .0); graded = eg; counted = ei; pairs-counted = ep ∙ examined-count limit s },
-        λ h. rw (p .1 (h .ready), le-leb _ _ (h .enough), h .graded, h .counted, h .pairs-counted, examined-count limit s) refl,
-      )
+  done-when g items pairs = (
+    λ e.
+        let w : result .answer ≡ pairsCall F s limit l f u .answer = ap (λ (x : Left). x .answer) (sym (ended e)) in
+        let q : result .answer ≡ Done g items pairs = w ∙ e in
+        let p = passed .0 (sym w) in
+        let eg : g ≡ gradeOf F = cc in
+        let ei : items ≡ length (found F s limit) = cc in
+        let ep : pairs ≡ length (examined limit s) = cc in
+        record { ready = p .0; enough = p .1; graded = eg; counted = ei; pairs-counted = ep ∙ examined-count limit s },
+    λ h. rw (h .graded, h .counted, h .pairs-counted, sym (examined-count limit s)) (passed .1 (h .ready, h .enough)),
+  )
 
   module _ (g : Grade) (items pairs : ℕ) (e : pairsCall F s limit l f u .answer ≡ Done g items pairs) where
     -- Then the constraints are at the front of the list, and both scratches are all zeros.
     pub done-leaves : pairsCall F s limit l f u ≡ left (Done g items pairs) (filled (found F s limit) l) (cleared zero64 f) (cleared 0 u)
-    unfolding pairsCall leaves answered
     done-leaves =
-        let d = done-when g items pairs .0 e in
-        rw (ready-passes F s (length f) (length u) .1 (d .ready), le-leb _ _ (d .enough), d .graded, d .counted, d .pairs-counted, examined-count limit s) refl
+        let q : result .answer ≡ Done g items pairs = ap (λ (x : Left). x .answer) (sym (ended e)) ∙ e in
+        ended e ∙ ap (λ (a : Paired). left a (filled (found F s limit) l) (cleared zero64 f) (cleared 0 u)) q
 
     -- The first triples of the list are the constraints that the rule gives, no more and no fewer, and elements past the last of them are unchanged.
     pub list-holds : listed items (pairsCall F s limit l f u) ≡ found F s limit
     list-holds =
-        rw (ap (λ (x : Left). x .list) done-leaves, done-when g items pairs .0 e .counted, triples-filled (found F s limit) l)
+        rw (ap (λ (x : Left). x .lent .list) done-leaves, done-when g items pairs .0 e .counted, triples-filled (found F s limit) l)
         (take-at (found F s limit) (triples (drop (3 * length (found F s limit)) l)) (length (found F s limit)) refl)
 
-    pub past-unchanged : drop (3 * items) (pairsCall F s limit l f u .list) ≡ drop (3 * items) l
-    past-unchanged = rw (ap (λ (x : Left). x .list) done-leaves, done-when g items pairs .0 e .counted) (filled-rest (found F s limit) l)
+    pub past-unchanged : drop (3 * items) (pairsCall F s limit l f u .lent .list) ≡ drop (3 * items) l
+    past-unchanged = rw (ap (λ (x : Left). x .lent .list) done-leaves, done-when g items pairs .0 e .counted) (filled-rest (found F s limit) l)
 
     -- Every triple of the list is the constraint that forbids one pattern of some pair.
     pub list-patterns : (c : Triple) → List·Memᴰ c (listed items (pairsCall F s limit l f u)) → (i : ℕ) × (j : ℕ) × (a : Bool) × (b : Bool) × (c ≡ tripleFor i j (dominated a b))

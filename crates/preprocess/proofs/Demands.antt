@@ -22,8 +22,8 @@ use Rattle.field.specs.Table.{FirstToFail}
 use Rattle.field.specs.Tests.{readyTests, Sound, Ready}
 use Rattle.field.specs.Grade.{halves, gradeOf, ExactIn}
 use Rattle.field.specs.Reading.{wholeOf}
-use Rattle.field.specs.Call.{Left, left}
-use Rattle.field.proofs.ValuesCall as values
+use Rattle.calls.specs.Values.{Left, left}
+use Rattle.calls.proofs.Values as values
 use Rattle.run.specs.Run.{closure}
 use Rattle.run.proofs.Theorems.{closure-extends, closure-valid, closure-stands}
 use Rattle.components.proofs.Bridge.{parts-extend, parts-safe}
@@ -86,28 +86,28 @@ module _ (F : Field) (s : List ℕ) (f : List Float) (u : List ℕ) where
     pub done-leaves : preprocessCall F s f u ≡ left (Done (gradeOf F)) (preprocess F s) (cleared zero64 f) (cleared 0 u)
     done-leaves = values.done-leaves _ F s f u g e
 
-    pub values-are : preprocessCall F s f u .values ≡ preprocess F s
+    pub values-are : preprocessCall F s f u .lent .values ≡ preprocess F s
     values-are = values.values-are _ F s f u g e
 
     sound : Sound F s
     sound = values.ready _ F s f u g e .sound
 
     -- The start values are kept, a 1 of a variable of no effect too ..
-    pub values-extend : Extends s (preprocessCall F s f u .values)
+    pub values-extend : Extends s (preprocessCall F s f u .lent .values)
     values-extend = rw values-are (preprocess-extends F (sound .shaped) (sound .start))
 
     -- .. a free variable of no effect ends as 0 ..
-    pub idle-ends : (i : ℕ) → i < variables F → NoEntry F i → eq (linearOf F i) zero64 ≡ true → getD s i 0 ≡ 2 → getD (preprocessCall F s f u .values) i 0 ≡ 0
+    pub idle-ends : (i : ℕ) → i < variables F → NoEntry F i → eq (linearOf F i) zero64 ≡ true → getD s i 0 ≡ 2 → getD (preprocessCall F s f u .lent .values) i 0 ≡ 0
     idle-ends i h apart zero free =
         rw values-are (preprocess-idle F (sound .shaped) (sound .start) i h (effect-means F i (sound .shaped .rows-long) .1 (apart, zero)) free)
 
     -- .. and every value of the closure is among them, on any field.
-    pub closure-among : Extends (closure F s) (preprocessCall F s f u .values)
+    pub closure-among : Extends (closure F s) (preprocessCall F s f u .lent .values)
     closure-among = rw values-are (preprocess-closes F (sound .shaped) (sound .start))
 
 -- DEMAND 3. On an exact field some best completion of the start values agrees with all values.
 pub some-best-agrees : (F : Field) (s : List ℕ) (f : List Float) (u : List ℕ) → preprocessCall F s f u .answer ≡ Done Exact
-    → Safe (wholeOf halves F) s (preprocessCall F s f u .values)
+    → Safe (wholeOf halves F) s (preprocessCall F s f u .lent .values)
 some-best-agrees F s f u e =
     let x = values.exact-field _ F s f u e in
     rw (values-are F s f u Exact e) (preprocess-stands F (x .0) (x .1 .1) (omega arith) (x .1 .0))

@@ -13,7 +13,7 @@ use Rattle.meaning.proofs.Values.{inside}
 use Rattle.field.specs.declared.Answer.the-variants.{Done}
 use Rattle.field.specs.declared.Grade.{Grade}
 use Rattle.field.specs.Field.{Field, variables, Shaped, StartFor}
-use Rattle.field.proofs.ValuesCall as values
+use Rattle.calls.proofs.Values as values
 use Rattle.run.specs.Run.{closure}
 use Rattle.run.proofs.Theorems.{closure-extends}
 use Rattle.parts.specs.Part.{has, Apart, Open, Joined, Reaches, here, there, Component}
@@ -110,9 +110,9 @@ module _ {F : Field} (S : Shaped F) {s : List ℕ} (start : StartFor (variables 
 module _ (F : Field) (s : List ℕ) (f : List Float) (u : List ℕ) (g : Grade) (e : preprocessCall F s f u .answer ≡ Done g)
     {i : ℕ} (free : Open (closure F s) i) {mine : List ℕ} (C : Component F true (closure F s) i mine) where
   -- A variable that the closure leaves free has a value where its component has at most 10 of them,
-  pub small-valued : length mine ≤ 10 → getD (preprocessCall F s f u .values) i 0 < 2
+  pub small-valued : length mine ≤ 10 → getD (preprocessCall F s f u .lent .values) i 0 < 2
   small-valued few = let S = values.ready _ F s f u g e .sound in rw (values-are F s f u g e) (model-small (S .shaped) (S .start) free C few)
 
   -- and is still free where it has more.
-  pub large-kept : 10 < length mine → getD (preprocessCall F s f u .values) i 0 ≡ 2
+  pub large-kept : 10 < length mine → getD (preprocessCall F s f u .lent .values) i 0 ≡ 2
   large-kept many = let S = values.ready _ F s f u g e .sound in rw (values-are F s f u g e) (model-large (S .shaped) (S .start) free C many)

@@ -14,7 +14,7 @@ use Rattle.meaning.proofs.Values.{inside}
 use Rattle.field.specs.declared.Answer.the-variants.{Done}
 use Rattle.field.specs.declared.Grade.{Grade}
 use Rattle.field.specs.Field.{Field, variables, Shaped, StartFor}
-use Rattle.field.proofs.ValuesCall as values
+use Rattle.calls.proofs.Values as values
 use Rattle.run.specs.Run.{closure}
 use Rattle.run.proofs.Theorems.{closure-extends, closure-valid}
 use Rattle.components.proofs.Alike.{Alike, small-same}
@@ -81,7 +81,7 @@ frees-alike {F} S {s} {s′} start start′ E i = by (hasNoEffect F i) refl
 -- The other variables end the same, whether those of no effect are free, 0 or 1 at the start.
 pub idle-unseen : (F : Field) (s s′ : List ℕ) (f f′ : List Float) (u u′ : List ℕ) (g g′ : Grade)
     → preprocessCall F s f u .answer ≡ Done g → preprocessCall F s′ f′ u′ .answer ≡ Done g′
-    → SameElsewhere F s s′ → SameElsewhere F (preprocessCall F s f u .values) (preprocessCall F s′ f′ u′ .values)
+    → SameElsewhere F s s′ → SameElsewhere F (preprocessCall F s f u .lent .values) (preprocessCall F s′ f′ u′ .lent .values)
 idle-unseen F s s′ f f′ u u′ g g′ e e′ E =
     let A = values.ready _ F s f u g e .sound in
     let B = values.ready _ F s′ f′ u′ g′ e′ .sound in

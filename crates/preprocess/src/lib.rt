@@ -9,7 +9,7 @@ ghost use lib.ListN.{length};
 ghost use Rattle.scratch.specs.Lent.{before, after};
 ghost use Rattle.field.specs.Field.{lent, given, variables, Shaped};
 ghost use Rattle.field.specs.Tests.{Ready};
-ghost use Rattle.field.specs.Call.{left};
+ghost use Rattle.calls.specs.Values.{left};
 ghost use Rattle.preprocess.specs.Working.{withNoEffect, Closes, preprocess as preprocessed};
 ghost use Rattle.preprocess.specs.Call.{preprocessCall};
 

@@ -19,13 +19,15 @@ use Rattle.field.specs.declared.Refusal.{Refusal}
 use Rattle.field.specs.declared.Refusal.the-variants.{Argument, Scratch, Room}
 use Rattle.field.specs.Field.{Field, variables, entries}
 use Rattle.field.specs.Table.{tested}
-use Rattle.field.specs.Tests.{standardTests}
+use Rattle.field.specs.Tests.{shapeTests, standardTests}
 use Rattle.field.specs.Grade.{gradeOf}
 use Rattle.field.proofs.Table.{pass-is, last-is, group-is}
 use Rattle.field.proofs.Means.{standard-passes, floats-mean, words-mean}
+use Rattle.calls.specs.Call.{without}
+use Rattle.calls.proofs.Usual as usual
 use Rattle.rows.specs.Stored.{upTo}
 use Rattle.rows.proofs.Upto.{length-upTo, getD-upTo}
-use Rattle.probe.specs.Call.{mayProbe, probeTests, Probable, probeOne, left, answered, leaves, probeOneCall}
+use Rattle.probe.specs.Call.{mayProbe, probeTests, Probable, probeOne, left, probeOneCall}
 
 -- ---- one value a turn
 
@@ -83,19 +85,24 @@ probe-passes F s i v floats words =
       λ h. t .1 (h .ready .sound, ((h .below, (h .free, h .small)), (h .ready .floats-room, h .ready .words-room))),
     )
 
+-- none of 1 to 8 gives 9
+pub never-room : (F : Field) (s : List ℕ) (i v floats words : ℕ) → without Room (probeTests F s i v floats words) ≡ true
+unfolding without probeTests standardTests shapeTests
+never-room F s i v floats words = refl
+
 -- ---- the answer
 
 module _ (F : Field) (s : List ℕ) (i v : ℕ) (t : List ℕ) (f : List Float) (u : List ℕ) where
   pub refused-call : {r : Refusal} → tested (probeTests F s i v (length f) (length u)) ≡ Failed r → left (Refused r) t f u ≡ probeOneCall F s i v t f u
-  unfolding probeOneCall leaves
-  refused-call e = rw e
+  unfolding probeOneCall
+  refused-call e = usual.refused-call Refused _ _ _ _ e
 
   module _ {t′ : List ℕ} {f′ : List Float} {u′ : List ℕ} (k l : ℕ) (e : tested (probeTests F s i v (length f) (length u)) ≡ Passed)
       (ef : f′ ≡ replicate k zero64) (lf : k ≡ length f) (eu : u′ ≡ replicate l 0) (lu : l ≡ length u) where
     pub room-call : length t ≢ variables F → t′ ≡ replicate (length t) 0 → left (Refused Room) t′ f′ u′ ≡ probeOneCall F s i v t f u
-    unfolding probeOneCall leaves answered
-    room-call n et = rw (e, ne-eqb _ _ n, et, ef, lf, eu, lu)
+    unfolding probeOneCall
+    room-call n et = rw (et, ef, lf, eu, lu) (usual.last-refuses Refused _ _ Room _ _ e (ne-eqb _ _ n))
 
     pub done-call : {g : Grade} → length t ≡ variables F → g ≡ gradeOf F → t′ ≡ probeOne F s i v → left (Done g) t′ f′ u′ ≡ probeOneCall F s i v t f u
-    unfolding probeOneCall leaves answered
-    done-call n eg et = rw (e, eq-eqb _ _ n, eg, et, ef, lf, eu, lu)
+    unfolding probeOneCall
+    done-call n eg et = rw (eg, et, ef, lf, eu, lu) (usual.last-passes Refused _ _ Room _ _ e (eq-eqb _ _ n))

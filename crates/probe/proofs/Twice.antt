@@ -36,15 +36,15 @@ module _ (F : Field) (s : List ℕ) (i : ℕ) (t₀ t₁ : List ℕ) (f₀ f₁ 
   probed₁ = let y = exact-field F s i 1 t₁ f₁ u₁ e₁ in run.closure-is-closure (y .0) (y .1) (start-with F s i 1 t₁ f₁ u₁ Exact e₁)
 
   -- the value of a free variable is the closure's
-  same-found : getD s j 0 ≡ 2 → found i j (getD (probeOneCall F s i 0 t₀ f₀ u₀ .values) j 0) (getD (probeOneCall F s i 1 t₁ f₁ u₁ .values) j 0)
+  same-found : getD s j 0 ≡ 2 → found i j (getD (probeOneCall F s i 0 t₀ f₀ u₀ .lent .values) j 0) (getD (probeOneCall F s i 1 t₁ f₁ u₁ .lent .values) j 0)
       ≡ found i j (getD (closure F (set s i 0)) j 0) (getD (closure F (set s i 1)) j 0)
   same-found h = rw (found-at F s i 0 t₀ f₀ u₀ Exact e₀ j below h, found-at F s i 1 t₁ f₁ u₁ Exact e₁ j below h)
 
   -- at a start value nothing is found
-  no-found : getD s j 0 ≢ 2 → found i j (getD (probeOneCall F s i 0 t₀ f₀ u₀ .values) j 0) (getD (probeOneCall F s i 1 t₁ f₁ u₁ .values) j 0) ≡ nothing
+  no-found : getD s j 0 ≢ 2 → found i j (getD (probeOneCall F s i 0 t₀ f₀ u₀ .lent .values) j 0) (getD (probeOneCall F s i 1 t₁ f₁ u₁ .lent .values) j 0) ≡ nothing
   no-found ne = none-found i j (start-left-out F s i 0 t₀ f₀ u₀ Exact e₀ j below ne) (start-left-out F s i 1 t₁ f₁ u₁ Exact e₁ j below ne)
 
-  pub best-has-value : (w : ℕ) → found i j (getD (probeOneCall F s i 0 t₀ f₀ u₀ .values) j 0) (getD (probeOneCall F s i 1 t₁ f₁ u₁ .values) j 0) ≡ value w → getD x j 0 ≡ w
+  pub best-has-value : (w : ℕ) → found i j (getD (probeOneCall F s i 0 t₀ f₀ u₀ .lent .values) j 0) (getD (probeOneCall F s i 1 t₁ f₁ u₁ .lent .values) j 0) ≡ value w → getD x j 0 ≡ w
   best-has-value w e = go (ℕ-discrete (getD s j 0) 2)
     where
       go : Dec (getD s j 0 ≡ 2) → getD x j 0 ≡ w
@@ -53,7 +53,7 @@ module _ (F : Field) (s : List ℕ) (i : ℕ) (t₀ t₁ : List ℕ) (f₀ f₁ 
           value-holds (exact-field F s i 0 t₀ f₀ u₀ e₀ .1 .standard) (p .ready .sound .start .long) best i (p .free) probed₀ probed₁ j w (sym (same-found h) ∙ e)
       go (no ne) = none-value (sym (no-found ne) ∙ e)
 
-  pub best-meets : (c : Constraint) → found i j (getD (probeOneCall F s i 0 t₀ f₀ u₀ .values) j 0) (getD (probeOneCall F s i 1 t₁ f₁ u₁ .values) j 0) ≡ constraint c → Meets x c
+  pub best-meets : (c : Constraint) → found i j (getD (probeOneCall F s i 0 t₀ f₀ u₀ .lent .values) j 0) (getD (probeOneCall F s i 1 t₁ f₁ u₁ .lent .values) j 0) ≡ constraint c → Meets x c
   best-meets c e = go (ℕ-discrete (getD s j 0) 2)
     where
       go : Dec (getD s j 0 ≡ 2) → Meets x c

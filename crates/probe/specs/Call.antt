@@ -1,7 +1,7 @@
 -- What the call `probe_one` answers and leaves, as one function of what it is given, for every input. Assumes nothing.
 use Prim.Native.Nat.{ℕ, _<_, _≤_}
 use mathlib.Core.Path.{_≡_}
-use mathlib.Core.Bool.{Bool, true, false, cond, _&&_}
+use mathlib.Core.Bool.{Bool, cond, _&&_}
 use mathlib.Core.List.{List, [], _∷_, _++_}
 use lib.Dec.{eqb, ltb, leb}
 use lib.ListN.{length, getD, set}
@@ -13,13 +13,14 @@ use Rattle.meaning.specs.Free.{isFree}
 use Rattle.meaning.specs.Probe.{Probed}
 use Rattle.field.specs.declared.Answer.{Answer}
 use Rattle.field.specs.declared.Answer.the-variants.{Done, Refused}
-use Rattle.field.specs.declared.Checked.{Checked}
-use Rattle.field.specs.declared.Checked.the-variants.{Passed, Failed}
 use Rattle.field.specs.declared.Refusal.the-variants.{Argument, Scratch, Room}
 use Rattle.field.specs.Field.{Field, variables, entries}
-use Rattle.field.specs.Table.{Test, test, tested}
+use Rattle.field.specs.Table.{Test, test}
 use Rattle.field.specs.Tests.{standardTests, floatsFit, wordsFit, Ready}
 use Rattle.field.specs.Grade.{gradeOf}
+use Rattle.calls.specs.Call.{called, stage, usual}
+use Rattle.calls.specs.Values as values
+use Rattle.calls.specs.Values.{lent}
 use Rattle.rows.specs.Stored.{upTo}
 use Rattle.run.specs.Run.{closure}
 
@@ -71,26 +72,17 @@ pub record Gives (G : meaning.Field) (s : List ℕ) (i v : ℕ) (t : List ℕ) :
 
 -- ---- the call
 
--- the answer, and the three lent lists afterwards
-pub record Left : Type 0 where
-  pub answer : Answer
-  pub values : List ℕ
-  pub floats : List Float
-  pub words : List ℕ
+-- the answer, and the three lent lists afterwards: the list of values, and both scratches
+abbrev pub Left : Type 0
+Left = values.Left
 
 abbrev pub left : Answer → List ℕ → List Float → List ℕ → Left
-left r t f u = record { answer = r; values = t; floats = f; words = u }
+left r t f u = values.left r t f u
 
--- "9 is given exactly if .. the probe value list is not n long; then each answer list is all zeros"
-unfoldable pub answered : Bool → Field → List ℕ → ℕ → ℕ → List ℕ → List Float → List ℕ → Left
-answered true F s i v t f u = left (Done (gradeOf F)) (probeOne F s i v) (cleared zero64 f) (cleared 0 u)
-answered false F s i v t f u = left (Refused Room) (cleared 0 t) (cleared zero64 f) (cleared 0 u)
-
--- "After passing 8, scratch ends as all zeros"; "1 to 8 change nothing lent"
-unfoldable pub leaves : Checked → Field → List ℕ → ℕ → ℕ → List ℕ → List Float → List ℕ → Left
-leaves Passed F s i v t f u = answered (eqb (length t) (variables F)) F s i v t f u
-leaves (Failed r) F s i v t f u = left (Refused r) t f u
-
--- tests 1 to 8, then 9, then the probe of i at v; t is the list that the values go into
+-- tests 1 to 8, then 9, then the probe of i at v; t is the list that the values go into: "9 is given exactly if .. the probe value list is not n long;
+-- then each answer list is all zeros"; "After passing 8, scratch ends as all zeros"
 unfoldable pub probeOneCall : Field → List ℕ → ℕ → ℕ → List ℕ → List Float → List ℕ → Left
-probeOneCall F s i v t f u = leaves (tested (probeTests F s i v (length f) (length u))) F s i v t f u
+probeOneCall F s i v t f u =
+    called
+    (usual Refused (lent t f u) (probeTests F s i v (length f) (length u)) (stage Room (eqb (length t) (variables F)) (lent (cleared 0 t) (cleared zero64 f) (cleared 0 u)) ∷ [])
+    (left (Done (gradeOf F)) (probeOne F s i v) (cleared zero64 f) (cleared 0 u)))

@@ -36,7 +36,7 @@ module _ (F : Field) (s cands t k : List ℕ) (f : List Float) (u : List ℕ) (f
   said : DoneSays F s cands t k f u Exact count
   said = done-when F s cands t k f u Exact count .0 e
 
-  listed : take count (triples (candidatesCall F s cands t k f u .constraints)) ≡ allConstraints F s cands
+  listed : take count (triples (candidatesCall F s cands t k f u .lent .constraints)) ≡ allConstraints F s cands
   listed = list-holds F s cands t k f u Exact count e
 
   shaped : Shaped F
@@ -53,13 +53,13 @@ module _ (F : Field) (s cands t k : List ℕ) (f : List Float) (u : List ℕ) (f
 
   -- the constraints of the answer, and its value for j
   abbrev pub answerList : List Triple
-  answerList = take count (triples (candidatesCall F s cands t k f u .constraints))
+  answerList = take count (triples (candidatesCall F s cands t k f u .lent .constraints))
 
   abbrev pub answerValue : ℕ → ℕ
-  answerValue j = getD (candidatesCall F s cands t k f u .values) j 0
+  answerValue j = getD (candidatesCall F s cands t k f u .lent .values) j 0
 
   value-is : (j : ℕ) → answerValue j ≡ getD (allValues F s cands) j 0
-  value-is j = ap (λ (l : List ℕ). getD l j 0) (ap (λ (l : Left). l .values) (done-leaves F s cands t k f u Exact count e))
+  value-is j = ap (λ (l : List ℕ). getD l j 0) (ap (λ (l : Left). l .lent .values) (done-leaves F s cands t k f u Exact count e))
 
   -- DEMAND 2. A triple is in the answer's list exactly if the probes of a candidate give it over whole numbers; the list is sorted, without repeats.
   pub call-list-exact : (x : Triple) → List·Memᴰ x answerList ↔ Given (wholeOf halves F) s (λ i. List·Memᴰ i cands) x
@@ -106,10 +106,10 @@ given-as alike h = record {
 
 module _ (F : Field) (s t k : List ℕ) (f : List Float) (u : List ℕ) {count : ℕ} (e : probeCall F s t k f u .answer ≡ Counts Exact count) where
   abbrev pub probeList : List Triple
-  probeList = take count (triples (probeCall F s t k f u .constraints))
+  probeList = take count (triples (probeCall F s t k f u .lent .constraints))
 
   abbrev pub probeValue : ℕ → ℕ
-  probeValue j = getD (probeCall F s t k f u .values) j 0
+  probeValue j = getD (probeCall F s t k f u .lent .values) j 0
 
   abbrev candidates : List ℕ
   candidates = freeTo s (variables F)
@@ -161,10 +161,10 @@ module _ (F : Field) (s t k : List ℕ) (f : List Float) (u : List ℕ) {count :
 
 module _ (F : Field) (s : List ℕ) (limit : ℕ) (t k : List ℕ) (f : List Float) (u : List ℕ) {count : ℕ} (e : probeLimitedCall F s limit t k f u .answer ≡ Counts Exact count) where
   abbrev pub limitedList : List Triple
-  limitedList = take count (triples (probeLimitedCall F s limit t k f u .constraints))
+  limitedList = take count (triples (probeLimitedCall F s limit t k f u .lent .constraints))
 
   abbrev pub limitedValue : ℕ → ℕ
-  limitedValue j = getD (probeLimitedCall F s limit t k f u .values) j 0
+  limitedValue j = getD (probeLimitedCall F s limit t k f u .lent .values) j 0
 
   abbrev chosen : List ℕ
   chosen = take limit (ranks F s)

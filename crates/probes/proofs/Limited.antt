@@ -20,12 +20,15 @@ use Rattle.field.specs.Field.{Field, variables}
 use Rattle.field.specs.Table.{tested}
 use Rattle.field.specs.Tests.{readyTests, Ready}
 use Rattle.field.specs.Grade.{gradeOf}
+use Rattle.calls.specs.Call.{run}
 use Rattle.ranking.specs.Ranking.{massOf, ahead, insert, ordered, ranks}
 use Rattle.ranking.proofs.Ordered.{Every, every-from, ordered-every, ordered-length}
 use Rattle.finding.specs.Finds.{constraintsOf, valuesOf}
-use Rattle.probes.specs.Call.{allConstraints, allValues, Left, left, fits, answered, leaves, candidatesCall, probeCall, probeLimitedCall}
+use Rattle.probes.specs.Call.{allConstraints, allValues, Left, left, fits, candidatesCall, probeCall, probeLimitedCall}
+use Rattle.probes.specs.Standing.{settled}
 use Rattle.probes.proofs.Members.{at-in, every-in}
 use Rattle.probes.proofs.Gathered.{same-candidates}
+use Rattle.probes.proofs.Answers.{refused-call, settled-call}
 use Rattle.probes.proofs.Demands.{done-when, done-leaves, limited-is}
 
 -- ---- no candidate
@@ -78,24 +81,25 @@ module _ (F : Field) (s : List ℕ) where
 -- two results agree but for the probe values, where the later of two candidates wins
 pub record SameButValues (x y : Left) : Type 0 where
   pub answers : x .answer ≡ y .answer
-  pub lists : x .constraints ≡ y .constraints
-  pub both-floats : x .floats ≡ y .floats
-  pub both-words : x .words ≡ y .words
+  pub lists : x .lent .constraints ≡ y .lent .constraints
+  pub both-floats : x .lent .floats ≡ y .lent .floats
+  pub both-words : x .lent .words ≡ y .lent .words
 
-given-same : (b : Bool) (F : Field) (s cands other t k : List ℕ) (f : List Float) (u : List ℕ) → allConstraints F s cands ≡ allConstraints F s other
-    → SameButValues (answered b F s cands t k f u) (answered b F s other t k f u)
-unfolding answered
-given-same true F s cands other t k f u e = record { answers = rw e; lists = rw e; both-floats = refl; both-words = refl }
-given-same false F s cands other t k f u e = record { answers = refl; lists = refl; both-floats = refl; both-words = refl }
+settled-same : (b : Bool) (F : Field) (s cands other t k : List ℕ) (f : List Float) (u : List ℕ) → fits F s other t k ≡ b → allConstraints F s cands ≡ allConstraints F s other
+    → SameButValues (settled F s cands t k f u) (settled F s other t k f u)
+unfolding run fits
+settled-same true F s cands other t k f u w e = rw (e, w) (record { answers = refl; lists = refl; both-floats = refl; both-words = refl })
+settled-same false F s cands other t k f u w e = rw (e, w) (record { answers = refl; lists = refl; both-floats = refl; both-words = refl })
 
-leaves-same : (x : Checked) (F : Field) (s cands other t k : List ℕ) (f : List Float) (u : List ℕ) → allConstraints F s cands ≡ allConstraints F s other
-    → SameButValues (leaves x F s cands t k f u) (leaves x F s other t k f u)
-unfolding leaves fits
-leaves-same Passed F s cands other t k f u e = rw e (given-same (fits F s other t k) F s cands other t k f u e)
-leaves-same (Failed r) F s cands other t k f u e = record { answers = refl; lists = refl; both-floats = refl; both-words = refl }
+calls-same : (x : Checked) (F : Field) (s cands other t k : List ℕ) (f : List Float) (u : List ℕ) → x ≡ tested (readyTests F s (length f) (length u))
+    → allConstraints F s cands ≡ allConstraints F s other → SameButValues (candidatesCall F s cands t k f u) (candidatesCall F s other t k f u)
+calls-same Passed F s cands other t k f u is e =
+    rw (← settled-call F s cands t k f u is refl refl, ← settled-call F s other t k f u is refl refl) (settled-same (fits F s other t k) F s cands other t k f u refl e)
+calls-same (Failed r) F s cands other t k f u is e =
+    rw (← refused-call F s cands t k f u is refl, ← refused-call F s other t k f u is refl) (record { answers = refl; lists = refl; both-floats = refl; both-words = refl })
 
 -- Then the limited call answers and leaves what the full one does, but for the probe values.
 pub limited-as-full : (F : Field) (s : List ℕ) (limit : ℕ) (t k : List ℕ) (f : List Float) (u : List ℕ) → length (freeTo s (variables F)) ≤ limit
     → SameButValues (probeLimitedCall F s limit t k f u) (probeCall F s t k f u)
-unfolding probeLimitedCall probeCall candidatesCall
-limited-as-full F s limit t k f u h = leaves-same (tested (readyTests F s (length f) (length u))) F s (take limit (ranks F s)) (freeTo s (variables F)) t k f u (limit-all F s limit h)
+unfolding probeLimitedCall probeCall
+limited-as-full F s limit t k f u h = calls-same _ F s (take limit (ranks F s)) (freeTo s (variables F)) t k f u refl (limit-all F s limit h)

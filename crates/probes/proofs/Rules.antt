@@ -1,11 +1,12 @@
 -- The promise of the full probe, part by part: no candidate finds nothing, and one result. Assumes nothing.
 use Prim.Native.Nat.{ℕ}
-use mathlib.Core.Path.{_≡_, refl, sym, _∙_}
+use mathlib.Core.Path.{_≡_, refl}
 use mathlib.Core.List.{List, []}
 use lib.Ieee.{Float}
 use lib.ListN.{replicate}
 use Rattle.constraints.specs.Sorted.{sortedSet}
 use Rattle.field.specs.Field.{Field, variables}
+use Rattle.calls.proofs.Call as any
 use Rattle.finding.specs.Finds.{constraintsOf, valuesOf}
 use Rattle.probes.specs.Call.{allConstraints, allValues, Left, probeCall}
 
@@ -21,4 +22,4 @@ none-values F s = refl
 
 -- Any two results that the promise permits are equal.
 pub one-result : (F : Field) (s t k : List ℕ) (f : List Float) (u : List ℕ) (x y : Left) → x ≡ probeCall F s t k f u → y ≡ probeCall F s t k f u → x ≡ y
-one-result F s t k f u x y p q = p ∙ sym q
+one-result F s t k f u = any.one-result (probeCall F s t k f u)

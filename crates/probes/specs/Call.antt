@@ -1,6 +1,6 @@
 -- What the calls `probe` and `probe_limited` answer and leave, as one function of what they are given, for every input. Assumes nothing.
 use Prim.Native.Nat.{ℕ}
-use mathlib.Core.Bool.{Bool, true, false, _&&_}
+use mathlib.Core.Bool.{Bool, _&&_}
 use mathlib.Core.List.{List, [], _∷_, _++_}
 use lib.Dec.{eqb, leb}
 use lib.ListN.{length, take}
@@ -12,13 +12,13 @@ use Rattle.constraints.specs.Triple.{Triple, room, filled}
 use Rattle.constraints.specs.Sorted.{sortedSet}
 use Rattle.field.specs.declared.Counted.{Counted}
 use Rattle.field.specs.declared.Counted.the-variants.{Counts, Refuses}
-use Rattle.field.specs.declared.Checked.{Checked}
-use Rattle.field.specs.declared.Checked.the-variants.{Passed, Failed}
 use Rattle.field.specs.declared.Refusal.the-variants.{Room}
 use Rattle.field.specs.Field.{Field, variables}
-use Rattle.field.specs.Table.{Test, test, tested}
+use Rattle.field.specs.Table.{Test, test}
 use Rattle.field.specs.Tests.{readyTests}
 use Rattle.field.specs.Grade.{gradeOf}
+use Rattle.calls.specs.Call as any
+use Rattle.calls.specs.Call.{Stage, stage, called, usual}
 use Rattle.ranking.specs.Ranking.{ranks}
 use Rattle.finding.specs.Finds.{constraintsOf, valuesOf}
 
@@ -34,16 +34,22 @@ allValues F s cands = valuesOf F s cands (length cands)
 
 -- ---- the call
 
--- the answer, and the four lent lists afterwards
-pub record Left : Type 0 where
-  pub answer : Counted
+-- the four lent lists
+pub record Lent : Type 0 where
   pub values : List ℕ
   pub constraints : List ℕ
   pub floats : List Float
   pub words : List ℕ
 
+abbrev pub lent : List ℕ → List ℕ → List Float → List ℕ → Lent
+lent t k f u = record { values = t; constraints = k; floats = f; words = u }
+
+-- the answer, and the four lent lists afterwards
+abbrev pub Left : Type 0
+Left = any.Left Counted Lent
+
 abbrev pub left : Counted → List ℕ → List ℕ → List Float → List ℕ → Left
-left r t k f u = record { answer = r; values = t; constraints = k; floats = f; words = u }
+left r t k f u = any.left r (lent t k f u)
 
 -- "9 is given exactly if a full answer has more items than its list has room for, or the probe value list is not n long"
 unfoldable pub fits : Field → List ℕ → List ℕ → List ℕ → List ℕ → Bool
@@ -53,20 +59,18 @@ fits F s cands t k = eqb (length t) (variables F) && leb (length (allConstraints
 unfoldable pub candidatesTable : Field → List ℕ → List ℕ → List ℕ → List ℕ → ℕ → ℕ → List Test
 candidatesTable F s cands t k floats words = readyTests F s floats words ++ test Room (fits F s cands t k) ∷ []
 
--- "then each answer list is all zeros"; "On success, elements past an answer list's last item are unchanged"
-unfoldable pub answered : Bool → Field → List ℕ → List ℕ → List ℕ → List ℕ → List Float → List ℕ → Left
-answered true F s cands t k f u =
-    left (Counts (gradeOf F) (length (allConstraints F s cands))) (allValues F s cands) (filled (allConstraints F s cands) k) (cleared zero64 f) (cleared 0 u)
-answered false F s cands t k f u = left (Refuses Room) (cleared 0 t) (cleared 0 k) (cleared zero64 f) (cleared 0 u)
+-- "then each answer list is all zeros"
+abbrev pub later : Field → List ℕ → List ℕ → List ℕ → List ℕ → List Float → List ℕ → List (Stage Lent)
+later F s cands t k f u = stage Room (fits F s cands t k) (lent (cleared 0 t) (cleared 0 k) (cleared zero64 f) (cleared 0 u)) ∷ []
 
--- "After passing 8, scratch ends as all zeros"; "1 to 8 change nothing lent"
-unfoldable pub leaves : Checked → Field → List ℕ → List ℕ → List ℕ → List ℕ → List Float → List ℕ → Left
-leaves Passed F s cands t k f u = answered (fits F s cands t k) F s cands t k f u
-leaves (Failed r) F s cands t k f u = left (Refuses r) t k f u
+-- "On success, elements past an answer list's last item are unchanged"; "After passing 8, scratch ends as all zeros"
+abbrev pub result : Field → List ℕ → List ℕ → List ℕ → List Float → List ℕ → Left
+result F s cands k f u =
+    left (Counts (gradeOf F) (length (allConstraints F s cands))) (allValues F s cands) (filled (allConstraints F s cands) k) (cleared zero64 f) (cleared 0 u)
 
 -- the call over any list of candidates
 unfoldable pub candidatesCall : Field → List ℕ → List ℕ → List ℕ → List ℕ → List Float → List ℕ → Left
-candidatesCall F s cands t k f u = leaves (tested (readyTests F s (length f) (length u))) F s cands t k f u
+candidatesCall F s cands t k f u = called (usual Refuses (lent t k f u) (readyTests F s (length f) (length u)) (later F s cands t k f u) (result F s cands k f u))
 
 -- `probe`: every free variable
 unfoldable pub probeCall : Field → List ℕ → List ℕ → List ℕ → List Float → List ℕ → Left

@@ -1,35 +1,51 @@
 -- What the call `propagate` answers and leaves, as one function of what it is given, for every input. Assumes nothing.
 use Prim.Native.Nat.{ℕ}
-use mathlib.Core.List.{List}
+use mathlib.Core.Bool.{Bool, true, false}
+use mathlib.Core.List.{List, [], _∷_, _++_}
 use lib.ListN.{length}
 use Rattle.scratch.specs.Cleared.{cleared}
 use Rattle.meaning.specs.Literal.{Answer, done, clash, propagate}
 use Rattle.field.specs.declared.Checked.{Checked}
 use Rattle.field.specs.declared.Checked.the-variants.{Passed, Failed}
 use Rattle.field.specs.declared.Refusal.the-variants.{Clash}
-use Rattle.field.specs.Table.{tested}
+use Rattle.field.specs.Table.{Test, test}
+use Rattle.calls.specs.Call as any
+use Rattle.calls.specs.Call.{called, stage, usual}
 use Rattle.propagation.specs.Tests.{propagationTests}
 use Rattle.literals.specs.Ends.{rules}
 
--- the answer, and the two lent lists afterwards
-pub record Left : Type 0 where
-  pub answer : Checked
+-- whether literal closure holds no variable both ways, and the values that it then gives
+abbrev pub agrees : Answer → Bool
+agrees (done t) = true
+agrees clash = false
+
+abbrev pub valuesIn : List ℕ → Answer → List ℕ
+valuesIn s (done t) = t
+valuesIn s clash = s
+
+-- the whole table: 1, 6, 7, 8 and 10
+abbrev pub propagationTable : List ℕ → List ℕ → ℕ → List Test
+propagationTable s list words = propagationTests s list words ++ test Clash (agrees (propagate (rules list) s)) ∷ []
+
+-- the two lent lists
+pub record Lent : Type 0 where
   pub values : List ℕ
   pub words : List ℕ
 
+abbrev pub lent : List ℕ → List ℕ → Lent
+lent s u = record { values = s; words = u }
+
+-- the answer, and the two lent lists afterwards
+abbrev pub Left : Type 0
+Left = any.Left Checked Lent
+
 abbrev pub left : Checked → List ℕ → List ℕ → Left
-left r s u = record { answer = r; values = s; words = u }
+left r s u = any.left r (lent s u)
 
--- after the tests: implied values go into the start values; "9 and 10 leave the start values unchanged"; "After passing 8, scratch ends as all zeros"
-unfoldable pub ends : Answer → List ℕ → List ℕ → Left
-ends (done t) s u = left Passed t (cleared 0 u)
-ends clash s u = left (Failed Clash) s (cleared 0 u)
-
--- "1 to 8 change nothing lent"
-unfoldable pub leaves : Checked → List ℕ → List ℕ → List ℕ → Left
-leaves Passed s list u = ends (propagate (rules list) s) s u
-leaves (Failed r) s list u = left (Failed r) s u
-
--- tests 1, 6, 7 and 8, then literal closure
+-- tests 1, 6, 7 and 8, then literal closure: implied values go into the start values; "9 and 10 leave the start values unchanged";
+-- "After passing 8, scratch ends as all zeros"
 unfoldable pub propagateCall : List ℕ → List ℕ → List ℕ → Left
-propagateCall s list u = leaves (tested (propagationTests s list (length u))) s list u
+propagateCall s list u =
+    called
+    (usual Failed (lent s u) (propagationTests s list (length u)) (stage Clash (agrees (propagate (rules list) s)) (lent s (cleared 0 u)) ∷ [])
+    (left Passed (valuesIn s (propagate (rules list) s)) (cleared 0 u)))

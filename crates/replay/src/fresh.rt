@@ -1,5 +1,5 @@
 // A case is answered in slices as long as its head says: parts of the buffers, and of arrays that each case has anew.
-use crate::calls::make;
+use crate::making::make;
 use cases::contents::fill_lent;
 use cases::contents::start_at;
 use cases::contents::take_columns;

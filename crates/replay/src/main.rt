@@ -1,8 +1,8 @@
 // Answers a stream of cases for the runs side by side with the Rust, a line a case (docs/CASES.md).
 //
 // `side-by-side/record crates/replay/stdin crates/replay/stdout CALLS` writes the recorded cases, and the Rust's answers to them.
-mod calls;
 mod fresh;
+mod making;
 
 use cases::reading::Next;
 use cases::reading::next_case;

@@ -12,10 +12,10 @@ use Rattle.meaning.specs.Free.{frees, freeTo}
 use Rattle.expansion.specs.Sum as expansion
 use Rattle.constraints.specs.Triple.{flat, filled, triples}
 use Rattle.constraints.specs.Sorted as sorted
-use Rattle.field.specs.Table.{tested}
 use Rattle.field.specs.Tests.{endsBelow, allRise, allFinite, bytesSmall, fewVariables, listsMatch, inOrder, offDiagonal, weightsFinite, startFits, floatsFit, wordsFit, shapeTests, looseTests, standardTests, readyTests}
 use Rattle.field.specs.Grade.{weighs, allWeigh, isExact, gradeOf}
-use Rattle.field.specs.Call as values
+use Rattle.calls.specs.Call.{called, run as staged, keeping}
+use Rattle.calls.specs.Values as values
 use Rattle.rows.specs.Row.{addTerm}
 use Rattle.rows.specs.Model as rows
 use Rattle.rows.specs.Stored.{upTo}
@@ -46,12 +46,12 @@ use Rattle.worked.specs.Cases.{cases, given, expected}
 -- each call's promise gives exactly the answer of the list, and leaves exactly what it says in all that was lent
 pub worked : map given cases ≡ map expected cases
 unfolding given expected
-    values.valuesCall values.leaves
-    probe.probeOneCall probe.leaves probe.answered probe.probeOne probe.newOnly probe.newAt probe.probeTests probe.mayProbe
-    probes.probeCall probes.probeLimitedCall probes.candidatesCall probes.leaves probes.answered probes.fits probes.allValues probes.allConstraints
-    pairs.pairsCall pairs.leaves pairs.answered anchors.anchorsCall anchors.leaves anchors.answered anchors.anchorTests
-    propagation.propagateCall propagation.leaves propagation.ends literals.propagationTests literals.constraintsFit literals.allFit
-    tested readyTests standardTests looseTests shapeTests fewVariables listsMatch inOrder offDiagonal weightsFinite startFits floatsFit wordsFit
+    called staged keeping values.valuesCall
+    probe.probeOneCall probe.probeOne probe.newOnly probe.newAt probe.probeTests probe.mayProbe
+    probes.probeCall probes.probeLimitedCall probes.candidatesCall probes.fits probes.allValues probes.allConstraints
+    pairs.pairsCall anchors.anchorsCall anchors.anchorTests
+    propagation.propagateCall literals.propagationTests literals.constraintsFit literals.allFit
+    readyTests standardTests looseTests shapeTests fewVariables listsMatch inOrder offDiagonal weightsFinite startFits floatsFit wordsFit
     endsBelow allRise allFinite bytesSmall allBelow gradeOf isExact allWeigh weighs wholeIn magnitude
     run.closure run.closureRun run.propagate run.work run.serve run.serveAll run.serveAt run.moveRow run.scanTo run.scanAt run.judged run.settle run.force
     upTo places placesFrom keep otherEnd rows.rowOf rows.rowTo rows.atEntry rows.atEnd addTerm

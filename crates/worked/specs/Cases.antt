@@ -14,7 +14,7 @@ use Rattle.field.specs.declared.Checked.the-variants.{Passed, Failed}
 use Rattle.field.specs.declared.Answer.the-variants.{Done}
 use Rattle.field.specs.declared.Counted.the-variants.{Counts}
 use Rattle.field.specs.Field.{Field, variables, entries}
-use Rattle.field.specs.Call as values
+use Rattle.calls.specs.Values as values
 use Rattle.closure.specs.Call as closure
 use Rattle.components.specs.Call as components
 use Rattle.preprocess.specs.Call as preprocess

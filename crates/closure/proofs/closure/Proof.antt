@@ -1,5 +1,5 @@
 -- `closure` tests, grades, works and clears. Assumes nothing.
-use Rattle.field.proofs.ValuesCall.{tests-ready, ends-match, refused-call, done-call}
+use Rattle.calls.proofs.Values.{tests-ready, ends-match, refused-call, done-call}
 use borrow.Author.Needs.{needs}
 use Rattle.closure.proofs.closure.Statement.{statement}
 use Rattle.closure.proofs.closure.Tie as tie

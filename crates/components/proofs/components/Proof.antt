@@ -1,6 +1,6 @@
 -- `components` tests, grades, works and clears. Assumes nothing.
 use mathlib.Core.Path.{refl}
-use Rattle.field.proofs.ValuesCall.{tests-ready, ends-match, refused-call, done-call}
+use Rattle.calls.proofs.Values.{tests-ready, ends-match, refused-call, done-call}
 use borrow.Author.Needs.{needs}
 use Rattle.components.proofs.components.Statement.{statement}
 use Rattle.components.proofs.components.Tie as tie

@@ -1,5 +1,5 @@
 -- `heavy` tests, grades, works and clears. Assumes nothing.
-use Rattle.field.proofs.ValuesCall.{tests-ready, ends-match, refused-call, done-call}
+use Rattle.calls.proofs.Values.{tests-ready, ends-match, refused-call, done-call}
 use borrow.Author.Needs.{needs}
 use Rattle.heavy.proofs.heavy.Statement.{statement}
 use Rattle.heavy.proofs.heavy.Tie as tie

@@ -1,5 +1,5 @@
 -- `preprocess` tests, grades, works and clears. Assumes nothing.
-use Rattle.field.proofs.ValuesCall.{tests-ready, ends-match, refused-call, done-call}
+use Rattle.calls.proofs.Values.{tests-ready, ends-match, refused-call, done-call}
 use borrow.Author.Needs.{needs}
 use Rattle.preprocess.proofs.preprocess.Statement.{statement}
 use Rattle.preprocess.proofs.preprocess.Tie as tie

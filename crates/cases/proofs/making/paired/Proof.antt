@@ -3,8 +3,8 @@ use mathlib.Core.Path.{ap, _∙_}
 use Rattle.lines.specs.Outcomes.{refused}
 use Rattle.lines.proofs.Numbers.{refused-few}
 use borrow.Author.Needs.{needs}
-use Rattle.cases.proofs.calls.paired.Statement.{statement}
-use Rattle.cases.proofs.calls.paired.Tie as tie
+use Rattle.cases.proofs.making.paired.Statement.{statement}
+use Rattle.cases.proofs.making.paired.Tie as tie
 
 enum-known-answer : tie.Need-enum-known-answer
 enum-known-answer c = search needs

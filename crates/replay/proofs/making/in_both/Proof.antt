@@ -1,8 +1,8 @@
 -- The number is the answer's. Assumes nothing.
 use Rattle.lines.proofs.Numbers.{counted-few}
 use borrow.Author.Needs.{needs}
-use Rattle.replay.proofs.calls.in_both.Statement.{statement}
-use Rattle.replay.proofs.calls.in_both.Tie as tie
+use Rattle.replay.proofs.making.in_both.Statement.{statement}
+use Rattle.replay.proofs.making.in_both.Tie as tie
 
 probe-requires : tie.Need-probe-requires
 probe-requires c κs = search needs

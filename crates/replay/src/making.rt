@@ -51,5 +51,5 @@ pub fn make(
     if is_among(head.code, PROBE, LIMITED_PROBE) {
         return in_both(head, c, rows, cols, q, start, found, list, f, u);
     }
-    cases::calls::make(head, c, rows, cols, q, start, found, list, f, u)
+    cases::making::make(head, c, rows, cols, q, start, found, list, f, u)
 }
