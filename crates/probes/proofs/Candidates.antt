@@ -49,10 +49,10 @@ front-more (suc a) zero l h m = absurd (omega arith)
 front-more (suc a) (suc b) [] h m = m
 front-more (suc a) (suc b) (x ∷ l) h m = ⊎-elim (λ e. List·Memᴰ·head e) (λ r. List·Memᴰ·tail (front-more a b l (omega arith) r)) (List·Memᴰ·cases-cons m)
 
--- A larger limit finds every constraint that a smaller one finds.
-pub larger-limit : (F : Field) (s : List ℕ) (limit more : ℕ) → limit ≤ more → (x : Triple)
+-- more candidates, by a larger limit, find every constraint that fewer find
+pub larger-finds : (F : Field) (s : List ℕ) (limit more : ℕ) → limit ≤ more → (x : Triple)
     → List·Memᴰ x (allConstraints F s (take limit (ranks F s))) → List·Memᴰ x (allConstraints F s (take more (ranks F s)))
-larger-limit F s limit more h = more-candidates F s (take limit (ranks F s)) (take more (ranks F s)) (λ i m. front-more limit more (ranks F s) h m)
+larger-finds F s limit more h = more-candidates F s (take limit (ranks F s)) (take more (ranks F s)) (λ i m. front-more limit more (ranks F s) h m)
 
 -- ---- the later one is the greater one
 

@@ -1,5 +1,4 @@
--- Demand 1 for the full and the limited probe, over the promise of a call with any list of candidates, which both calls are.
--- The start values are lent to be read alone, so no call changes them. Assumes nothing.
+-- Demand 1 over any list of candidates: the laws from which FullCall and LimitedCall have theirs. Assumes nothing.
 use Prim.Native.Nat.{ℕ, _*_, _<_, _≤_}
 use mathlib.Core.Path.{_≡_, refl, sym, ap, _∙_}
 use mathlib.Core.Logic.{_≢_, _↔_, _⊎_, inl, inr}
@@ -14,7 +13,6 @@ use lib.Ieee.{Float}
 use Rattle.weights.specs.Worth.{zero64}
 use Rattle.scratch.specs.Cleared.{cleared}
 use Rattle.scratch.proofs.Means.{le-is, eq-is, both-is}
-use Rattle.meaning.specs.Free.{freeTo}
 use Rattle.constraints.specs.Triple.{room, triples, filled}
 use Rattle.constraints.proofs.Triples.{filled-rest, triples-filled}
 use Rattle.field.specs.declared.Counted.the-variants.{Counts, Refuses}
@@ -33,27 +31,8 @@ use Rattle.calls.proofs.Call as any
 use Rattle.calls.proofs.Usual as usual
 use Rattle.calls.proofs.Usual.{this-stage, other-stage}
 use Rattle.calls.proofs.Values.{never-room}
-use Rattle.ranking.specs.Ranking.{ranks}
-use Rattle.probes.specs.Call.{allConstraints, allValues, Left, left, fits, candidatesTable, result, candidatesCall, probeCall, probeLimitedCall}
-
--- ---- both calls are calls with a list of candidates
-
-pub probe-is : (F : Field) (s t k : List ℕ) (f : List Float) (u : List ℕ) → probeCall F s t k f u ≡ candidatesCall F s (freeTo s (variables F)) t k f u
-unfolding probeCall
-probe-is F s t k f u = refl
-
-pub limited-is : (F : Field) (s : List ℕ) (limit : ℕ) (t k : List ℕ) (f : List Float) (u : List ℕ)
-    → probeLimitedCall F s limit t k f u ≡ candidatesCall F s (take limit (ranks F s)) t k f u
-unfolding probeLimitedCall
-limited-is F s limit t k f u = refl
-
--- what an answer of done says
-pub record DoneSays (F : Field) (s cands t k : List ℕ) (f : List Float) (u : List ℕ) (g : Grade) (items : ℕ) : Type 0 where
-  pub ready : Ready F s (length f) (length u)
-  pub values-long : length t ≡ variables F
-  pub enough : length (allConstraints F s cands) ≤ room k
-  pub graded : g ≡ gradeOf F
-  pub counted : items ≡ length (allConstraints F s cands)
+use Rattle.probes.specs.Call.{allConstraints, allValues, Left, left, fits, candidatesTable, result, candidatesCall}
+use Rattle.probes.specs.Says.{DoneSays}
 
 module _ (F : Field) (s cands t k : List ℕ) (f : List Float) (u : List ℕ) where
   -- any two results that the promise permits are equal

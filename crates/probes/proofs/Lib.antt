@@ -1,4 +1,3 @@
-pub mod Rules
 pub mod Nones
 pub mod Standing
 pub mod Chosen
@@ -12,3 +11,5 @@ pub mod Exact
 pub mod Candidates
 pub mod Limited
 pub mod Calls
+pub mod FullCall
+pub mod LimitedCall

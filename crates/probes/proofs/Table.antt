@@ -17,7 +17,7 @@ use Rattle.probe.specs.Call.{newAt}
 use Rattle.probe.specs.Found.{Finding, nothing, value, constraint, joining, between, found}
 use Rattle.probe.proofs.Found.{none-constraint}
 use Rattle.finding.specs.Finds.{givesAt, findingOf, finding}
-use Rattle.probes.specs.Rule.{ordered}
+use Rattle.probes.specs.Rule.{ordered, Tabled}
 
 -- ---- the executable table is document 01's
 
@@ -26,12 +26,6 @@ same-constraint e = cc
 
 value-constraint : {w : ℕ} {c : Constraint} {A : Type 0} → value w ≡ constraint c → A
 value-constraint e = let z : _≡_ {A = ℕ} 0 1 = cc in absurd (omega arith)
-
--- a kind of the table, with the ends in the source's order
-pub record Tabled (i j a b : ℕ) (c : Constraint) : Type 0 where
-  pub kind : Kind
-  pub finds : Found a b kind
-  pub is : c ≡ ordered kind i j
 
 pub tabled : (i j a b : ℕ) → a ≤ 2 → b ≤ 2 → {c : Constraint} → found i j a b ≡ constraint c → Tabled i j a b c
 unfolding found

@@ -1,3 +1,4 @@
 pub mod Call
 pub mod Standing
 pub mod Rule
+pub mod Says

@@ -25,6 +25,12 @@ ordered greater-than i j = joining greater-than i j
 ordered less-than i j = joining less-than i j
 ordered equal i j = between equal i j
 
+-- c is the constraint of a kind of the table, with the ends in the source's order, where the probes of i give j a and b
+pub record Tabled (i j a b : ℕ) (c : Constraint) : Type 0 where
+  pub kind : Kind
+  pub finds : Found a b kind
+  pub is : c ≡ ordered kind i j
+
 -- ---- over whole numbers
 
 -- j is a free variable "other than i", and the probes of i at 0 and at 1 give it a and b, 2 for none

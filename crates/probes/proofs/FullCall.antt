@@ -1,0 +1,175 @@
+-- What `probe` promises: the three demands over `probeCall`. The start values are lent to be read alone, so no call changes them. Assumes nothing.
+use Prim.Native.Nat.{ℕ, _*_, _<_}
+use mathlib.Core.Path.{_≡_, sym, _∙_}
+use mathlib.Core.Logic.{_≢_, _↔_, _⊎_}
+use mathlib.Core.List.{List, List·Memᴰ}
+use native.Mathlib.Omega.{arith}
+use lib.ListN.{length, getD, drop}
+use lib.Ieee.{Float}
+use Rattle.weights.specs.Worth.{zero64}
+use Rattle.scratch.specs.Cleared.{cleared}
+use Rattle.meaning.specs.Field as meaning
+use Rattle.meaning.specs.Free.{freeTo}
+use Rattle.meaning.specs.Kinds.{Meets}
+use Rattle.meaning.proofs.Values.{inside}
+use Rattle.constraints.specs.Triple.{Triple, room, filled, constraintOf}
+use Rattle.constraints.specs.Sorted.{Rising}
+use Rattle.field.specs.declared.Counted.the-variants.{Counts, Refuses}
+use Rattle.field.specs.declared.Grade.{Grade}
+use Rattle.field.specs.declared.Grade.the-variants.{Exact}
+use Rattle.field.specs.declared.Refusal.{Refusal}
+use Rattle.field.specs.declared.Refusal.the-variants.{Room}
+use Rattle.field.specs.Field.{Field, variables}
+use Rattle.field.specs.Table.{FirstToFail}
+use Rattle.field.specs.Tests.{Ready}
+use Rattle.field.specs.Grade.{halves}
+use Rattle.field.specs.Reading.{wholeOf}
+use Rattle.probes.specs.Call.{allConstraints, allValues, Left, left, candidatesTable, probeCall}
+use Rattle.probes.specs.Rule.{FreeCandidates, Given, GivesValue, Finds, FindsValue, GreatestGives, NoFreeGives}
+use Rattle.probes.specs.Says.{listed, valueAt, DoneSays}
+use Rattle.probes.proofs.Demands as any
+use Rattle.probes.proofs.Calls as call
+use Rattle.probes.proofs.Candidates.{in-free, full-free, greatest-gives, none-free-gives}
+
+-- what counts as a candidate may be said in another way
+given-as : {G : meaning.Field} {s : List ℕ} {C D : ℕ → Type 0} {x : Triple} → ((i : ℕ) → C i → D i) → Given G s C x → Given G s D x
+given-as alike h = record {
+  candidate = h .candidate;
+  chosen = alike (h .candidate) (h .chosen);
+  variable = h .variable;
+  at-zero = h .at-zero;
+  at-one = h .at-one;
+  both = h .both;
+  kind = h .kind;
+  finds = h .finds;
+  is = h .is;
+}
+
+module _ (F : Field) (s t k : List ℕ) (f : List Float) (u : List ℕ) where
+  -- its candidates: the free variables, rising
+  abbrev free : List ℕ
+  free = freeTo s (variables F)
+
+  are-free : FreeCandidates s free
+  are-free = full-free s (variables F)
+
+  -- any two results that the promise permits are equal
+  pub probe-one-result : (x y : Left) → x ≡ probeCall F s t k f u → y ≡ probeCall F s t k f u → x ≡ y
+  probe-one-result x y p q = p ∙ sym q
+
+  -- ---- refusals
+
+  -- DEMAND 1. The call is refused with r exactly if the tests before r's own pass, and its own fails.
+  pub probe-refused-when : (r : Refusal) → (probeCall F s t k f u .answer ≡ Refuses r) ↔ FirstToFail (candidatesTable F s (freeTo s (variables F)) t k (length f) (length u)) r
+  unfolding probeCall
+  probe-refused-when = any.refused-when F s free t k f u
+
+  -- A refusal from 1 to 8 changes nothing lent.
+  pub probe-refused-leaves : (r : Refusal) → r ≢ Room → probeCall F s t k f u .answer ≡ Refuses r → probeCall F s t k f u ≡ left (Refuses r) t k f u
+  unfolding probeCall
+  probe-refused-leaves = any.refused-leaves F s free t k f u
+
+  -- 9 is given exactly if the tests before it pass, and the value list is not n long or more constraints are found, without repeats, than the list has room for.
+  pub probe-room-when : (probeCall F s t k f u .answer ≡ Refuses Room)
+      ↔ (Ready F s (length f) (length u) × ((length t ≢ variables F) ⊎ (room k < length (allConstraints F s (freeTo s (variables F))))))
+  unfolding probeCall
+  probe-room-when = any.room-when F s free t k f u
+
+  -- It leaves both answer lists and both scratches all zeros.
+  pub probe-room-leaves : probeCall F s t k f u .answer ≡ Refuses Room
+      → probeCall F s t k f u ≡ left (Refuses Room) (cleared 0 t) (cleared 0 k) (cleared zero64 f) (cleared 0 u)
+  unfolding probeCall
+  probe-room-leaves = any.room-leaves F s free t k f u
+
+  -- ---- done
+
+  -- The call is done exactly if every test passes, and then gives the grade and the number of constraints.
+  pub probe-done-when : (g : Grade) (count : ℕ) → (probeCall F s t k f u .answer ≡ Counts g count) ↔ DoneSays F s (freeTo s (variables F)) t k f u g count
+  unfolding probeCall
+  probe-done-when = any.done-when F s free t k f u
+
+  module _ {g : Grade} {count : ℕ} (e : probeCall F s t k f u .answer ≡ Counts g count) where
+    long : length s ≡ variables F
+    unfolding probeCall
+    long = call.start F s free t k f u e .long
+
+    -- Then the probe values are in the value list, the constraints at the front of their list, and both scratches are all zeros.
+    pub probe-done-leaves : probeCall F s t k f u
+        ≡ left (Counts g count) (allValues F s (freeTo s (variables F))) (filled (allConstraints F s (freeTo s (variables F))) k) (cleared zero64 f) (cleared 0 u)
+    unfolding probeCall
+    probe-done-leaves = any.done-leaves F s free t k f u g count e
+
+    -- The first triples of the list are the constraints, no more and no fewer, and elements past the last of them are unchanged.
+    pub probe-list-holds : listed count (probeCall F s t k f u) ≡ allConstraints F s (freeTo s (variables F))
+    unfolding probeCall
+    probe-list-holds = call.list-is F s free t k f u e
+
+    pub probe-past-unchanged : drop (3 * count) (probeCall F s t k f u .lent .constraints) ≡ drop (3 * count) k
+    unfolding probeCall
+    probe-past-unchanged = any.past-unchanged F s free t k f u g count e
+
+    -- On every field a triple is in the list exactly if the executable rule finds it with a free variable; the list is sorted, without repeats.
+    pub probe-list-finds : (x : Triple) → List·Memᴰ x (listed count (probeCall F s t k f u)) ↔ Finds F s (freeTo s (variables F)) x
+    unfolding probeCall
+    probe-list-finds = call.list-finds F s free t k f u e
+
+    pub probe-list-rising : Rising (listed count (probeCall F s t k f u))
+    unfolding probeCall
+    probe-list-rising = call.list-rising F s free t k f u e
+
+    -- On every field a value below 2 stands at j exactly if the greatest free variable that gives j one by the executable rule gives it, and 2 exactly if none does.
+    pub probe-value-finds : (j : ℕ) → j < variables F → (w : ℕ) → w < 2
+        → (valueAt j (probeCall F s t k f u) ≡ w) ↔ GreatestGives (λ i v. FindsValue F s i j v) s w
+    unfolding probeCall
+    probe-value-finds j below w small =
+        let z = call.value-finds F s free t k f u e j below w small in
+        let y = greatest-gives s (variables F) long w in
+        ((λ q. y .0 (z .0 q)), λ h. z .1 (y .1 h))
+
+    pub probe-none-finds : (j : ℕ) → j < variables F → (valueAt j (probeCall F s t k f u) ≡ 2) ↔ NoFreeGives (λ i v. FindsValue F s i j v) s
+    unfolding probeCall
+    probe-none-finds j below =
+        let z = call.none-finds F s free t k f u e j below in
+        let y = none-free-gives s (variables F) long in
+        ((λ q. y .0 (z .0 q)), λ h. z .1 (y .1 h))
+
+    -- "without the start values"
+    pub probe-start-left-out : (j : ℕ) → j < variables F → getD s j 0 ≢ 2 → valueAt j (probeCall F s t k f u) ≡ 2
+    unfolding probeCall
+    probe-start-left-out = call.start-left-out F s free t k f u e
+
+  -- ---- on an exact field, over whole numbers
+
+  module _ {count : ℕ} (e : probeCall F s t k f u .answer ≡ Counts Exact count) where
+    -- DEMAND 2. A triple is in the list exactly if the probes of a free variable give it.
+    pub probe-list-exact : (x : Triple) → List·Memᴰ x (listed count (probeCall F s t k f u)) ↔ Given (wholeOf halves F) s (λ i. getD s i 0 ≡ 2) x
+    unfolding probeCall
+    probe-list-exact x =
+        let z = call.list-exact F s free t k f u are-free e x in
+        ((λ m. given-as are-free (z .0 m)), λ h. z .1 (given-as (λ i q. in-free s (variables F) i (omega (arith, inside s i q, long e)) q) h))
+
+    -- A value below 2 stands at j exactly if the greatest free variable whose two probes give j one value gives it, and 2 exactly if none does.
+    pub probe-values-exact : (j : ℕ) → j < variables F → (w : ℕ) → w < 2
+        → (valueAt j (probeCall F s t k f u) ≡ w) ↔ GreatestGives (λ i v. GivesValue (wholeOf halves F) s i j v) s w
+    unfolding probeCall
+    probe-values-exact j below w small =
+        let z = call.values-exact F s free t k f u are-free e j below w small in
+        let y = greatest-gives s (variables F) (long e) w in
+        ((λ q. y .0 (z .0 q)), λ h. z .1 (y .1 h))
+
+    pub probe-none-exact : (j : ℕ) → j < variables F → (valueAt j (probeCall F s t k f u) ≡ 2) ↔ NoFreeGives (λ i v. GivesValue (wholeOf halves F) s i j v) s
+    unfolding probeCall
+    probe-none-exact j below =
+        let z = call.none-exact F s free t k f u are-free e j below in
+        let y = none-free-gives s (variables F) (long e) in
+        ((λ q. y .0 (z .0 q)), λ h. z .1 (y .1 h))
+
+    -- DEMAND 3. Every best completion of the start values has every value of the answer, and meets every constraint.
+    module _ {x : List ℕ} (best : meaning.Best (wholeOf halves F) s x) where
+      pub probe-best-has-values : (j : ℕ) → j < variables F → valueAt j (probeCall F s t k f u) < 2 → getD x j 0 ≡ valueAt j (probeCall F s t k f u)
+      unfolding probeCall
+      probe-best-has-values = call.best-has-values F s free t k f u are-free e best
+
+      pub probe-best-meets-all : (c : Triple) → List·Memᴰ c (listed count (probeCall F s t k f u)) → Meets x (constraintOf c)
+      unfolding probeCall
+      probe-best-meets-all = call.best-meets-all F s free t k f u are-free e best

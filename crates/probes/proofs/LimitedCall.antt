@@ -1,0 +1,198 @@
+-- What `probe_limited` promises: the three demands over `probeLimitedCall`, as FullCall has them over `probeCall`, and the limit. Assumes nothing.
+use Prim.Native.Nat.{ℕ, _*_, _<_, _≤_}
+use mathlib.Core.Path.{_≡_, refl, sym, ap, _∙_, subst}
+use mathlib.Core.Logic.{_≢_, _↔_, _⊎_}
+use mathlib.Core.List.{List, [], List·Memᴰ}
+use native.Mathlib.Omega.{arith}
+use lib.ListN.{length, getD, take, drop, replicate}
+use lib.Ieee.{Float}
+use Rattle.weights.specs.Worth.{zero64}
+use Rattle.scratch.specs.Cleared.{cleared}
+use Rattle.meaning.specs.Field as meaning
+use Rattle.meaning.specs.Free.{freeTo}
+use Rattle.meaning.specs.Kinds.{Meets}
+use Rattle.constraints.specs.Triple.{Triple, room, filled, constraintOf}
+use Rattle.constraints.specs.Sorted.{Rising, sortedSet}
+use Rattle.constraints.proofs.Triples.{filled-none}
+use Rattle.field.specs.declared.Counted.the-variants.{Counts, Refuses}
+use Rattle.field.specs.declared.Grade.{Grade}
+use Rattle.field.specs.declared.Grade.the-variants.{Exact}
+use Rattle.field.specs.declared.Refusal.{Refusal}
+use Rattle.field.specs.declared.Refusal.the-variants.{Room}
+use Rattle.field.specs.Field.{Field, variables}
+use Rattle.field.specs.Table.{FirstToFail}
+use Rattle.field.specs.Tests.{Ready}
+use Rattle.field.specs.Grade.{halves, gradeOf}
+use Rattle.field.specs.Reading.{wholeOf}
+use Rattle.ranking.specs.Ranking.{ranks}
+use Rattle.ranking.specs.Rightly.{RightlyRanked}
+use Rattle.ranking.specs.EdgeMass.{RankedByMass}
+use Rattle.ranking.proofs.Theorems.{ranks-only}
+use Rattle.ranking.proofs.ExactMass.{ranks-exact}
+use Rattle.finding.specs.Finds.{constraintsOf, valuesOf}
+use Rattle.probes.specs.Call.{allConstraints, allValues, Left, left, candidatesTable, probeCall, probeLimitedCall}
+use Rattle.probes.specs.Rule.{FreeCandidates, Given, GivesValue, Finds, FindsValue, LastGives, NoneGives}
+use Rattle.probes.specs.Says.{listed, valueAt, DoneSays, SameButValues}
+use Rattle.probes.proofs.Demands as any
+use Rattle.probes.proofs.Calls as call
+use Rattle.probes.proofs.Candidates.{limited-free, larger-finds}
+use Rattle.probes.proofs.Limited.{limit-all, calls-same}
+
+module _ (F : Field) (s : List ℕ) (limit : ℕ) (t k : List ℕ) (f : List Float) (u : List ℕ) where
+  -- its candidates: the first of the free variables by falling edge mass, then rising index
+  abbrev chosen : List ℕ
+  chosen = take limit (ranks F s)
+
+  are-free : FreeCandidates s chosen
+  are-free = limited-free F s limit
+
+  -- any two results that the promise permits are equal
+  pub limited-one-result : (x y : Left) → x ≡ probeLimitedCall F s limit t k f u → y ≡ probeLimitedCall F s limit t k f u → x ≡ y
+  limited-one-result x y p q = p ∙ sym q
+
+  -- ---- refusals
+
+  -- DEMAND 1. The call is refused with r exactly if the tests before r's own pass, and its own fails.
+  pub limited-refused-when : (r : Refusal)
+      → (probeLimitedCall F s limit t k f u .answer ≡ Refuses r) ↔ FirstToFail (candidatesTable F s (take limit (ranks F s)) t k (length f) (length u)) r
+  unfolding probeLimitedCall
+  limited-refused-when = any.refused-when F s chosen t k f u
+
+  -- A refusal from 1 to 8 changes nothing lent.
+  pub limited-refused-leaves : (r : Refusal) → r ≢ Room → probeLimitedCall F s limit t k f u .answer ≡ Refuses r → probeLimitedCall F s limit t k f u ≡ left (Refuses r) t k f u
+  unfolding probeLimitedCall
+  limited-refused-leaves = any.refused-leaves F s chosen t k f u
+
+  -- 9 is given exactly if the tests before it pass, and the value list is not n long or more constraints are found, without repeats, than the list has room for.
+  pub limited-room-when : (probeLimitedCall F s limit t k f u .answer ≡ Refuses Room)
+      ↔ (Ready F s (length f) (length u) × ((length t ≢ variables F) ⊎ (room k < length (allConstraints F s (take limit (ranks F s))))))
+  unfolding probeLimitedCall
+  limited-room-when = any.room-when F s chosen t k f u
+
+  -- It leaves both answer lists and both scratches all zeros.
+  pub limited-room-leaves : probeLimitedCall F s limit t k f u .answer ≡ Refuses Room
+      → probeLimitedCall F s limit t k f u ≡ left (Refuses Room) (cleared 0 t) (cleared 0 k) (cleared zero64 f) (cleared 0 u)
+  unfolding probeLimitedCall
+  limited-room-leaves = any.room-leaves F s chosen t k f u
+
+  -- ---- done
+
+  -- The call is done exactly if every test passes, and then gives the grade and the number of constraints.
+  pub limited-done-when : (g : Grade) (count : ℕ) → (probeLimitedCall F s limit t k f u .answer ≡ Counts g count) ↔ DoneSays F s (take limit (ranks F s)) t k f u g count
+  unfolding probeLimitedCall
+  limited-done-when = any.done-when F s chosen t k f u
+
+  module _ {g : Grade} {count : ℕ} (e : probeLimitedCall F s limit t k f u .answer ≡ Counts g count) where
+    -- Then the probe values are in the value list, the constraints at the front of their list, and both scratches are all zeros.
+    pub limited-done-leaves : probeLimitedCall F s limit t k f u
+        ≡ left (Counts g count) (allValues F s (take limit (ranks F s))) (filled (allConstraints F s (take limit (ranks F s))) k) (cleared zero64 f) (cleared 0 u)
+    unfolding probeLimitedCall
+    limited-done-leaves = any.done-leaves F s chosen t k f u g count e
+
+    -- The first triples of the list are the constraints, no more and no fewer, and elements past the last of them are unchanged.
+    pub limited-list-holds : listed count (probeLimitedCall F s limit t k f u) ≡ allConstraints F s (take limit (ranks F s))
+    unfolding probeLimitedCall
+    limited-list-holds = call.list-is F s chosen t k f u e
+
+    pub limited-past-unchanged : drop (3 * count) (probeLimitedCall F s limit t k f u .lent .constraints) ≡ drop (3 * count) k
+    unfolding probeLimitedCall
+    limited-past-unchanged = any.past-unchanged F s chosen t k f u g count e
+
+    pub limited-list-rising : Rising (listed count (probeLimitedCall F s limit t k f u))
+    unfolding probeLimitedCall
+    limited-list-rising = call.list-rising F s chosen t k f u e
+
+    -- "without the start values"
+    pub limited-start-left-out : (j : ℕ) → j < variables F → getD s j 0 ≢ 2 → valueAt j (probeLimitedCall F s limit t k f u) ≡ 2
+    unfolding probeLimitedCall
+    limited-start-left-out = call.start-left-out F s chosen t k f u e
+
+    -- On every field, for every list in which the free variables are ranked:
+    module _ (L : List ℕ) (ranked : RightlyRanked F s L) where
+      front-is : take limit L ≡ chosen
+      unfolding probeLimitedCall
+      front-is = ap (take limit) (ranks-only F s (call.finite-weights F s chosen t k f u e) L ranked)
+
+      -- a triple is in the list exactly if the executable rule finds it with one of the first `limit` of them;
+      pub limited-list-finds : (x : Triple) → List·Memᴰ x (listed count (probeLimitedCall F s limit t k f u)) ↔ Finds F s (take limit L) x
+      unfolding probeLimitedCall
+      limited-list-finds x = rw front-is (call.list-finds F s chosen t k f u e x)
+
+      -- a value below 2 stands at j exactly if the last of these that gives j one by the executable rule gives it, and 2 exactly if none does.
+      pub limited-value-finds : (j : ℕ) → j < variables F → (w : ℕ) → w < 2
+          → (valueAt j (probeLimitedCall F s limit t k f u) ≡ w) ↔ LastGives (λ i v. FindsValue F s i j v) (take limit L) (length (take limit L)) w
+      unfolding probeLimitedCall
+      limited-value-finds j below w small = rw front-is (call.value-finds F s chosen t k f u e j below w small)
+
+      pub limited-none-finds : (j : ℕ) → j < variables F
+          → (valueAt j (probeLimitedCall F s limit t k f u) ≡ 2) ↔ NoneGives (λ i v. FindsValue F s i j v) (take limit L) (length (take limit L))
+      unfolding probeLimitedCall
+      limited-none-finds j below = rw front-is (call.none-finds F s chosen t k f u e j below)
+
+  -- ---- on an exact field, over whole numbers
+
+  module _ {count : ℕ} (e : probeLimitedCall F s limit t k f u .answer ≡ Counts Exact count) where
+    -- A list is ranked by edge mass exactly if it is the ranks.
+    by-mass : (L : List ℕ) → (L ≡ ranks F s) ↔ RankedByMass (wholeOf halves F) s L
+    unfolding probeLimitedCall
+    by-mass =
+        ranks-exact (call.shaped F s chosen t k f u are-free e) (call.finite-weights F s chosen t k f u e) (call.is-exact F s chosen t k f u are-free e) s
+
+    -- There is such a list.
+    pub limited-by-mass : RankedByMass (wholeOf halves F) s (ranks F s)
+    limited-by-mass = by-mass (ranks F s) .0 refl
+
+    -- For every list in which the free variables go by falling edge mass, then rising index:
+    module _ (L : List ℕ) (ranked : RankedByMass (wholeOf halves F) s L) where
+      first-is : take limit L ≡ chosen
+      first-is = ap (take limit) (by-mass L .1 ranked)
+
+      -- DEMAND 2. A triple is in the list exactly if the probes of one of the first `limit` of them give it.
+      pub limited-list-exact : (x : Triple) → List·Memᴰ x (listed count (probeLimitedCall F s limit t k f u)) ↔ Given (wholeOf halves F) s (λ i. List·Memᴰ i (take limit L)) x
+      unfolding probeLimitedCall
+      limited-list-exact x = rw first-is (call.list-exact F s chosen t k f u are-free e x)
+
+      -- A value below 2 stands at j exactly if the last of these whose two probes give j one value gives it, and 2 exactly if none does.
+      pub limited-values-exact : (j : ℕ) → j < variables F → (w : ℕ) → w < 2
+          → (valueAt j (probeLimitedCall F s limit t k f u) ≡ w) ↔ LastGives (λ i v. GivesValue (wholeOf halves F) s i j v) (take limit L) (length (take limit L)) w
+      unfolding probeLimitedCall
+      limited-values-exact j below w small = rw first-is (call.values-exact F s chosen t k f u are-free e j below w small)
+
+      pub limited-none-exact : (j : ℕ) → j < variables F
+          → (valueAt j (probeLimitedCall F s limit t k f u) ≡ 2) ↔ NoneGives (λ i v. GivesValue (wholeOf halves F) s i j v) (take limit L) (length (take limit L))
+      unfolding probeLimitedCall
+      limited-none-exact j below = rw first-is (call.none-exact F s chosen t k f u are-free e j below)
+
+    -- DEMAND 3. Every best completion of the start values has every value of the answer, and meets every constraint.
+    module _ {x : List ℕ} (best : meaning.Best (wholeOf halves F) s x) where
+      pub limited-best-has-values : (j : ℕ) → j < variables F → valueAt j (probeLimitedCall F s limit t k f u) < 2 → getD x j 0 ≡ valueAt j (probeLimitedCall F s limit t k f u)
+      unfolding probeLimitedCall
+      limited-best-has-values = call.best-has-values F s chosen t k f u are-free e best
+
+      pub limited-best-meets-all : (c : Triple) → List·Memᴰ c (listed count (probeLimitedCall F s limit t k f u)) → Meets x (constraintOf c)
+      unfolding probeLimitedCall
+      limited-best-meets-all = call.best-meets-all F s chosen t k f u are-free e best
+
+-- ---- the limit
+
+-- "A limit of 0 gives empty lists": no constraint, every probe value 2, and the list of constraints as it was.
+pub limit-none : (F : Field) (s t k : List ℕ) (f : List Float) (u : List ℕ) → Ready F s (length f) (length u) → length t ≡ variables F
+    → probeLimitedCall F s 0 t k f u ≡ left (Counts (gradeOf F) 0) (replicate (variables F) 2) k (cleared zero64 f) (cleared 0 u)
+unfolding probeLimitedCall allConstraints constraintsOf sortedSet allValues valuesOf
+limit-none F s t k f u ready long =
+    let done = any.done-when F s [] t k f u (gradeOf F) 0 .1 (record { ready = ready; values-long = long; enough = omega arith; graded = refl; counted = refl }) in
+    any.done-leaves F s [] t k f u (gradeOf F) 0 done ∙ ap (λ (z : List ℕ). left (Counts (gradeOf F) 0) (replicate (variables F) 2) z (cleared zero64 f) (cleared 0 u)) (filled-none k)
+
+-- A larger limit finds every constraint that a smaller one finds, where both are done.
+pub larger-limit : (F : Field) (s : List ℕ) (limit more : ℕ) → limit ≤ more
+    → (t k : List ℕ) (f : List Float) (u t′ k′ : List ℕ) (f′ : List Float) (u′ : List ℕ) {g g′ : Grade} {count count′ : ℕ}
+    → probeLimitedCall F s limit t k f u .answer ≡ Counts g count → probeLimitedCall F s more t′ k′ f′ u′ .answer ≡ Counts g′ count′
+    → (x : Triple) → List·Memᴰ x (listed count (probeLimitedCall F s limit t k f u)) → List·Memᴰ x (listed count′ (probeLimitedCall F s more t′ k′ f′ u′))
+larger-limit F s limit more h t k f u t′ k′ f′ u′ e e′ x m =
+    rw (limited-list-holds F s more t′ k′ f′ u′ e′) (larger-finds F s limit more h x (rw (limited-list-holds F s limit t k f u e) at m))
+
+-- With a limit of at least the number of free variables the limited call answers and leaves what the full one does, but for the probe values.
+pub limited-as-full : (F : Field) (s : List ℕ) (limit : ℕ) (t k : List ℕ) (f : List Float) (u : List ℕ) → length (freeTo s (variables F)) ≤ limit
+    → SameButValues (probeLimitedCall F s limit t k f u) (probeCall F s t k f u)
+unfolding probeLimitedCall probeCall
+limited-as-full F s limit t k f u h = calls-same _ F s (take limit (ranks F s)) (freeTo s (variables F)) t k f u refl (limit-all F s limit h)
