@@ -57,10 +57,6 @@ same-count : {g h : Grade} {k l : ℕ} → Counts g k ≡ Counts h l → (g ≡ 
 same-count {g} {h} {k} {l} e = let a : g ≡ h = cc in let b : k ≡ l = cc in (a, b)
 
 module _ (F : Field) (s : List ℕ) (least : ℕ) (list : List ℕ) (f : List Float) (u : List ℕ) where
-  -- the anchors that the model finds
-  abbrev full : List ℕ
-  full = anchorsOf F s least
-
   -- DEMAND 1. The call is refused with r exactly if the tests before r's own pass, and its own fails: 9 is the last, for more anchors than the list has places.
   pub refused-when : (r : Refusal) → (anchorsCall F s least list f u .answer ≡ Refuses r) ↔ FirstToFail (anchorTable F s least list (length f) (length u)) r
   unfolding anchorsCall table
@@ -72,7 +68,7 @@ module _ (F : Field) (s : List ℕ) (least : ℕ) (list : List ℕ) (f : List Fl
   refused-leaves r n e = usual.refused-leaves Refuses _ _ _ _ same-refuses counts-apart r (other-stage n no-stage) e
 
   -- It is 9 exactly if all other tests pass and there are more anchors than places,
-  pub room-when : (anchorsCall F s least list f u .answer ≡ Refuses Room) ↔ (Admitted F s (length f) (length u) × (length list < length full))
+  pub room-when : (anchorsCall F s least list f u .answer ≡ Refuses Room) ↔ (Admitted F s (length f) (length u) × (length list < length (anchorsOf F s least)))
   unfolding anchorsCall
   room-when =
       let t = usual.last-when Refuses _ _ Room _ _ same-refuses counts-apart (never-room F s (length f) (length u)) (fits F s least list) in
@@ -85,29 +81,29 @@ module _ (F : Field) (s : List ℕ) (least : ℕ) (list : List ℕ) (f : List Fl
   room-leaves e = usual.later-leaves Refuses _ _ _ _ same-refuses counts-apart Room _ (never-room F s (length f) (length u)) (this-stage no-stage) e
 
   -- It is done exactly if the field, the start values and both scratches are as the table asks, and the list has room; it then gives the grade and the count.
-  pub done-when : (anchorsCall F s least list f u .answer ≡ Counts (gradeOf F) (length full)) ↔ (Admitted F s (length f) (length u) × (length full ≤ length list))
+  pub done-when : (anchorsCall F s least list f u .answer ≡ Counts (gradeOf F) (length (anchorsOf F s least))) ↔ (Admitted F s (length f) (length u) × (length (anchorsOf F s least) ≤ length list))
   unfolding anchorsCall table
   done-when =
       usual.done-when Refuses _ _ _ _ same-refuses counts-apart
-      (group-is (anchorTests F s (length f) (length u)) _ (admitted-passes F s (length f) (length u)) (last-is Room _ (le-is (length full) (length list))))
+      (group-is (anchorTests F s (length f) (length u)) _ (admitted-passes F s (length f) (length u)) (last-is Room _ (le-is (length (anchorsOf F s least)) (length list))))
 
   module _ (g : Grade) (k : ℕ) (e : anchorsCall F s least list f u .answer ≡ Counts g k) where
     -- Then the anchors stand at the front of the list, what is past the last is unchanged, and both scratches are all zeros.
-    pub done-leaves : anchorsCall F s least list f u ≡ left (Counts (gradeOf F) (length full)) (over full list) (cleared zero64 f) (cleared 0 u)
+    pub done-leaves : anchorsCall F s least list f u ≡ left (Counts (gradeOf F) (length (anchorsOf F s least))) (over (anchorsOf F s least) list) (cleared zero64 f) (cleared 0 u)
     unfolding anchorsCall
     done-leaves = usual.done-leaves Refuses _ _ _ _ same-refuses counts-apart (λ r z. counts-apart r (sym e ∙ z))
 
-    answered : Counts (gradeOf F) (length full) ≡ anchorsCall F s least list f u .answer
+    answered : Counts (gradeOf F) (length (anchorsOf F s least)) ≡ anchorsCall F s least list f u .answer
     answered = ap (λ (x : Left). x .answer) (sym done-leaves)
 
     fit : Admitted F s (length f) (length u)
     fit = done-when .0 (sym answered) .0
 
-    told : (gradeOf F ≡ g) × (length full ≡ k)
+    told : (gradeOf F ≡ g) × (length (anchorsOf F s least) ≡ k)
     told = same-count (answered ∙ e)
 
-    items : take k (anchorsCall F s least list f u .lent .list) ≡ full
-    items = ap (λ (x : Left). take k (x .lent .list)) done-leaves ∙ over-front full list (told .1)
+    items : take k (anchorsCall F s least list f u .lent .list) ≡ anchorsOf F s least
+    items = ap (λ (x : Left). take k (x .lent .list)) done-leaves ∙ over-front (anchorsOf F s least) list (told .1)
 
     -- DEMAND 2. They are those that the rule gives: of the components, in the order of their lowest variables, each that is symmetric, without a start value and large enough
     -- has one, the variable with the greatest weight, then the lowest index.

@@ -20,7 +20,7 @@ use Rattle.field.specs.Field.{Field, variables, entries, rowEnd, columnEnd, Sta
 use Rattle.field.specs.Reading.{wholeOf}
 use Rattle.field.proofs.Reading.{linear-worth, linear-under}
 use Rattle.rows.proofs.Counted.{coeff-worth, weight-under}
-use Rattle.margins.specs.Exact.{Exact}
+use Rattle.margins.specs.Exact.{Exact, counts, mass-of}
 use Rattle.margins.specs.Model.{Op, atEnd, overEnds, overAll, addFixedEnd, addMagnitude, addBetween, kept, belowZero, aboveZero, linearPart, mergedWeight, mass}
 
 choice : {u : ℕ} (b : Bool) {y z : Float} {a : Whole} → (T b → Worth u y a) → (T (not b) → Worth u z a) → Worth u (cond b y z) a
@@ -63,14 +63,6 @@ kept-worth {u} {x} {a} h = go (eq x zero64) refl
 pub record Adds (u : ℕ) (op : Op) (g : Whole → ℕ → Whole) : Type 0 where
   pub small : (q : Whole) (j : ℕ) → Under (2 ^ 31) q → Under (2 ^ 31) (g q j)
   pub adds : (x a : Float) (b q : Whole) (j : ℕ) → Worth u x b → Under (2 ^ 50) b → Worth u a q → Under (2 ^ 31) q → Worth u (op x a j) (b ⊕ g q j)
-
--- what entry e counts at i
-abbrev pub counts : ℕ → Field → (Whole → ℕ → Whole) → ℕ → ℕ → Whole
-counts u F g i e = only (eqb (rowEnd F e) i) (g (wholeOf u F .weight e) (columnEnd F e)) ⊕ only (eqb (columnEnd F e) i) (g (wholeOf u F .weight e) (rowEnd F e))
-
--- |c|, and |q| of each entry at i
-abbrev pub mass-of : ℕ → Field → ℕ → Whole
-mass-of u F i = size (wholeOf u F .linear i) ⊕ sum (entries F) (counts u F (λ q j. size q) i)
 
 module _ {u : ℕ} {F : Field} (x : Exact u F) where
   module _ {op : Op} {g : Whole → ℕ → Whole} (law : Adds u op g) (i : ℕ) where

@@ -16,10 +16,10 @@ use Rattle.weights.specs.Worth.{Worth}
 use Rattle.weights.proofs.Worth.{add-worth, le-worth}
 use Rattle.field.specs.Field.{Field, variables}
 use Rattle.meaning.specs.Pair.{Tolerance}
-use Rattle.margins.specs.Exact.{Exact}
+use Rattle.margins.specs.Exact.{Exact, mass-of}
 use Rattle.margins.specs.Exceeds.{Exceeds}
 use Rattle.margins.specs.Model.{one64, tiny64, atLeastOne, mass, tolerance}
-use Rattle.margins.proofs.Ends.{mass-of, mass-worth, mass-under}
+use Rattle.margins.proofs.Ends.{mass-worth, mass-under}
 
 -- ---- to exceed a float: numbers with hundreds of digits stay behind variables, since omega refuses them
 more : (N W a b c d : ℕ) → a + d ≤ c + b → N + b * W < a * W → N + d * W < c * W

@@ -31,7 +31,7 @@ use Rattle.calls.proofs.Call as any
 use Rattle.calls.proofs.Usual as usual
 use Rattle.calls.proofs.Usual.{this-stage, other-stage}
 use Rattle.no_effect.specs.Effect.{hasNoEffect, noEffect, NoEntry}
-use Rattle.no_effect.specs.Call.{Left, left, wordTests, Prepared, fits, noEffectTests, noEffectCall}
+use Rattle.no_effect.specs.Call.{Left, left, wordTests, Prepared, fits, noEffectTests, noEffectCall, item}
 use Rattle.no_effect.proofs.Laws.{word-passes, never-room}
 use Rattle.no_effect.proofs.Listed.{chosen-passes, chosen-rises, chosen-all, effect-means, effect-exact}
 
@@ -86,22 +86,18 @@ module _ (F : Field) (l u : List ℕ) where
     answer-is : (g ≡ gradeOf F) × (m ≡ length (noEffect F))
     answer-is = same-counts (sym e ∙ ap (λ (x : Left). x .answer) done-leaves)
 
-    -- item t of the list
-    abbrev item : ℕ → ℕ
-    item t = getD (noEffectCall F l u .lent .list) t 0
-
-    item-is : (t : ℕ) → t < m → item t ≡ getD (noEffect F) t 0
+    item-is : (t : ℕ) → t < m → item F l u t ≡ getD (noEffect F) t 0
     item-is t h = ap (λ (x : Left). getD (x .lent .list) t 0) done-leaves ∙ over-at (noEffect F) l t 0 (omega (arith, answer-is .1))
 
     -- Each of the m items is a variable with no entry and c = 0 ..
-    pub items-idle : (t : ℕ) → t < m → (item t < variables F) × (NoEntry F (item t) × (eq (linearOf F (item t)) zero64 ≡ true))
+    pub items-idle : (t : ℕ) → t < m → (item F l u t < variables F) × (NoEntry F (item F l u t) × (eq (linearOf F (item F l u t)) zero64 ≡ true))
     unfolding noEffect
     items-idle t h =
         let c = chosen-passes (hasNoEffect F) 0 (variables F) t (omega (arith, answer-is .1)) in
         rw (item-is t h) (omega (arith, c .1 .1), effect-means F _ (shaped .rows-long) .0 (c .0))
 
     -- .. each such variable is an item ..
-    pub idle-items : (i : ℕ) → i < variables F → NoEntry F i → eq (linearOf F i) zero64 ≡ true → (t : ℕ) × ((t < m) × (item t ≡ i))
+    pub idle-items : (i : ℕ) → i < variables F → NoEntry F i → eq (linearOf F i) zero64 ≡ true → (t : ℕ) × ((t < m) × (item F l u t ≡ i))
     unfolding noEffect
     idle-items i h apart zero =
         let w = chosen-all (hasNoEffect F) 0 (variables F) i (effect-means F i (shaped .rows-long) .1 (apart, zero), (omega arith, omega arith)) in
@@ -109,19 +105,19 @@ module _ (F : Field) (l u : List ℕ) where
         (w .0, (l, item-is (w .0) l ∙ w .1 .1))
 
     -- .. and they rise.
-    pub items-rise : (t : ℕ) → suc t < m → item t < item (suc t)
+    pub items-rise : (t : ℕ) → suc t < m → item F l u t < item F l u (suc t)
     unfolding noEffect
     items-rise t h = rw (item-is t (omega arith), item-is (suc t) h) (chosen-rises (hasNoEffect F) 0 (variables F) t (omega (arith, answer-is .1)))
 
 -- On an exact field they are exactly the variables of no effect over whole numbers.
 module _ (F : Field) (l u : List ℕ) {m : ℕ} (e : noEffectCall F l u .answer ≡ Counts Exact m) where
-  pub exact-items : (t : ℕ) → t < m → NoEffect (wholeOf halves F) (item F l u e t)
+  pub exact-items : (t : ℕ) → t < m → NoEffect (wholeOf halves F) (item F l u t)
   exact-items t h =
       let i = items-idle F l u e t h in
       let x = exact-means F (shaped F l u e .rows-long) .0 (sym (answer-is F l u e .0)) in
       effect-exact _ (shaped F l u e) x (i .0) .0 (effect-means F _ (shaped F l u e .rows-long) .1 (i .1))
 
-  pub exact-all : (i : ℕ) → i < variables F → NoEffect (wholeOf halves F) i → (t : ℕ) × ((t < m) × (item F l u e t ≡ i))
+  pub exact-all : (i : ℕ) → i < variables F → NoEffect (wholeOf halves F) i → (t : ℕ) × ((t < m) × (item F l u t ≡ i))
   exact-all i h n =
       let x = exact-means F (shaped F l u e .rows-long) .0 (sym (answer-is F l u e .0)) in
       let w = effect-means F i (shaped F l u e .rows-long) .0 (effect-exact i (shaped F l u e) x h .1 n) in

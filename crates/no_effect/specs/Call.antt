@@ -3,7 +3,7 @@ use Prim.Native.Nat.{ℕ, _+_, _*_, _≤_}
 use mathlib.Core.Bool.{Bool}
 use mathlib.Core.List.{List, [], _∷_, _++_}
 use lib.Dec.{leb}
-use lib.ListN.{length}
+use lib.ListN.{length, getD}
 use Rattle.scratch.specs.Cleared.{cleared}
 use Rattle.scratch.specs.Over.{over}
 use Rattle.field.specs.declared.Counted.{Counted}
@@ -56,3 +56,7 @@ noEffectCall F l u =
     called
     (usual Refuses (lent l u) (wordTests F (length u)) (stage Room (fits F l) (lent (cleared 0 l) (cleared 0 u)) ∷ [])
     (left (Counts (gradeOf F) (length (noEffect F))) (over (noEffect F) l) (cleared 0 u)))
+
+-- item t of the list that is left
+abbrev pub item : Field → List ℕ → List ℕ → ℕ → ℕ
+item F l u t = getD (noEffectCall F l u .lent .list) t 0

@@ -56,7 +56,7 @@ module _ {F : Field} (S : Shaped F) (x : ExactIn halves F) (s : List ℕ) where
         (λ r c. x .standard k (omega arith) (eqb-true (rowEnd F k) i r ∙ sym (eqb-true (columnEnd F k) i c)))
         (mass-to-worth k (omega arith)) (magnitude-worth (quad-worth x k (omega arith))) (omega (arith, edges-under k (omega arith), size-under k (omega arith)))
 
-    pub mass-worth : Worth (suc halves) (massOf F s i) (edge-mass W s i)
+    pub mass-worth : Worth (suc halves) (massOf F s i) (edge-mass (wholeOf halves F) s i)
     unfolding massOf
     mass-worth = mass-to-worth (entries F) (omega arith)
 
@@ -66,7 +66,7 @@ module _ {F : Field} (S : Shaped F) (x : ExactIn halves F) (s : List ℕ) where
   mass = edge-mass W s
 
   -- a variable goes ahead of another exactly if it does in whole numbers
-  pub ahead-exact : (i j : ℕ) → (ahead (massOf F s) i j ≡ true) ↔ Ahead W s i j
+  pub ahead-exact : (i j : ℕ) → (ahead (massOf F s) i j ≡ true) ↔ Ahead (wholeOf halves F) s i j
   unfolding ahead
   ahead-exact i j =
       go (lt (massOf F s j) (massOf F s i)) (lt (massOf F s i) (massOf F s j)) (lt-worth (mass-worth j) (mass-worth i)) (lt-worth (mass-worth i) (mass-worth j))
