@@ -3,6 +3,7 @@ use Prim.Native.Nat.{ℕ, _<_, _≤_}
 use mathlib.Core.Path.{_≡_, refl, _∙_}
 use mathlib.Core.Bool.{true}
 use mathlib.Core.Logic.{_↔_}
+use native.Mathlib.Omega.{arith}
 use mathlib.Core.List.{List}
 use borrow.Author.Tests.{le-leb, lt-leb}
 use lib.ListN.{length, replicate}
@@ -20,6 +21,7 @@ use Rattle.field.specs.Tests.{shapeTests, looseTests}
 use Rattle.field.specs.Grade.{gradeOf}
 use Rattle.field.proofs.Table.{group-is, pass-is, last-is}
 use Rattle.field.proofs.Means.{start-means, floats-mean, words-mean, loose-passes}
+use Rattle.field.proofs.Faults.{fault-other}
 use Rattle.calls.specs.Call.{without}
 use Rattle.calls.proofs.Usual as usual
 use Rattle.anchors.specs.Model.{anchorsOf}
@@ -40,7 +42,7 @@ admitted-passes F s floats words =
 -- none of the tests gives 9
 pub never-room : (F : Field) (s : List ℕ) (floats words : ℕ) → without Room (anchorTests F s floats words) ≡ true
 unfolding without anchorTests looseTests shapeTests
-never-room F s floats words = refl
+never-room F s floats words = rw (fault-other (variables F) (F .rows) (F .cols) 9 (omega arith)) refl
 
 module _ (F : Field) (s : List ℕ) (least : ℕ) (list : List ℕ) (f : List Float) (u : List ℕ) where
   pub refused-call : {r : Refusal} → tested (anchorTests F s (length f) (length u)) ≡ Failed r → left (Refuses r) list f u ≡ anchorsCall F s least list f u

@@ -3,6 +3,7 @@ use Prim.Native.Nat.{ℕ}
 use mathlib.Core.Path.{_≡_, refl, sym, ap, _∙_}
 use mathlib.Core.Logic.{_↔_}
 use mathlib.Core.Bool.{true}
+use native.Mathlib.Omega.{arith}
 use mathlib.Core.List.{List, [], append-nil}
 use lib.ListN.{length, replicate}
 use lib.Ieee.{Float}
@@ -21,6 +22,7 @@ use Rattle.field.specs.Tests.{shapeTests, standardTests, readyTests, Ready}
 use Rattle.field.specs.Grade.{halves, gradeOf, ExactIn}
 use Rattle.field.proofs.Means.{ready-passes}
 use Rattle.field.proofs.Exact.{exact-means}
+use Rattle.field.proofs.Faults.{fault-other}
 use Rattle.calls.specs.Call.{run, table, no-stage, without}
 use Rattle.calls.specs.Values.{Left, left, lent, Values, valuesCall}
 use Rattle.calls.proofs.Answers.{same-refused, done-apart}
@@ -74,7 +76,7 @@ module _ (values : Values) (F : Field) (s : List ℕ) (f : List Float) (u : List
 -- none of tests 1 to 6 and 8 gives 9
 pub never-room : (F : Field) (s : List ℕ) (floats words : ℕ) → without Room (readyTests F s floats words) ≡ true
 unfolding without readyTests standardTests shapeTests
-never-room F s floats words = refl
+never-room F s floats words = rw (fault-other (variables F) (F .rows) (F .cols) 9 (omega arith)) refl
 
 -- ---- how code meets the promise: its tests give k
 

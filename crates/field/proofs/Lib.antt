@@ -1,5 +1,6 @@
 pub mod Answers
 pub mod Table
 pub mod Means
+pub mod Faults
 pub mod Exact
 pub mod Reading

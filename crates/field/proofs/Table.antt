@@ -12,10 +12,10 @@ use Rattle.field.specs.Table.{Test, test, unless, tested, FirstToFail, f
 
 -- ---- what the answer says
 
-not-both : {r : Refusal} {c : Checked} → c ≡ Passed → c ≡ Failed r → ⊥
+pub not-both : {r : Refusal} {c : Checked} → c ≡ Passed → c ≡ Failed r → ⊥
 not-both p q = let z : _≡_ {A = ℕ} 0 1 = cc in omega arith
 
-same-refusal : {r s : Refusal} → Failed r ≡ Failed s → r ≡ s
+pub same-refusal : {r s : Refusal} → Failed r ≡ Failed s → r ≡ s
 same-refusal e = cc
 
 pub refused-by : (ts : List Test) (r : Refusal) → tested ts ≡ Failed r → FirstToFail ts r

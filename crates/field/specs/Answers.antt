@@ -1,7 +1,7 @@
--- The table's number of each answer (document 01, "Answers, tested in this order"). Assumes nothing.
+-- The table's number of each answer (document 01, "Answers, tested in this order"; document 02, C-12), and the position that a refusal names. Assumes nothing.
 use Prim.Native.Nat.{ℕ}
 use Rattle.field.specs.declared.Refusal.{Refusal}
-use Rattle.field.specs.declared.Refusal.the-variants.{Variables, Lists, Order, Diagonal, Weights, Start, Argument, Scratch, Room, Clash}
+use Rattle.field.specs.declared.Refusal.the-variants.{Variables, Lists, Row, Column, Repeat, Order, Diagonal, Weights, Start, Argument, Scratch, Room, Clash}
 use Rattle.field.specs.declared.Checked.{Checked}
 use Rattle.field.specs.declared.Checked.the-variants.{Passed, Failed}
 use Rattle.field.specs.declared.Answer.{Answer}
@@ -12,7 +12,10 @@ use Rattle.field.specs.declared.Counted.the-variants.{Counts, Refuses}
 abbrev pub numberOf : Refusal → ℕ
 numberOf Variables = 1
 numberOf Lists = 2
-numberOf Order = 3
+numberOf (Row k) = 14
+numberOf (Column k) = 15
+numberOf (Repeat k) = 16
+numberOf (Order k) = 17
 numberOf Diagonal = 4
 numberOf Weights = 5
 numberOf Start = 6
@@ -20,6 +23,22 @@ numberOf Argument = 7
 numberOf Scratch = 8
 numberOf Room = 9
 numberOf Clash = 10
+
+-- "the position of the first entry at fault", from 0; 0 for a refusal that names none
+abbrev pub positionOf : Refusal → ℕ
+positionOf Variables = 0
+positionOf Lists = 0
+positionOf (Row k) = k
+positionOf (Column k) = k
+positionOf (Repeat k) = k
+positionOf (Order k) = k
+positionOf Diagonal = 0
+positionOf Weights = 0
+positionOf Start = 0
+positionOf Argument = 0
+positionOf Scratch = 0
+positionOf Room = 0
+positionOf Clash = 0
 
 abbrev pub checkedNumber : Checked → ℕ
 checkedNumber Passed = 0

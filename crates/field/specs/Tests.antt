@@ -1,13 +1,14 @@
--- The table's tests 1 to 6 and 8 (document 01, "Answers, tested in this order"), and the groups that calls share. Assumes nothing.
-use Prim.Native.Nat.{ℕ, _+_, _*_, _-_, _<_, _≤_}
-use mathlib.Core.Bool.{Bool, not, _&&_, _||_}
+-- The table's tests (document 01, "Answers, tested in this order"): 1, 2, the order of entries, 4 to 6 and 8, and the groups that calls share. Assumes nothing.
+use Prim.Native.Nat.{ℕ, zero, suc, _+_, _*_, _-_, _<_, _≤_}
+use mathlib.Core.Bool.{Bool, not, _&&_, _||_, cond}
 use mathlib.Core.List.{List, [], _∷_, _++_}
 use lib.Dec.{T, leb, ltb, eqb}
 use lib.ListN.{length, getD}
 use lib.Ieee.{Float, nan}
 use lib.Ieee.Scale.{finite}
 use Rattle.scratch.specs.All.{allBelow}
-use Rattle.field.specs.declared.Refusal.the-variants.{Variables, Lists, Order, Diagonal, Weights, Start, Scratch}
+use Rattle.field.specs.declared.Refusal.{Refusal}
+use Rattle.field.specs.declared.Refusal.the-variants.{Variables, Lists, Row, Column, Repeat, Order, Diagonal, Weights, Start, Scratch}
 use Rattle.field.specs.Field.{Field, variables, entries, linearOf, quadOf, Shaped, Standard, StartFor}
 use Rattle.field.specs.Table.{Test, test}
 
@@ -41,9 +42,32 @@ fewVariables n = leb n 4096
 unfoldable pub listsMatch : List ℕ → List ℕ → List Float → Bool
 listsMatch rows cols q = eqb (length rows) (length q) && (eqb (length cols) (length q) && leb (length q) 32768)
 
--- 3: a row or column not below n, or order broken
+-- 14 to 17: a row or column not below n, or order broken
 unfoldable pub inOrder : ℕ → List ℕ → List ℕ → Bool
 inOrder n rows cols = endsBelow n rows && (endsBelow n cols && allRise rows cols)
+
+-- entry k has nothing wrong: its row and its column are below n, and it stands after the entry before
+unfoldable pub isFine : ℕ → List ℕ → List ℕ → ℕ → Bool
+isFine n rows cols k =
+    ltb (getD rows k 0) n && (ltb (getD cols k 0) n && (eqb k 0 || isBefore (getD rows (k - 1) 0) (getD cols (k - 1) 0) (getD rows k 0) (getD cols k 0)))
+
+-- of `left` numbers from k on the first that fails; the one after them where none does
+unfoldable pub firstFrom : (ℕ → Bool) → ℕ → ℕ → ℕ
+firstFrom p k zero = k
+firstFrom p k (suc left) = cond (p k) (firstFrom p (suc k) left) k
+
+-- "the row tested before the column and both before order": the same place as the entry before is 16, one further up 17
+unfoldable pub wrongAt : ℕ → List ℕ → List ℕ → ℕ → Refusal
+wrongAt n rows cols k =
+    cond (ltb (getD rows k 0) n)
+    (cond (ltb (getD cols k 0) n)
+    (cond (eqb (getD rows k 0) (getD rows (k - 1) 0) && eqb (getD cols k 0) (getD cols (k - 1) 0)) (Repeat k) (Order k))
+    (Column k))
+    (Row k)
+
+-- what is wrong with "the first entry at fault"
+unfoldable pub faultOf : ℕ → List ℕ → List ℕ → Refusal
+faultOf n rows cols = wrongAt n rows cols (firstFrom (isFine n rows cols) 0 (length rows))
 
 -- 4: diagonal entry where standard form is needed
 unfoldable pub offDiagonal : List ℕ → List ℕ → Bool
@@ -66,19 +90,19 @@ wordsFit n m words = leb (16 * n + 8 * m + 16) words
 
 -- ---- groups, in the table's order
 
--- 1, 2 and 3
+-- 1, 2 and 14 to 17, which are one test
 unfoldable pub shapeTests : Field → List Test
 shapeTests F =
     test Variables (fewVariables (variables F))
     ∷ test Lists (listsMatch (F .rows) (F .cols) (F .quad))
-    ∷ test Order (inOrder (variables F) (F .rows) (F .cols))
+    ∷ test (faultOf (variables F) (F .rows) (F .cols)) (inOrder (variables F) (F .rows) (F .cols))
     ∷ []
 
--- 1, 2, 3 and 5: for the calls that allow a diagonal
+-- these and 5: for the calls that allow a diagonal
 unfoldable pub looseTests : Field → List Test
 looseTests F = shapeTests F ++ test Weights (weightsFinite (F .linear) (F .quad)) ∷ []
 
--- 1 to 6
+-- these and 4 to 6
 unfoldable pub standardTests : Field → List ℕ → List Test
 standardTests F s =
     shapeTests F
@@ -87,7 +111,7 @@ standardTests F s =
     ∷ test Start (startFits (variables F) s)
     ∷ []
 
--- 1 to 6, and 8
+-- these and 8
 unfoldable pub readyTests : Field → List ℕ → ℕ → ℕ → List Test
 readyTests F s floats words =
     standardTests F s

@@ -5,7 +5,7 @@ pub mod tests;
 mod weighs;
 
 ghost use mathlib.Core.Path.{_≡_};
-ghost use Rattle.field.specs.Answers.{numberOf, answerNumber};
+ghost use Rattle.field.specs.Answers.{numberOf, positionOf, answerNumber};
 
 // Whether all sums of a field's weights are exact in f64 when counted in halves.
 pub enum Grade {
@@ -13,11 +13,14 @@ pub enum Grade {
     Inexact,
 }
 
-// The table's refusals, 1 to 10.
+// The table's refusals; four name the position of the first entry at fault.
 pub enum Refusal {
     Variables,
     Lists,
-    Order,
+    Row(usize),
+    Column(usize),
+    Repeat(usize),
+    Order(usize),
     Diagonal,
     Weights,
     Start,
@@ -34,7 +37,10 @@ impl Refusal {
         match self {
             Refusal::Variables => 1,
             Refusal::Lists => 2,
-            Refusal::Order => 3,
+            Refusal::Row(_) => 14,
+            Refusal::Column(_) => 15,
+            Refusal::Repeat(_) => 16,
+            Refusal::Order(_) => 17,
             Refusal::Diagonal => 4,
             Refusal::Weights => 5,
             Refusal::Start => 6,
@@ -42,6 +48,27 @@ impl Refusal {
             Refusal::Scratch => 8,
             Refusal::Room => 9,
             Refusal::Clash => 10,
+        }
+    }
+
+    // The position of the entry at fault, 0 where the refusal names none.
+    pub fn position(self) -> usize
+        ensures { λ r. ⌜ r ≡ positionOf self ⌝ }
+    {
+        match self {
+            Refusal::Variables => 0,
+            Refusal::Lists => 0,
+            Refusal::Row(k) => k,
+            Refusal::Column(k) => k,
+            Refusal::Repeat(k) => k,
+            Refusal::Order(k) => k,
+            Refusal::Diagonal => 0,
+            Refusal::Weights => 0,
+            Refusal::Start => 0,
+            Refusal::Argument => 0,
+            Refusal::Scratch => 0,
+            Refusal::Room => 0,
+            Refusal::Clash => 0,
         }
     }
 }

@@ -1,9 +1,10 @@
-// The table's tests, one function a number, and the groups that calls share.
+// The table's tests, and the groups that calls share.
 use crate::Checked;
 use crate::Refusal;
 use crate::entries::all_rise;
 use crate::entries::bytes_small;
 use crate::entries::ends_below;
+use crate::entries::fault;
 use crate::entries::off_diagonal;
 use crate::weighs::all_finite;
 ghost use mathlib.Core.Path.{_≡_};
@@ -34,7 +35,7 @@ fn lists_match(rows: &[u16], cols: &[u16], q: &[f64]) -> bool
     q.len() <= 32768
 }
 
-// 3
+// 14 to 17
 fn in_order(n: usize, rows: &[u16], cols: &[u16]) -> bool
     requires { ⌜ length (now rows) ≡ length (now cols) ⌝ }
     ensures { λ r. ⌜ r ≡ inOrder n (before rows) (before cols) ⌝ }
@@ -84,7 +85,7 @@ pub fn words_fit(n: usize, m: usize, words: usize) -> bool
     16 * n + 8 * m + 16 <= words
 }
 
-// 1, 2 and 3
+// 1, 2 and 14 to 17; where a fault is looked for, the entries are known to have one
 pub fn shape(c: &[f64], rows: &[u16], cols: &[u16], q: &[f64]) -> Checked
     ensures { λ r. ⌜ r ≡ tested (shapeTests (given c rows cols q)) ⌝ }
 {
@@ -95,12 +96,12 @@ pub fn shape(c: &[f64], rows: &[u16], cols: &[u16], q: &[f64]) -> Checked
         return Checked::Failed(Refusal::Lists);
     }
     if !in_order(c.len(), rows, cols) {
-        return Checked::Failed(Refusal::Order);
+        return Checked::Failed(fault(c.len(), rows, cols));
     }
     Checked::Passed
 }
 
-// 1, 2, 3 and 5, for the calls that allow a diagonal
+// These and 5, for the calls that allow a diagonal
 pub fn loose(c: &[f64], rows: &[u16], cols: &[u16], q: &[f64]) -> Checked
     ensures { λ r. ⌜ r ≡ tested (looseTests (given c rows cols q)) ⌝ }
 {
@@ -114,7 +115,7 @@ pub fn loose(c: &[f64], rows: &[u16], cols: &[u16], q: &[f64]) -> Checked
     Checked::Passed
 }
 
-// 1 to 6
+// 1, 2, 14 to 17, and 4 to 6
 pub fn standard(c: &[f64], rows: &[u16], cols: &[u16], q: &[f64], start: &[u8]) -> Checked
     ensures { λ r. ⌜ r ≡ tested (standardTests (given c rows cols q) (before start)) ⌝ }
 {
@@ -134,7 +135,7 @@ pub fn standard(c: &[f64], rows: &[u16], cols: &[u16], q: &[f64], start: &[u8]) 
     Checked::Passed
 }
 
-// 1 to 6, and 8
+// These and 8
 pub fn ready(
     c: &[f64],
     rows: &[u16],

@@ -23,6 +23,7 @@ use Rattle.field.specs.Tests.{shapeTests, looseTests}
 use Rattle.field.specs.Grade.{gradeOf}
 use Rattle.field.proofs.Table.{last-is, group-is}
 use Rattle.field.proofs.Means.{loose-passes, words-mean}
+use Rattle.field.proofs.Faults.{fault-other}
 use Rattle.calls.specs.Call.{without}
 use Rattle.calls.proofs.Usual as usual
 use Rattle.no_effect.specs.Putting.{Putting, putting, putAll}
@@ -50,7 +51,7 @@ word-passes F words =
 -- none of the tests before 9 gives 9
 pub never-room : (F : Field) (words : ℕ) → without Room (wordTests F words) ≡ true
 unfolding without wordTests looseTests shapeTests
-never-room F words = refl
+never-room F words = rw (fault-other (variables F) (F .rows) (F .cols) 9 (omega arith)) refl
 
 module _ (F : Field) (l u : List ℕ) where
   pub refused-call : {r : Refusal} → tested (wordTests F (length u)) ≡ Failed r → left (Refuses r) l u ≡ noEffectCall F l u

@@ -23,6 +23,7 @@ use Rattle.field.specs.Tests.{shapeTests, standardTests}
 use Rattle.field.specs.Grade.{gradeOf}
 use Rattle.field.proofs.Table.{pass-is, last-is, group-is}
 use Rattle.field.proofs.Means.{standard-passes, floats-mean, words-mean}
+use Rattle.field.proofs.Faults.{fault-other}
 use Rattle.calls.specs.Call.{without}
 use Rattle.calls.proofs.Usual as usual
 use Rattle.rows.specs.Stored.{upTo}
@@ -88,7 +89,7 @@ probe-passes F s i v floats words =
 -- none of 1 to 8 gives 9
 pub never-room : (F : Field) (s : List ℕ) (i v floats words : ℕ) → without Room (probeTests F s i v floats words) ≡ true
 unfolding without probeTests standardTests shapeTests
-never-room F s i v floats words = refl
+never-room F s i v floats words = rw (fault-other (variables F) (F .rows) (F .cols) 9 (omega arith)) refl
 
 -- ---- the answer
 

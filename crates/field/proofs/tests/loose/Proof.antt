@@ -1,4 +1,4 @@
--- `loose` makes tests 1, 2 and 3, then 5. Assumes nothing.
+-- `loose` makes the tests of `shape`, then 5. Assumes nothing.
 use mathlib.Core.Path.{sym, _∙_}
 use borrow.Author.Tests.{not-true, not-false}
 use Rattle.field.specs.Tests.{looseTests}
@@ -6,8 +6,6 @@ use Rattle.field.proofs.Table.{test-no, test-ok, none-left, group-no, g
 use borrow.Author.Needs.{needs}
 use Rattle.field.proofs.tests.loose.Statement.{statement}
 use Rattle.field.proofs.tests.loose.Tie as tie
-
--- `loose` makes tests 1, 2 and 3, then 5. Assumes nothing.
 
 shape-requires : tie.Need-shape-requires
 shape-requires c κs = search needs

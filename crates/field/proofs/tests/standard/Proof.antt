@@ -1,4 +1,4 @@
--- `standard` makes tests 1, 2 and 3, then 4, 5 and 6. Assumes nothing.
+-- `standard` makes the tests of `shape`, then 4, 5 and 6. Assumes nothing.
 use mathlib.Core.Path.{sym, _∙_}
 use borrow.Author.Tests.{not-true, not-false}
 use Rattle.field.specs.Tests.{standardTests}
@@ -7,8 +7,6 @@ use Rattle.field.proofs.Means.{shape-passes}
 use borrow.Author.Needs.{needs}
 use Rattle.field.proofs.tests.standard.Statement.{statement}
 use Rattle.field.proofs.tests.standard.Tie as tie
-
--- `standard` makes tests 1, 2 and 3, then 4, 5 and 6. Assumes nothing.
 
 shape-requires : tie.Need-shape-requires
 shape-requires c κs = search needs
