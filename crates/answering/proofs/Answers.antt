@@ -15,12 +15,13 @@ use Rattle.field.specs.declared.Checked.{Checked}
 use Rattle.field.specs.declared.Checked.the-variants.{Passed, Failed}
 use Rattle.field.specs.declared.Grade.{Grade}
 use Rattle.field.specs.declared.Refusal.{Refusal}
-use Rattle.field.specs.declared.Refusal.the-variants.{Variables, Lists, Order, Diagonal, Weights, Start, Argument, Scratch, Room as NoRoom, Clash}
+use Rattle.field.specs.declared.Refusal.the-variants.{Scratch}
 use Rattle.field.specs.Answers.{numberOf}
 use Rattle.field.specs.Field.{Field, fieldOf, variables, entries}
 use Rattle.field.specs.Table.{Test, test, tested}
 use Rattle.field.specs.Tests.{floatsFit, wordsFit, standardTests, readyTests}
 use Rattle.field.specs.Grade.{gradeOf}
+use Rattle.field.proofs.Answers.{number-most}
 use Rattle.field.proofs.Means.{floats-mean, words-mean}
 use Rattle.field.proofs.Table.{test-ok, none-left, group-no, group-ok}
 use Rattle.calls.specs.Values.{Left, left}
@@ -37,20 +38,8 @@ use Rattle.records.proofs.Front.{field-whole, field-fronts}
 
 -- ---- a refusal's number
 
-pub number-small : (r : Refusal) → numberOf r ≤ 10
-number-small Variables = omega arith
-number-small Lists = omega arith
-number-small Order = omega arith
-number-small Diagonal = omega arith
-number-small Weights = omega arith
-number-small Start = omega arith
-number-small Argument = omega arith
-number-small Scratch = omega arith
-number-small NoRoom = omega arith
-number-small Clash = omega arith
-
 pub refusal-small : {a : Answer} {r : Refusal} {n : ℕ} → a ≡ Refused r → n ≡ numberOf r → n < 1000
-refusal-small {r = r} e same = omega (arith, number-small r)
+refusal-small {r = r} e same = omega (arith, number-most r)
 
 -- ---- the field's text
 

@@ -17,12 +17,15 @@ use Rattle.field.specs.declared.Checked.the-variants.{Passed, Failed}
 use Rattle.field.specs.declared.Grade.{Grade}
 use Rattle.field.specs.declared.Grade.the-variants.{Exact, Inexact}
 use Rattle.field.specs.declared.Refusal.{Refusal}
-use Rattle.field.specs.declared.Refusal.the-variants.{Order, Diagonal, Weights}
+use Rattle.field.specs.declared.Refusal.the-variants.{Diagonal, Weights}
 use Rattle.field.specs.Answers.{numberOf}
 use Rattle.field.specs.Field.{Field}
+use Rattle.field.specs.Faults.{Fault}
 use Rattle.field.specs.Grade.{gradeOf}
 use Rattle.field.specs.Table.{FirstToFail, fails, passes, tested}
 use Rattle.field.specs.Tests.{shapeTests, standardTests, Sound}
+use Rattle.field.proofs.Answers.{number-most, number-other}
+use Rattle.field.proofs.Faults.{fault-means}
 use Rattle.field.proofs.Means.{few-means, lists-mean, start-means, standard-passes}
 use Rattle.field.proofs.Exact.{exact-means}
 use Rattle.field.proofs.Table.{first-refuses}
@@ -33,7 +36,6 @@ use Rattle.text.specs.Text.{decimal, refusedText, gradeLine, answerText}
 use Rattle.records.specs.Told.{Told, outcome, Outcome, parsed}
 use Rattle.records.specs.WellFormed.{Item, weight, entry, given, spell, spelled, tells, Fine, Tells, none, next, WellFormed}
 use Rattle.answering.specs.Answer.{checkedText, fieldText, fieldTold, toldText, outcomeText, answerBytes, Answered, ShowsClosure, longestInput}
-use Rattle.answering.proofs.Answers.{number-small}
 use Rattle.records.proofs.Laid.{Within}
 use Rattle.records.proofs.Front.{parsed-within}
 use Rattle.records.proofs.Means.{parsed-means}
@@ -45,7 +47,7 @@ pub sound-text : (t : Told) → Sound (fieldTold t) (t .start) → toldText t �
 unfolding fieldText checkedText
 sound-text t sound = rw (standard-passes (fieldTold t) (t .start) .1 sound)
 
--- any other: the number of the first of the tests 1 to 6 that fails
+-- any other: the number of the first of the tests that fails
 pub failed-text : (t : Told) {r : Refusal} → FirstToFail (standardTests (fieldTold t) (t .start)) r → toldText t ≡ refusedText (numberOf r)
 unfolding fieldText checkedText
 failed-text t first = rw (first-refuses first)
@@ -173,11 +175,11 @@ start-small : {t u : Told} {items : List Item} → Tells t items u → ((k : ℕ
 start-small none h = h
 start-small (next {t} {u} {i} f rest) h = start-small rest (item-small t i f h)
 
--- the limits of records are narrower than those of tests 1 and 2, and their start values pass test 6
-pub only-three : (s : List ℕ) → ((i : ℕ) → getD s i 0 < 256) → (u : Told) {r : Refusal} → WellFormed s u → FirstToFail (standardTests (fieldTold u) (u .start)) r
-    → (r ≡ Order) ⊎ ((r ≡ Diagonal) ⊎ (r ≡ Weights))
+-- the limits of records are narrower than those of tests 1 and 2, and their start values pass test 6: 14 to 17, 4 and 5 are left
+pub only-six : (s : List ℕ) → ((i : ℕ) → getD s i 0 < 256) → (u : Told) {r : Refusal} → WellFormed s u → FirstToFail (standardTests (fieldTold u) (u .start)) r
+    → Fault (length (u .linear)) (u .rows) (u .cols) r ⊎ ((r ≡ Diagonal) ⊎ (r ≡ Weights))
 unfolding standardTests shapeTests
-only-three s bytes u w first = by first
+only-six s bytes u w first = by first
   where
     within : Within u
     within = told-within s bytes u w
@@ -185,10 +187,10 @@ only-three s bytes u w first = by first
     never : {A : Type 0} {b : Bool} → b ≡ true → b ≡ false → A
     never p q = absurd (true≢false (sym p ∙ q))
 
-    by : {r : Refusal} → FirstToFail (standardTests (fieldTold u) (u .start)) r → (r ≡ Order) ⊎ ((r ≡ Diagonal) ⊎ (r ≡ Weights))
+    by : {r : Refusal} → FirstToFail (standardTests (fieldTold u) (u .start)) r → Fault (length (u .linear)) (u .rows) (u .cols) r ⊎ ((r ≡ Diagonal) ⊎ (r ≡ Weights))
     by (fails e) = never (few-means (length (u .linear)) .1 (omega (arith, within .few-variables))) e
     by (passes _ (fails e)) = never (lists-mean (u .rows) (u .cols) (u .quad) .1 (within .rows, (within .cols, omega (arith, within .few-entries)))) e
-    by (passes _ (passes _ (fails e))) = inl refl
+    by (passes _ (passes _ (fails e))) = inl (fault-means (length (u .linear)) (u .rows) (u .cols) (within .rows ∙ sym (within .cols)) _ .0 (e, refl))
     by (passes _ (passes _ (passes _ (fails e)))) = inr (inl refl)
     by (passes _ (passes _ (passes _ (passes _ (fails e))))) = inr (inr refl)
     by (passes _ (passes _ (passes _ (passes _ (passes _ (fails e)))))) =
@@ -202,14 +204,16 @@ not-eleven Passed F s e = by (gradeOf F) (ap (λ (l : List ℕ). getD l 0 0) e)
     by : (g : Grade) → getD (answerText g s (closure F s)) 0 0 ≡ 114 → ⊥
     by Exact q = omega arith
     by Inexact q = omega arith
-not-eleven (Failed r) F s e = by (numberOf r) (number-small r) (ap (λ (l : List ℕ). getD l 9 0) e)
+not-eleven (Failed r) F s e = by (numberOf r) (number-most r) (number-other r .1) (ap (λ (l : List ℕ). getD l 9 0) e)
   where
-    by : (n : ℕ) → n ≤ 10 → getD (refusedText n) 9 0 ≡ 49 → ⊥
-    by n few q = go (ltb n 10) refl
+    by : (n : ℕ) → n ≤ 17 → n ≢ 11 → getD (refusedText n) 9 0 ≡ 49 → ⊥
+    by n few other q = go (ltb n 10) refl
       where
         go : (b : Bool) → ltb n 10 ≡ b → ⊥
         go true l = let below : n < 10 = ltb-true n 10 l in omega (arith, simp (lt-ltb n 10 below) at q)
-        go false l = let ten : n ≡ 10 = omega (arith, ltb-false n 10 l) in omega (arith, rw ten at q)
+        go false l =
+            let above : 10 ≤ n = ltb-false n 10 l in
+            other (omega (arith, simp (l, lt-ltb n 100 (omega arith)) at q))
 
 -- `refused 11` is printed exactly if the input is not well-formed
 pub eleven-exactly : (s : List ℕ) → ((i : ℕ) → getD s i 0 < 256) → (answerBytes s ≡ refusedText 11) ↔ ((u : Told) → WellFormed s u → ⊥)
