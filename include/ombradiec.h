@@ -26,7 +26,8 @@ extern "C" {
 #endif
 
 /* What a call answers, in one number: bits 0 to 7 the refusal, 8 to 15 the grade, 16 to 43 the count, 44 to 63 the
- * pairs examined. A refusal has neither a grade nor counts. */
+ * pairs examined. A refusal has neither a grade nor counts; of ROW, COLUMN, REPEAT and ORDER the count's bits hold the
+ * position of the first entry at fault. */
 typedef uint64_t ombradiec_answer;
 
 /* 0, or the refusal */
@@ -35,14 +36,21 @@ typedef uint64_t ombradiec_answer;
 #define OMBRADIEC_EXACT(answer) ((int)((answer) >> 8 & 0xff))
 /* the items in the answer list; of shift the new number of entries */
 #define OMBRADIEC_COUNT(answer) ((size_t)((answer) >> 16 & 0xfffffff))
+/* of ROW, COLUMN, REPEAT and ORDER: the position of the first entry at fault, from 0, in the lists given */
+#define OMBRADIEC_POSITION(answer) OMBRADIEC_COUNT(answer)
 /* of pairs: the pairs examined */
 #define OMBRADIEC_PAIRS(answer) ((size_t)((answer) >> 44))
 
-/* The refusals, tested in this order. 1 to 8 change nothing lent; past test 8 all of the scratch ends as zeros. */
+/* The refusals, tested in this order. Those up to SCRATCH change nothing lent; past it all of the scratch ends as zeros.
+ * ROW to ORDER are one test: at the first entry at fault the row is tested before the column, and both before its place.
+ * 3, which stood for the four, is not given any more. */
 #define OMBRADIEC_DONE 0
 #define OMBRADIEC_VARIABLES 1 /* more than 4,096 variables */
 #define OMBRADIEC_LISTS 2     /* the entry lists differ in length, or have more than 32,768 entries */
-#define OMBRADIEC_ORDER 3     /* a row or column is not below n, or the entries do not rise by column, then row */
+#define OMBRADIEC_ROW 14      /* the row of an entry is not below n */
+#define OMBRADIEC_COLUMN 15   /* the column of an entry is not below n */
+#define OMBRADIEC_REPEAT 16   /* an entry has the same place as the entry before */
+#define OMBRADIEC_ORDER 17    /* an entry stands before the entry before: entries rise by column, then row */
 #define OMBRADIEC_DIAGONAL 4  /* an entry has its row equal to its column */
 #define OMBRADIEC_WEIGHTS 5   /* a weight is not finite */
 #define OMBRADIEC_START 6     /* the start values are not n long, or a byte is above 2 */

@@ -22,65 +22,131 @@ pub struct Done {
     pub pairs: usize,
 }
 
-/// Why a call gave no answer; tested in this order.
+/// Why a call gave no answer; tested in this order. The four that have a position are one test: they say what is wrong with
+/// the first entry at fault, its row before its column and both before its place; `at` counts
+/// [`Field::entries`](crate::Field::entries) from 0.
 ///
 /// No refusal changes a field or start values. The others up to [`Scratch`](Refusal::Scratch) change no answer list either;
 /// [`Room`](Refusal::Room) and [`Clash`](Refusal::Clash) are found only when the work is done.
 #[derive(Clone, Copy, Debug, PartialEq, Eq, PartialOrd, Ord, Hash)]
 pub enum Refusal {
     /// There are more than 4,096 variables.
-    Variables = 1,
+    Variables,
     /// There are more than 32,768 entries.
-    Lists = 2,
-    /// A row or column is not below n, or an entry stands twice.
-    Order = 3,
+    Lists,
+    /// The row of this entry is not below n.
+    Row {
+        /// The position of the entry, from 0.
+        at: usize,
+    },
+    /// The column of this entry is not below n.
+    Column {
+        /// The position of the entry, from 0.
+        at: usize,
+    },
+    /// This entry has the same place as the entry before.
+    Repeat {
+        /// The position of the entry, from 0.
+        at: usize,
+    },
+    /// This entry stands before the entry before; [`Field`](crate::Field) puts its entries in order, so none does.
+    Order {
+        /// The position of the entry, from 0.
+        at: usize,
+    },
     /// An entry has its row equal to its column.
-    Diagonal = 4,
+    Diagonal,
     /// A weight is not finite.
-    Weights = 5,
+    Weights,
     /// The start values are not n long.
-    Start = 6,
+    Start,
     /// A probed variable is not below n or not free, or a constraint is not as propagation asks.
-    Argument = 7,
+    Argument,
     /// A scratch is too short; [`Scratch`](crate::Scratch) never is.
-    Scratch = 8,
+    Scratch,
     /// An answer list does not fit. Then each answer list has lost what it held: [`Values`](crate::Values) are all free, and
     /// other lists all zeros.
-    Room = 9,
+    Room,
     /// The constraints clash: no values meet them all.
-    Clash = 10,
+    Clash,
 }
 
 impl Refusal {
-    const ALL: [Refusal; 10] = [
-        Refusal::Variables,
-        Refusal::Lists,
-        Refusal::Order,
-        Refusal::Diagonal,
-        Refusal::Weights,
-        Refusal::Start,
-        Refusal::Argument,
-        Refusal::Scratch,
-        Refusal::Room,
-        Refusal::Clash,
-    ];
+    /// The refusal of this number and, where it names one, this position.
+    fn of(number: u8, at: usize) -> Option<Refusal> {
+        Some(match number {
+            1 => Refusal::Variables,
+            2 => Refusal::Lists,
+            4 => Refusal::Diagonal,
+            5 => Refusal::Weights,
+            6 => Refusal::Start,
+            7 => Refusal::Argument,
+            8 => Refusal::Scratch,
+            9 => Refusal::Room,
+            10 => Refusal::Clash,
+            14 => Refusal::Row { at },
+            15 => Refusal::Column { at },
+            16 => Refusal::Repeat { at },
+            17 => Refusal::Order { at },
+            _ => return None,
+        })
+    }
 
-    /// The refusal's number in the table, 1 to 10.
+    /// The refusal's number in the table.
     ///
     /// ```
     /// assert_eq!(ombradiec::Refusal::Room.number(), 9);
+    /// assert_eq!(ombradiec::Refusal::Row { at: 5 }.number(), 14);
     /// ```
     pub fn number(self) -> u8 {
-        self as u8
+        match self {
+            Refusal::Variables => 1,
+            Refusal::Lists => 2,
+            Refusal::Row { .. } => 14,
+            Refusal::Column { .. } => 15,
+            Refusal::Repeat { .. } => 16,
+            Refusal::Order { .. } => 17,
+            Refusal::Diagonal => 4,
+            Refusal::Weights => 5,
+            Refusal::Start => 6,
+            Refusal::Argument => 7,
+            Refusal::Scratch => 8,
+            Refusal::Room => 9,
+            Refusal::Clash => 10,
+        }
+    }
+
+    /// The position of the first entry at fault, where the refusal names one.
+    ///
+    /// ```
+    /// use ombradiec::{closure, Field, Refusal, Scratch, Values};
+    ///
+    /// let field = Field::new(&[1.0, 1.0], &[(0, 1, 4.0), (0, 7, 4.0)]);
+    /// let refusal = closure(&field, &mut Values::free(2), &mut Scratch::new()).unwrap_err();
+    /// assert_eq!(refusal, Refusal::Column { at: 1 });
+    /// assert_eq!(refusal.position().and_then(|at| field.entries().nth(at)), Some((0, 7, 4.0)));
+    /// assert_eq!(Refusal::Room.position(), None);
+    /// ```
+    pub fn position(self) -> Option<usize> {
+        match self {
+            Refusal::Row { at } | Refusal::Column { at } | Refusal::Repeat { at } | Refusal::Order { at } => Some(at),
+            _ => None,
+        }
     }
 }
 
 impl fmt::Display for Refusal {
     fn fmt(&self, f: &mut fmt::Formatter) -> fmt::Result {
+        if let Some(at) = self.position() {
+            write!(f, "entry {at}, from 0: ")?;
+        }
         f.write_str(match self {
             Refusal::Variables => "there are more than 4,096 variables",
             Refusal::Lists => "the entry lists differ in length, or have more than 32,768 entries",
-            Refusal::Order => "a row or column is not a variable, or the entries do not rise by column, then row",
+            Refusal::Row { .. } => "its row is not a variable",
+            Refusal::Column { .. } => "its column is not a variable",
+            Refusal::Repeat { .. } => "it has the same place as the entry before",
+            Refusal::Order { .. } => "it is out of order: entries rise by column, then row",
             Refusal::Diagonal => "an entry is on the diagonal",
             Refusal::Weights => "a weight is not finite",
             Refusal::Start => "the start values are not one 0, 1 or 2 for each variable",
@@ -94,15 +160,17 @@ impl fmt::Display for Refusal {
 
 impl Error for Refusal {}
 
-/// Reads a call's number: bits 0 to 7 the refusal, 8 to 15 the grade, 16 to 43 the count, 44 to 63 the pairs examined.
+/// Reads a call's number: bits 0 to 7 the refusal, 8 to 15 the grade, 16 to 43 the count or the position that a refusal names,
+/// 44 to 63 the pairs examined.
 pub(crate) fn read(answer: u64) -> Result<Done, Refusal> {
-    match (answer & 0xff) as usize {
+    let count = ((answer >> 16) & 0xfff_ffff) as usize;
+    match (answer & 0xff) as u8 {
         0 => Ok(Done {
             grade: if (answer >> 8) & 0xff == 1 { Grade::Exact } else { Grade::Inexact },
-            count: ((answer >> 16) & 0xfff_ffff) as usize,
+            count,
             pairs: (answer >> 44) as usize,
         }),
-        refusal => Err(Refusal::ALL[refusal - 1]),
+        number => Err(Refusal::of(number, count).expect("a number of the table")),
     }
 }
 
@@ -118,9 +186,12 @@ mod tests {
 
     #[test]
     fn every_refusal_is_read() {
-        for (k, refusal) in (1..).zip(Refusal::ALL) {
-            assert_eq!(refusal.number(), k);
-            assert_eq!(read(k.into()), Err(refusal));
+        let read_back: Vec<_> = (1..=255).filter_map(|number| Refusal::of(number, 32_767)).collect();
+        assert_eq!(read_back.len(), 13);
+        for refusal in read_back {
+            let at = refusal.position().unwrap_or(0);
+            assert_eq!(at, if refusal.number() < 14 { 0 } else { 32_767 });
+            assert_eq!(read(u64::from(refusal.number()) + ((at as u64) << 16)), Err(refusal));
         }
     }
 }

@@ -10,11 +10,23 @@ fn a_field_is_tested_in_the_tables_order() {
     assert_eq!(closed(&Field::new(&[0.0; 4_097], &[]), 4_097), Err(Refusal::Variables));
     let many: Vec<_> = (0..32_769).map(|k| (k % 4_096, k / 4_096, 1.0)).collect();
     assert_eq!(closed(&Field::new(&[0.0; 4_096], &many), 4_096), Err(Refusal::Lists));
-    assert_eq!(closed(&Field::new(&[0.0; 2], &[(0, 2, 1.0)]), 2), Err(Refusal::Order));
-    assert_eq!(closed(&Field::new(&[0.0; 2], &[(0, 1, 1.0), (0, 1, 1.0)]), 2), Err(Refusal::Order));
+    assert_eq!(closed(&Field::new(&[0.0; 2], &[(0, 2, 1.0)]), 2), Err(Refusal::Column { at: 0 }));
+    assert_eq!(closed(&Field::new(&[0.0; 2], &[(0, 1, 1.0), (0, 1, 1.0)]), 2), Err(Refusal::Repeat { at: 1 }));
     assert_eq!(closed(&Field::new(&[0.0; 2], &[(1, 1, 1.0)]), 2), Err(Refusal::Diagonal));
     assert_eq!(closed(&Field::new(&[0.0, f64::NAN], &[]), 2), Err(Refusal::Weights));
     assert_eq!(closed(&Field::new(&[0.0; 2], &[]), 3), Err(Refusal::Start));
+}
+
+#[test]
+fn the_first_entry_at_fault_is_named() {
+    assert_eq!(closed(&Field::new(&[0.0; 2], &[(5, 7, 1.0)]), 2), Err(Refusal::Row { at: 0 }));
+    assert_eq!(closed(&Field::new(&[], &[(0, 0, 1.0)]), 0), Err(Refusal::Row { at: 0 }));
+    assert_eq!(closed(&Field::new(&[0.0; 3], &[(0, 1, 1.0), (0, 1, 1.0), (3, 2, 1.0)]), 3), Err(Refusal::Repeat { at: 1 }));
+    // The last of 32,768 entries.
+    let mut many: Vec<_> = (0..32_768).map(|k| (k % 4_096, k / 4_096, 1.0)).collect();
+    many[32_767].0 = u16::MAX;
+    assert_eq!(closed(&Field::new(&[0.0; 4_096], &many), 4_096), Err(Refusal::Row { at: 32_767 }));
+    assert_eq!(Refusal::Row { at: 32_767 }.to_string(), "entry 32767, from 0: its row is not a variable");
 }
 
 #[test]

@@ -15,7 +15,7 @@ use Rattle.field.specs.Answers.{numberOf}
 use Rattle.field.specs.Table as tests
 use Rattle.field.specs.Table.{Test, test, unless, tested, FirstToFail, AllPass, more}
 use Rattle.field.proofs.Table.{refused-exactly, passed-exactly, group-no, group-ok}
-use Rattle.calls.specs.Call.{Left, left, Stage, stage, Call, run, called, table, keeping, Stops, fails, passes, Leave, no-stage, and-stage, without}
+use Rattle.calls.specs.Call.{Left, left, Stage, stage, Call, run, called, table, keeping, Stops, fails, passes, Leave, no-stage, and-stage, Each, without}
 
 not-failed : {r : Refusal} → Passed ≡ Failed r → ⊥
 not-failed e = let z : _≡_ {A = ℕ} 0 1 = cc in omega arith
@@ -89,15 +89,15 @@ module _ {A L : Type 0} (refuse : Refusal → A) (done : Left A L) where
   run-passes [] a = refl
   run-passes (t ∷ ts) (more p a) = rw p (run-passes ts a)
 
-  -- the answer is a refusal or the one when done
-  pub run-has : (P : A → Type 0) → ((r : Refusal) → P (refuse r)) → (ts : List (Stage L)) → P (done .answer) → P (run refuse ts done .answer)
+  -- the answer is a refusal of a stage or the one when done
+  pub run-has : (P : A → Type 0) (ts : List (Stage L)) → Each (λ r. P (refuse r)) ts → P (done .answer) → P (run refuse ts done .answer)
   unfolding run
-  run-has P refused [] ended = ended
-  run-has P refused (t ∷ ts) ended = by (t .passes) (run-has P refused ts ended)
+  run-has P [] each ended = ended
+  run-has P (t ∷ ts) each ended = by (t .passes) (run-has P ts (each .1) ended)
     where
       by : (b : Bool) → P (run refuse ts done .answer) → P (cond b (run refuse ts done) (left (refuse (t .refusal)) (t .leaves)) .answer)
       by true rest = rest
-      by false rest = refused (t .refusal)
+      by false rest = each .0
 
   -- how code that tests in order meets the promise: a test fails, or all pass and leave the later stages
   pub tests-refuse : (given : L) (ts : List Test) (us : List (Stage L)) {r : Refusal} → tested ts ≡ Failed r → left (refuse r) given ≡ run refuse (keeping given ts ++ us) done

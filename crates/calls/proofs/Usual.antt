@@ -7,7 +7,7 @@ use Rattle.field.specs.declared.Refusal.{Refusal}
 use Rattle.field.specs.declared.Checked.{Checked}
 use Rattle.field.specs.declared.Checked.the-variants.{Passed, Failed}
 use Rattle.field.specs.Table.{Test, test, tested, FirstToFail, fails}
-use Rattle.calls.specs.Call.{Left, left, Stage, stage, run, called, table, usual, Leave, no-stage, and-stage, without}
+use Rattle.calls.specs.Call.{Left, left, Stage, stage, run, called, table, usual, Leave, no-stage, and-stage, Each, without}
 use Rattle.calls.proofs.Call as any
 
 -- a stage of this refusal or of another, and those after it
@@ -30,14 +30,15 @@ module _ {A L : Type 0} (refuse : Refusal → A) (given : L) (tests : List Test)
 
   -- ---- what the answer says
 
-  -- what holds of every refusal, and of the answer where the tests pass, holds of the answer
-  pub answer-has : (P : A → Type 0) → ((r : Refusal) → P (refuse r)) → (tested tests ≡ Passed → P (done .answer)) → P (called (usual refuse given tests later done) .answer)
+  -- what holds of every refusal that a test or a later stage gives, and of the answer where the tests pass, holds of the answer
+  pub answer-has : (P : A → Type 0) → ((r : Refusal) → tested tests ≡ Failed r → P (refuse r)) → Each (λ r. P (refuse r)) later → (tested tests ≡ Passed → P (done .answer))
+      → P (called (usual refuse given tests later done) .answer)
   unfolding called
-  answer-has P refused ended = go (tested tests) refl
+  answer-has P refused each ended = go (tested tests) refl
     where
       go : (k : Checked) → tested tests ≡ k → P (called (usual refuse given tests later done) .answer)
-      go (Failed r) e = rw (← refused-call e) (refused r)
-      go Passed e = rw (← passed-call e) (any.run-has refuse done P refused later (ended e))
+      go (Failed r) e = rw (← refused-call e) (refused r e)
+      go Passed e = rw (← passed-call e) (any.run-has refuse done P later each (ended e))
 
   module _ (same : (r t : Refusal) → refuse r ≡ refuse t → r ≡ t) (apart : (r : Refusal) → done .answer ≡ refuse r → ⊥) where
     -- it is refused with r exactly if r's stage is the first to fail of its table

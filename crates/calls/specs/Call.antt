@@ -63,6 +63,11 @@ pub data Leave {L : Type 0} (r : Refusal) (l : L) : List (Stage L) → Type 0 wh
   no-stage : Leave r l []
   and-stage : {t : Stage L} {ts : List (Stage L)} → (t .refusal ≡ r → t .leaves ≡ l) → Leave r l ts → Leave r l (t ∷ ts)
 
+-- Q holds of the refusal of each stage
+abbrev pub Each : {L : Type 0} → (Refusal → Type 0) → List (Stage L) → Type 0
+Each Q [] = Unit {0}
+Each Q (t ∷ ts) = Q (t .refusal) × Each Q ts
+
 -- no test's number is r's
 unfoldable pub without : Refusal → List Test → Bool
 without r [] = true

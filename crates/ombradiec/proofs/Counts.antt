@@ -1,4 +1,4 @@
--- Every count that a call answers has room in its number. Assumes nothing.
+-- Every count that a call answers has room in its number; a refusal's count is its position. Assumes nothing.
 use Prim.Native.Nat.{ℕ, zero, suc, _≤_, _<_}
 use mathlib.Core.Path.{_≡_, ap}
 use mathlib.Core.Bool.{Bool, true, false, cond}
@@ -11,6 +11,7 @@ use Rattle.field.specs.declared.Counted.the-variants.{Refuses}
 use Rattle.field.specs.Field.{Field, variables, entries}
 use Rattle.field.specs.Tests.{looseTests, readyTests}
 use Rattle.field.proofs.Means.{loose-passes}
+use Rattle.field.proofs.Faults.{loose-near, ready-near}
 use Rattle.calls.proofs.Usual.{answer-has}
 use Rattle.no_effect.specs.Putting.{chosenFrom}
 use Rattle.no_effect.specs.Effect.{hasNoEffect, noEffect}
@@ -30,6 +31,7 @@ use Rattle.pairs.specs.Call as pairing
 use Rattle.pairs.proofs.ListLaws.{few-found}
 use Rattle.packing.specs.Layout.{countOf, pairedCount, pairsExamined}
 use Rattle.ombradiec.specs.Reading.{Few}
+use Rattle.ombradiec.proofs.Positions.{word-near, anchor-near}
 
 -- ---- no_effect: at most n
 
@@ -45,7 +47,7 @@ chosen-few p i (suc k) = go (p i) (chosen-few p (suc i) k)
 pub no-effect-fits : (F : Field) (l u : List ℕ) → countOf (effectless.noEffectCall F l u .answer) < 0x1000_0000
 unfolding effectless.noEffectCall noEffect
 no-effect-fits F l u =
-    answer-has Refuses _ (effectless.wordTests F (length u)) _ _ (λ a. countOf a < 0x1000_0000) (λ r. omega arith) (λ e.
+    answer-has Refuses _ (effectless.wordTests F (length u)) _ _ (λ a. countOf a < 0x1000_0000) (λ r e. omega (arith, word-near F (length u) r e)) (omega arith, tt) (λ e.
     omega (arith, word-passes F (length u) .0 e .loose .shaped .few-variables, chosen-few (hasNoEffect F) 0 (variables F)))
 
 -- the answer of a call is the one in what it leaves
@@ -57,7 +59,7 @@ no-effect-few F l u e = omega (arith, no-effect-fits F l u, ap (λ (x : effectle
 pub shift-fits : (F : Field) → countOf (shifting.shiftCall F .answer) < 0x1000_0000
 unfolding shifting.shiftCall closed closedTo
 shift-fits F =
-    answer-has Refuses F (looseTests F) [] _ (λ a. countOf a < 0x1000_0000) (λ r. omega arith) (λ e. omega (arith, kept-few F (entries F), loose-passes F .0 e .shaped .few-entries))
+    answer-has Refuses F (looseTests F) [] _ (λ a. countOf a < 0x1000_0000) (λ r e. omega (arith, loose-near F r e)) tt (λ e. omega (arith, kept-few F (entries F), loose-passes F .0 e .shaped .few-entries))
 
 pub shift-few : (F : Field) {a : Counted} {G : Field} → shifting.left a G ≡ shifting.shiftCall F → countOf a < 0x1000_0000
 shift-few F e = omega (arith, shift-fits F, ap (λ (x : shifting.Left). countOf (x .answer)) e)
@@ -75,7 +77,7 @@ module _ (F : Field) (s : List ℕ) (least : ℕ) (list : List ℕ) (f : List Fl
   pub anchors-fit : countOf (anchoring.anchorsCall F s least list f u .answer) < 0x1000_0000
   unfolding anchoring.anchorsCall anchorsOf
   anchors-fit =
-      answer-has Refuses _ (anchoring.anchorTests F s (length f) (length u)) _ _ (λ a. countOf a < 0x1000_0000) (λ r. omega arith) (λ e.
+      answer-has Refuses _ (anchoring.anchorTests F s (length f) (length u)) _ _ (λ a. countOf a < 0x1000_0000) (λ r e. omega (arith, anchor-near F s (length f) (length u) r e)) (omega arith, tt) (λ e.
       omega (arith, admitted-passes F s (length f) (length u) .0 e .shaped .few-variables, anchors-within F s least (variables F)))
 
   pub anchors-few : {a : Counted} {l′ : List ℕ} {f′ : List Float} {u′ : List ℕ} → anchoring.left a l′ f′ u′ ≡ anchoring.anchorsCall F s least list f u → countOf a < 0x1000_0000
@@ -94,7 +96,8 @@ module _ (F : Field) (s : List ℕ) (limit : ℕ) (l : List ℕ) (f : List Float
   pub pairs-fit : Few (pairing.pairsCall F s limit l f u .answer)
   unfolding pairing.pairsCall
   pairs-fit =
-      answer-has Refused _ (readyTests F s (length f) (length u)) _ _ Few (λ r. record { count = omega arith; pairs = omega arith }) (λ e.
+      answer-has Refused _ (readyTests F s (length f) (length u)) _ _ Few
+      (λ r e. record { count = omega (arith, ready-near F s (length f) (length u) r e); pairs = omega arith }) (record { count = omega arith; pairs = omega arith }, tt) (λ e.
       record { count = omega (arith, found-few F s limit); pairs = omega (arith, examined-few limit s) })
 
   pub pairs-few : {a : Paired} {l′ : List ℕ} {f′ : List Float} {u′ : List ℕ} → pairing.left a l′ f′ u′ ≡ pairing.pairsCall F s limit l f u → Few a

@@ -14,6 +14,7 @@ use Rattle.field.specs.declared.Counted.the-variants.{Refuses}
 use Rattle.field.specs.Field.{Field, variables}
 use Rattle.field.specs.Tests.{readyTests}
 use Rattle.field.proofs.Means.{ready-passes}
+use Rattle.field.proofs.Faults.{ready-near}
 use Rattle.calls.proofs.Usual.{answer-has}
 use Rattle.probe.specs.Found.{Finding, nothing, value, constraint}
 use Rattle.sorting.proofs.Numbers.{set-length}
@@ -59,7 +60,7 @@ module _ (F : Field) (s cands t k : List ℕ) (f : List Float) (u : List ℕ) (f
   candidates-fit : countOf (candidatesCall F s cands t k f u .answer) < 0x1000_0000
   unfolding candidatesCall allConstraints
   candidates-fit =
-      answer-has Refuses _ (readyTests F s (length f) (length u)) _ _ (λ a. countOf a < 0x1000_0000) (λ r. omega arith) (λ e.
+      answer-has Refuses _ (readyTests F s (length f) (length u)) _ _ (λ a. countOf a < 0x1000_0000) (λ r e. omega (arith, ready-near F s (length f) (length u) r e)) (omega arith, tt) (λ e.
       let small = ready-passes F s (length f) (length u) .0 e .sound .shaped .few-variables in
       omega (arith, set-length (constraintsOf F s cands (length cands)), of-all F s cands (length cands), few-by-few (length cands) (variables F) few small))
 

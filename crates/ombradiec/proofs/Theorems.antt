@@ -17,10 +17,11 @@ use Rattle.pairs.specs.Call as pairing
 use Rattle.probe.specs.Call as probing
 use Rattle.probes.specs.Call as searching
 use Rattle.propagation.specs.Call as propagating
-use Rattle.packing.specs.Layout.{Reads, packedChecked, packedAnswer, packedCounted, packedPaired, pairedGrade, pairedCount, pairsExamined}
+use Rattle.packing.specs.Layout.{Reads, packedChecked, checkedCount, packedAnswer, packedCounted, packedPaired, pairedGrade, pairedCount, pairsExamined}
 use Rattle.ombradiec.specs.Exported.{Exported}
 use Rattle.ombradiec.specs.Reading.{AnswerRead, CountRead}
 use Rattle.packing.proofs.Reading.{checked-reads, answer-reads, counted-reads, paired-reads}
+use Rattle.ombradiec.proofs.Positions.{values-fit, probe-one-fits, propagate-fits}
 use Rattle.ombradiec.proofs.Counts.{no-effect-fits, shift-fits, anchors-fit, pairs-fit}
 use Rattle.ombradiec.proofs.Probed.{probe-fits, probe-limited-fits}
 
@@ -49,20 +50,20 @@ module _ {A L : Type 0} {packed : A → ℕ} (answerIn : L → A) {left left′ 
 
 module _ (F : Field) (s : List ℕ) (f : List Float) (u : List ℕ) {s′ : List ℕ} {f′ : List Float} {u′ : List ℕ} {r : ℕ} where
   pub closure-reads : Exported packedAnswer (λ a. values.left a s′ f′ u′) r (closing.closureCall F s f u) → AnswerRead (closing.closureCall F s f u .answer) r
-  closure-reads e = rw (number-is (λ (x : values.Left). x .answer) (λ a. refl) e) (answer-reads (closing.closureCall F s f u .answer))
+  closure-reads e = rw (number-is (λ (x : values.Left). x .answer) (λ a. refl) e) (answer-reads (closing.closureCall F s f u .answer) (values-fit _ F s f u))
 
   pub components-reads : Exported packedAnswer (λ a. values.left a s′ f′ u′) r (components.componentsCall F s f u) → AnswerRead (components.componentsCall F s f u .answer) r
-  components-reads e = rw (number-is (λ (x : values.Left). x .answer) (λ a. refl) e) (answer-reads (components.componentsCall F s f u .answer))
+  components-reads e = rw (number-is (λ (x : values.Left). x .answer) (λ a. refl) e) (answer-reads (components.componentsCall F s f u .answer) (values-fit _ F s f u))
 
   pub preprocess-reads : Exported packedAnswer (λ a. values.left a s′ f′ u′) r (preprocess.preprocessCall F s f u) → AnswerRead (preprocess.preprocessCall F s f u .answer) r
-  preprocess-reads e = rw (number-is (λ (x : values.Left). x .answer) (λ a. refl) e) (answer-reads (preprocess.preprocessCall F s f u .answer))
+  preprocess-reads e = rw (number-is (λ (x : values.Left). x .answer) (λ a. refl) e) (answer-reads (preprocess.preprocessCall F s f u .answer) (values-fit _ F s f u))
 
   pub heavy-reads : Exported packedAnswer (λ a. values.left a s′ f′ u′) r (heavy.heavyCall F s f u) → AnswerRead (heavy.heavyCall F s f u .answer) r
-  heavy-reads e = rw (number-is (λ (x : values.Left). x .answer) (λ a. refl) e) (answer-reads (heavy.heavyCall F s f u .answer))
+  heavy-reads e = rw (number-is (λ (x : values.Left). x .answer) (λ a. refl) e) (answer-reads (heavy.heavyCall F s f u .answer) (values-fit _ F s f u))
 
   pub probe-one-reads : (i v : ℕ) (t : List ℕ) → Exported packedAnswer (λ a. probing.left a s′ f′ u′) r (probing.probeOneCall F s i v t f u)
       → AnswerRead (probing.probeOneCall F s i v t f u .answer) r
-  probe-one-reads i v t e = rw (number-is (λ (x : probing.Left). x .answer) (λ a. refl) e) (answer-reads (probing.probeOneCall F s i v t f u .answer))
+  probe-one-reads i v t e = rw (number-is (λ (x : probing.Left). x .answer) (λ a. refl) e) (answer-reads (probing.probeOneCall F s i v t f u .answer) (probe-one-fits F s i v t f u))
 
   pub probe-reads : (t k : List ℕ) {k′ : List ℕ} → Exported packedCounted (λ a. searching.left a s′ k′ f′ u′) r (searching.probeCall F s t k f u)
       → CountRead (searching.probeCall F s t k f u .answer) r
@@ -91,5 +92,5 @@ pub shift-reads : (F : Field) {G : Field} {r : ℕ} → Exported packedCounted (
 shift-reads F e = rw (number-is (λ (x : shifting.Left). x .answer) (λ a. refl) e) (counted-reads (shifting.shiftCall F .answer) (shift-fits F))
 
 pub propagate-reads : (s list u : List ℕ) {s′ u′ : List ℕ} {r : ℕ} → Exported packedChecked (λ a. propagating.left a s′ u′) r (propagating.propagateCall s list u)
-    → Reads r (checkedNumber (propagating.propagateCall s list u .answer)) 0 0 0
-propagate-reads s list u e = rw (number-is (λ (x : propagating.Left). x .answer) (λ a. refl) e) (checked-reads (propagating.propagateCall s list u .answer))
+    → let a = propagating.propagateCall s list u .answer in Reads r (checkedNumber a) 0 (checkedCount a) 0
+propagate-reads s list u e = rw (number-is (λ (x : propagating.Left). x .answer) (λ a. refl) e) (checked-reads (propagating.propagateCall s list u .answer) (propagate-fits s list u))

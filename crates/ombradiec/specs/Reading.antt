@@ -4,11 +4,11 @@ use Rattle.field.specs.declared.Answer.{Answer}
 use Rattle.field.specs.declared.Counted.{Counted}
 use Rattle.field.specs.Answers.{answerNumber, countedNumber}
 use Rattle.pairs.specs.declared.Paired.{Paired}
-use Rattle.packing.specs.Layout.{Reads, answerGrade, countedGrade, countOf, pairedCount, pairsExamined}
+use Rattle.packing.specs.Layout.{Reads, answerGrade, answerCount, countedGrade, countOf, pairedCount, pairsExamined}
 
--- the refusal and the grade of the answer, and no count
+-- the refusal and the grade of the answer, and no count but the position that a refusal names
 abbrev pub AnswerRead : Answer → ℕ → Type 0
-AnswerRead a r = Reads r (answerNumber a) (answerGrade a) 0 0
+AnswerRead a r = Reads r (answerNumber a) (answerGrade a) (answerCount a) 0
 
 -- and one count
 abbrev pub CountRead : Counted → ℕ → Type 0

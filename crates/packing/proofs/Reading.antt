@@ -1,10 +1,9 @@
--- Refusal, grade and counts are read back from the number of an answer. Assumes nothing.
+-- Refusal, position, grade and counts are read back from the number of an answer. Assumes nothing.
 use Prim.Native.Nat.{ℕ, _≤_, _<_}
 use native.Mathlib.Omega.{arith}
 use Rattle.field.specs.declared.Grade.{Grade}
 use Rattle.field.specs.declared.Grade.the-variants.{Exact, Inexact}
 use Rattle.field.specs.declared.Refusal.{Refusal}
-use Rattle.field.specs.declared.Refusal.the-variants.{Variables, Lists, Order, Diagonal, Weights, Start, Argument, Scratch, Room, Clash}
 use Rattle.field.specs.declared.Checked.{Checked}
 use Rattle.field.specs.declared.Checked.the-variants.{Passed, Failed}
 use Rattle.field.specs.declared.Answer.{Answer}
@@ -14,8 +13,9 @@ use Rattle.field.specs.declared.Counted.the-variants.{Counts, Refuses}
 use Rattle.pairs.specs.declared.Paired.{Paired}
 use Rattle.pairs.specs.declared.Paired.the-variants as pairs
 use Rattle.pairs.specs.Call.{pairedNumber}
-use Rattle.field.specs.Answers.{numberOf, checkedNumber, answerNumber, countedNumber}
-use Rattle.packing.specs.Layout.{packed, Reads, gradeNumber, packedChecked, packedAnswer, packedCounted, answerGrade, countedGrade, countOf, packedPaired, pairedGrade, pairedCount, pairsExamined}
+use Rattle.field.specs.Answers.{numberOf, positionOf, checkedNumber, answerNumber, countedNumber}
+use Rattle.field.proofs.Answers.{number-most}
+use Rattle.packing.specs.Layout.{packed, Reads, gradeNumber, packedChecked, checkedCount, packedAnswer, packedCounted, answerGrade, answerCount, countedGrade, countOf, packedPaired, pairedGrade, pairedCount, pairsExamined}
 
 pub layout-reads : (refusal grade count pairs : ℕ) → refusal < 0x100 → grade < 0x100 → count < 0x1000_0000
     → Reads (packed refusal grade count pairs) refusal grade count pairs
@@ -30,37 +30,25 @@ pub grade-small : (g : Grade) → gradeNumber g ≤ 1
 grade-small Exact = omega arith
 grade-small Inexact = omega arith
 
-pub refusal-small : (r : Refusal) → numberOf r ≤ 10
-refusal-small Variables = omega arith
-refusal-small Lists = omega arith
-refusal-small Order = omega arith
-refusal-small Diagonal = omega arith
-refusal-small Weights = omega arith
-refusal-small Start = omega arith
-refusal-small Argument = omega arith
-refusal-small Scratch = omega arith
-refusal-small Room = omega arith
-refusal-small Clash = omega arith
-
 -- done, with the grade and both counts
 done-reads : (g : Grade) (count pairs : ℕ) → count < 0x1000_0000 → Reads (packed 0 (gradeNumber g) count pairs) 0 (gradeNumber g) count pairs
 done-reads g count pairs few = layout-reads 0 (gradeNumber g) count pairs (omega arith) (omega (arith, grade-small g)) few
 
-refusal-reads : (r : Refusal) → Reads (packed (numberOf r) 0 0 0) (numberOf r) 0 0 0
-refusal-reads r = layout-reads (numberOf r) 0 0 0 (omega (arith, refusal-small r)) (omega arith) (omega arith)
+refusal-reads : (r : Refusal) → positionOf r < 0x1000_0000 → Reads (packed (numberOf r) 0 (positionOf r) 0) (numberOf r) 0 (positionOf r) 0
+refusal-reads r few = layout-reads (numberOf r) 0 (positionOf r) 0 (omega (arith, number-most r)) (omega arith) few
 
-pub checked-reads : (a : Checked) → Reads (packedChecked a) (checkedNumber a) 0 0 0
-checked-reads Passed = layout-reads 0 0 0 0 (omega arith) (omega arith) (omega arith)
-checked-reads (Failed r) = refusal-reads r
+pub checked-reads : (a : Checked) → checkedCount a < 0x1000_0000 → Reads (packedChecked a) (checkedNumber a) 0 (checkedCount a) 0
+checked-reads Passed few = layout-reads 0 0 0 0 (omega arith) (omega arith) (omega arith)
+checked-reads (Failed r) few = refusal-reads r few
 
-pub answer-reads : (a : Answer) → Reads (packedAnswer a) (answerNumber a) (answerGrade a) 0 0
-answer-reads (Done g) = done-reads g 0 0 (omega arith)
-answer-reads (Refused r) = refusal-reads r
+pub answer-reads : (a : Answer) → answerCount a < 0x1000_0000 → Reads (packedAnswer a) (answerNumber a) (answerGrade a) (answerCount a) 0
+answer-reads (Done g) few = done-reads g 0 0 (omega arith)
+answer-reads (Refused r) few = refusal-reads r few
 
 pub counted-reads : (a : Counted) → countOf a < 0x1000_0000 → Reads (packedCounted a) (countedNumber a) (countedGrade a) (countOf a) 0
 counted-reads (Counts g k) few = done-reads g k 0 few
-counted-reads (Refuses r) few = refusal-reads r
+counted-reads (Refuses r) few = refusal-reads r few
 
 pub paired-reads : (a : Paired) → pairedCount a < 0x1000_0000 → Reads (packedPaired a) (pairedNumber a) (pairedGrade a) (pairedCount a) (pairsExamined a)
 paired-reads (pairs.Done g k p) few = done-reads g k p few
-paired-reads (pairs.Refused r) few = refusal-reads r
+paired-reads (pairs.Refused r) few = refusal-reads r few

@@ -4,6 +4,7 @@ use mathlib.Core.Path.{_≡_}
 use Rattle.field.specs.declared.Grade.{Grade}
 use Rattle.field.specs.declared.Grade.the-variants.{Exact, Inexact}
 use Rattle.field.specs.declared.Checked.{Checked}
+use Rattle.field.specs.declared.Checked.the-variants.{Passed, Failed}
 use Rattle.field.specs.declared.Answer.{Answer}
 use Rattle.field.specs.declared.Answer.the-variants.{Done, Refused}
 use Rattle.field.specs.declared.Counted.{Counted}
@@ -11,7 +12,7 @@ use Rattle.field.specs.declared.Counted.the-variants.{Counts, Refuses}
 use Rattle.pairs.specs.declared.Paired.{Paired}
 use Rattle.pairs.specs.declared.Paired.the-variants as pairs
 use Rattle.pairs.specs.Call.{pairedNumber}
-use Rattle.field.specs.Answers.{checkedNumber, answerNumber, countedNumber}
+use Rattle.field.specs.Answers.{positionOf, checkedNumber, answerNumber, countedNumber}
 
 -- ---- the layout
 
@@ -26,16 +27,24 @@ pub record Reads (r refusal grade count pairs : ℕ) : Type 0 where
   pub count-read : r / 0x1_0000 % 0x1000_0000 ≡ count
   pub pairs-read : r / 0x1000_0000_0000 ≡ pairs
 
--- ---- the parts of each answer: a refusal has neither a grade nor counts
+-- ---- the parts of each answer: a refusal has no grade, and its count is the position that it names
 
 -- 0 inexact, 1 exact
 abbrev pub gradeNumber : Grade → ℕ
 gradeNumber Inexact = 0
 gradeNumber Exact = 1
 
+abbrev pub checkedCount : Checked → ℕ
+checkedCount Passed = 0
+checkedCount (Failed r) = positionOf r
+
 abbrev pub answerGrade : Answer → ℕ
 answerGrade (Done g) = gradeNumber g
 answerGrade (Refused r) = 0
+
+abbrev pub answerCount : Answer → ℕ
+answerCount (Done g) = 0
+answerCount (Refused r) = positionOf r
 
 abbrev pub countedGrade : Counted → ℕ
 countedGrade (Counts g k) = gradeNumber g
@@ -43,7 +52,7 @@ countedGrade (Refuses r) = 0
 
 abbrev pub countOf : Counted → ℕ
 countOf (Counts g k) = k
-countOf (Refuses r) = 0
+countOf (Refuses r) = positionOf r
 
 abbrev pub pairedGrade : Paired → ℕ
 pairedGrade (pairs.Done g k p) = gradeNumber g
@@ -51,7 +60,7 @@ pairedGrade (pairs.Refused r) = 0
 
 abbrev pub pairedCount : Paired → ℕ
 pairedCount (pairs.Done g k p) = k
-pairedCount (pairs.Refused r) = 0
+pairedCount (pairs.Refused r) = positionOf r
 
 abbrev pub pairsExamined : Paired → ℕ
 pairsExamined (pairs.Done g k p) = p
@@ -60,10 +69,10 @@ pairsExamined (pairs.Refused r) = 0
 -- ---- the number of each answer
 
 abbrev pub packedChecked : Checked → ℕ
-packedChecked a = packed (checkedNumber a) 0 0 0
+packedChecked a = packed (checkedNumber a) 0 (checkedCount a) 0
 
 abbrev pub packedAnswer : Answer → ℕ
-packedAnswer a = packed (answerNumber a) (answerGrade a) 0 0
+packedAnswer a = packed (answerNumber a) (answerGrade a) (answerCount a) 0
 
 abbrev pub packedCounted : Counted → ℕ
 packedCounted a = packed (countedNumber a) (countedGrade a) (countOf a) 0

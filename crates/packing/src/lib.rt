@@ -7,8 +7,8 @@ use field::Refusal;
 use pairs::Paired;
 ghost use mathlib.Core.Path.{_≡_};
 ghost use Prim.Native.Nat.{_<_};
-ghost use Rattle.field.specs.Answers.{numberOf};
-ghost use Rattle.packing.specs.Layout.{packed, gradeNumber, packedChecked, packedAnswer, packedCounted, countOf, packedPaired, pairedCount, pairsExamined};
+ghost use Rattle.field.specs.Answers.{numberOf, positionOf};
+ghost use Rattle.packing.specs.Layout.{packed, gradeNumber, packedChecked, checkedCount, packedAnswer, answerCount, packedCounted, countOf, packedPaired, pairedCount, pairsExamined};
 
 fn grade_number(grade: Grade) -> u64
     ensures { λ r. ⌜ r ≡ gradeNumber grade ⌝ }
@@ -28,14 +28,16 @@ fn pack_done(grade: Grade, count: usize, pairs: usize) -> u64
     0x100 * grade_number(grade) + 0x1_0000 * (count as u64) + 0x1000_0000_0000 * (pairs as u64)
 }
 
-// A refusal has neither a grade nor a count.
+// A refusal has no grade, and its count is the position that it names.
 fn pack_refusal(refusal: Refusal) -> u64
-    ensures { λ r. ⌜ r ≡ packed (numberOf refusal) 0 0 0 ⌝ }
+    requires { ⌜ positionOf refusal < 0x1000_0000 ⌝ }
+    ensures { λ r. ⌜ r ≡ packed (numberOf refusal) 0 (positionOf refusal) 0 ⌝ }
 {
-    refusal.number() as u64
+    (refusal.number() as u64) + 0x1_0000 * (refusal.position() as u64)
 }
 
 pub fn pack_checked(answer: Checked) -> u64
+    requires { ⌜ checkedCount answer < 0x1000_0000 ⌝ }
     ensures { λ r. ⌜ r ≡ packedChecked answer ⌝ }
 {
     match answer {
@@ -45,6 +47,7 @@ pub fn pack_checked(answer: Checked) -> u64
 }
 
 pub fn pack_answer(answer: Answer) -> u64
+    requires { ⌜ answerCount answer < 0x1000_0000 ⌝ }
     ensures { λ r. ⌜ r ≡ packedAnswer answer ⌝ }
 {
     match answer {

@@ -1,7 +1,8 @@
 -- The number of this answer, by its cases. Assumes nothing.
 use mathlib.Core.Path.{sym, ap, _∙_}
+use native.Mathlib.Omega.{arith}
 use borrow.Author.Needs.{needs}
-use Rattle.packing.specs.Layout.{packedAnswer}
+use Rattle.packing.specs.Layout.{packedAnswer, answerCount}
 use Rattle.packing.proofs.pack_answer.Statement.{statement}
 use Rattle.packing.proofs.pack_answer.Tie as tie
 
@@ -15,7 +16,7 @@ enum-known-answer-2 : tie.Need-enum-known-answer-2
 enum-known-answer-2 c = search needs
 
 pack-refusal-requires : tie.Need-pack-refusal-requires
-pack-refusal-requires c κs = search needs
+pack-refusal-requires c κs = omega (arith, ap answerCount (c .before .answer2 .given .1))
 
 returns : tie.Need-returns
 returns c = c .pack-done .ensures ∙ ap packedAnswer (sym (c .before .before .answer .given .1))

@@ -1,7 +1,8 @@
 -- The number of this answer, by its cases. Assumes nothing.
 use mathlib.Core.Path.{sym, ap, _∙_}
+use native.Mathlib.Omega.{arith}
 use borrow.Author.Needs.{needs}
-use Rattle.packing.specs.Layout.{packedChecked}
+use Rattle.packing.specs.Layout.{packedChecked, checkedCount}
 use Rattle.packing.proofs.pack_checked.Statement.{statement}
 use Rattle.packing.proofs.pack_checked.Tie as tie
 
@@ -12,7 +13,7 @@ enum-known-answer : tie.Need-enum-known-answer
 enum-known-answer c = search needs
 
 pack-refusal-requires : tie.Need-pack-refusal-requires
-pack-refusal-requires c κs = search needs
+pack-refusal-requires c κs = omega (arith, ap checkedCount (c .before .answer .given .1))
 
 returns : tie.Need-returns
 returns c = ap packedChecked (sym (c .enum-told .given .1))

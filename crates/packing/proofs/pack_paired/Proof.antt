@@ -16,7 +16,7 @@ enum-known-answer-2 : tie.Need-enum-known-answer-2
 enum-known-answer-2 c = search needs
 
 pack-refusal-requires : tie.Need-pack-refusal-requires
-pack-refusal-requires c κs = search needs
+pack-refusal-requires c κs = omega (arith, ap pairedCount (c .before .answer2 .given .1))
 
 returns : tie.Need-returns
 returns c = c .pack-done .ensures ∙ ap packedPaired (sym (c .before .before .answer .given .1))

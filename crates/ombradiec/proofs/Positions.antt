@@ -1,0 +1,76 @@
+-- The position that a refusal names is below 32,768, and has room in the number of each call's answer. Assumes nothing.
+use Prim.Native.Nat.{ℕ, _<_}
+use mathlib.Core.Path.{_≡_, ap}
+use mathlib.Core.List.{List, []}
+use native.Mathlib.Omega.{arith}
+use lib.ListN.{length}
+use lib.Ieee.{Float}
+use Rattle.field.specs.declared.Answer.{Answer}
+use Rattle.field.specs.declared.Checked.{Checked}
+use Rattle.field.specs.declared.Answer.the-variants.{Refused}
+use Rattle.field.specs.declared.Checked.the-variants.{Failed}
+use Rattle.field.specs.declared.Refusal.the-variants.{Variables, Start, Argument, Scratch}
+use Rattle.field.specs.Field.{Field}
+use Rattle.field.specs.Tests.{readyTests}
+use Rattle.field.specs.Faults.{Near}
+use Rattle.field.proofs.Faults.{near-none, near-test, near-group, loose-near, standard-near, ready-near}
+use Rattle.calls.specs.Values as values
+use Rattle.calls.proofs.Usual.{answer-has}
+use Rattle.no_effect.specs.Call.{wordTests}
+use Rattle.anchors.specs.Call.{anchorTests}
+use Rattle.probe.specs.Call as probing
+use Rattle.propagation.specs.Tests.{propagationTests}
+use Rattle.propagation.specs.Call as propagating
+use Rattle.packing.specs.Layout.{checkedCount, answerCount}
+
+-- ---- the tests of the calls that do not make those of `ready`
+
+pub word-near : (F : Field) (words : ℕ) → Near (wordTests F words)
+unfolding wordTests
+word-near F words = near-group _ _ (loose-near F) (near-test Scratch _ _ (omega arith) near-none)
+
+pub anchor-near : (F : Field) (s : List ℕ) (floats words : ℕ) → Near (anchorTests F s floats words)
+unfolding anchorTests
+anchor-near F s floats words =
+    near-group _ _ (loose-near F) (near-test Start _ _ (omega arith) (near-test Scratch _ _ (omega arith) (near-test Scratch _ _ (omega arith) near-none)))
+
+probe-near : (F : Field) (s : List ℕ) (i v floats words : ℕ) → Near (probing.probeTests F s i v floats words)
+unfolding probing.probeTests
+probe-near F s i v floats words =
+    near-group _ _ (standard-near F s) (near-test Argument _ _ (omega arith) (near-test Scratch _ _ (omega arith) (near-test Scratch _ _ (omega arith) near-none)))
+
+propagation-near : (s list : List ℕ) (words : ℕ) → Near (propagationTests s list words)
+unfolding propagationTests
+propagation-near s list words =
+    near-test Variables _ _ (omega arith) (near-test Start _ _ (omega arith) (near-test Argument _ _ (omega arith) (near-test Scratch _ _ (omega arith) near-none)))
+
+-- ---- the calls that count nothing
+
+module _ (g : values.Values) (F : Field) (s : List ℕ) (f : List Float) (u : List ℕ) where
+  pub values-fit : answerCount (values.valuesCall g F s f u .answer) < 0x1000_0000
+  unfolding values.valuesCall
+  values-fit =
+      answer-has Refused _ (readyTests F s (length f) (length u)) [] _ (λ a. answerCount a < 0x1000_0000) (λ r e. omega (arith, ready-near F s (length f) (length u) r e)) tt (λ e. omega arith)
+
+  pub values-few : {a : Answer} {s′ : List ℕ} {f′ : List Float} {u′ : List ℕ} → values.left a s′ f′ u′ ≡ values.valuesCall g F s f u → answerCount a < 0x1000_0000
+  values-few e = omega (arith, values-fit, ap (λ (x : values.Left). answerCount (x .answer)) e)
+
+module _ (F : Field) (s : List ℕ) (i v : ℕ) (t : List ℕ) (f : List Float) (u : List ℕ) where
+  pub probe-one-fits : answerCount (probing.probeOneCall F s i v t f u .answer) < 0x1000_0000
+  unfolding probing.probeOneCall
+  probe-one-fits =
+      answer-has Refused _ (probing.probeTests F s i v (length f) (length u)) _ _ (λ a. answerCount a < 0x1000_0000)
+      (λ r e. omega (arith, probe-near F s i v (length f) (length u) r e)) (omega arith, tt) (λ e. omega arith)
+
+  pub probe-one-few : {a : Answer} {t′ : List ℕ} {f′ : List Float} {u′ : List ℕ} → probing.left a t′ f′ u′ ≡ probing.probeOneCall F s i v t f u → answerCount a < 0x1000_0000
+  probe-one-few e = omega (arith, probe-one-fits, ap (λ (x : probing.Left). answerCount (x .answer)) e)
+
+module _ (s list u : List ℕ) where
+  pub propagate-fits : checkedCount (propagating.propagateCall s list u .answer) < 0x1000_0000
+  unfolding propagating.propagateCall
+  propagate-fits =
+      answer-has Failed _ (propagationTests s list (length u)) _ _ (λ a. checkedCount a < 0x1000_0000) (λ r e. omega (arith, propagation-near s list (length u) r e)) (omega arith, tt)
+      (λ e. omega arith)
+
+  pub propagate-few : {a : Checked} {s′ u′ : List ℕ} → propagating.left a s′ u′ ≡ propagating.propagateCall s list u → checkedCount a < 0x1000_0000
+  propagate-few e = omega (arith, propagate-fits, ap (λ (x : propagating.Left). checkedCount (x .answer)) e)
