@@ -14,12 +14,13 @@ use lines::outcomes::checked;
 use lines::outcomes::counted;
 use lines::outcomes::is_exact;
 use lines::outcomes::refused;
+use lines::outcomes::refusing;
 use pairs::Paired;
 use stream::head::Head;
 ghost use Prim.Native.Nat.{_≤_};
 
 fn paired(answer: Paired) -> Outcome
-    ensures { λ r. ⌜ r .number ≤ 11 ⌝ }
+    ensures { λ r. ⌜ r .number ≤ 17 ⌝ }
 {
     match answer {
         Paired::Done(grade, count, examined) => {
@@ -30,7 +31,7 @@ fn paired(answer: Paired) -> Outcome
                 pairs: examined,
             }
         }
-        Paired::Refused(refusal) => refused(refusal.number()),
+        Paired::Refused(refusal) => refusing(refusal),
     }
 }
 
@@ -45,7 +46,7 @@ fn in_components(
     f: &mut [f64],
     u: &mut [u32],
 ) -> Outcome
-    ensures { λ r. ⌜ r .number ≤ 11 ⌝ }
+    ensures { λ r. ⌜ r .number ≤ 17 ⌝ }
 {
     if code == COMPONENTS {
         return answered(components::components(c, rows, cols, q, start, f, u));
@@ -67,7 +68,7 @@ fn in_start(
     f: &mut [f64],
     u: &mut [u32],
 ) -> Outcome
-    ensures { λ r. ⌜ r .number ≤ 11 ⌝ }
+    ensures { λ r. ⌜ r .number ≤ 17 ⌝ }
 {
     if code == CLOSURE {
         return answered(closure::closure(c, rows, cols, q, start, f, u));
@@ -87,7 +88,7 @@ fn in_list(
     f: &mut [f64],
     u: &mut [u32],
 ) -> Outcome
-    ensures { λ r. ⌜ r .number ≤ 11 ⌝ }
+    ensures { λ r. ⌜ r .number ≤ 17 ⌝ }
 {
     if head.code == PAIRS {
         return paired(pairs::pairs(c, rows, cols, q, start, head.limit, list, f, u));
@@ -114,7 +115,7 @@ pub fn make(
     f: &mut [f64],
     u: &mut [u32],
 ) -> Outcome
-    ensures { λ r. ⌜ r .number ≤ 11 ⌝ }
+    ensures { λ r. ⌜ r .number ≤ 17 ⌝ }
 {
     let code = head.code;
     if code <= PREPROCESS {

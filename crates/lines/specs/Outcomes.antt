@@ -4,12 +4,14 @@ use mathlib.Core.Bool.{Bool, true, false, _&&_}
 use lib.Dec.{leb}
 use Rattle.field.specs.declared.Grade.{Grade}
 use Rattle.field.specs.declared.Grade.the-variants.{Exact, Inexact}
+use Rattle.field.specs.declared.Refusal.{Refusal}
 use Rattle.field.specs.declared.Checked.{Checked}
+use Rattle.field.specs.declared.Checked.the-variants.{Passed, Failed}
 use Rattle.field.specs.declared.Answer.{Answer}
 use Rattle.field.specs.declared.Answer.the-variants.{Done, Refused}
 use Rattle.field.specs.declared.Counted.{Counted}
 use Rattle.field.specs.declared.Counted.the-variants.{Counts, Refuses}
-use Rattle.field.specs.Answers.{numberOf, checkedNumber}
+use Rattle.field.specs.Answers.{numberOf, positionOf}
 use Rattle.lines.specs.declared.Outcome.{Outcome}
 
 abbrev pub outcome : ℕ → Bool → ℕ → ℕ → Outcome
@@ -23,16 +25,21 @@ isExact Inexact = false
 abbrev pub refused : ℕ → Outcome
 refused number = outcome number false 0 0
 
+-- a refusal's number, with the position that it names
+abbrev pub refusing : Refusal → Outcome
+refusing r = outcome (numberOf r) false (positionOf r) 0
+
 abbrev pub checked : Checked → Outcome
-checked a = refused (checkedNumber a)
+checked Passed = refused 0
+checked (Failed r) = refusing r
 
 abbrev pub answered : Answer → Outcome
 answered (Done g) = outcome 0 (isExact g) 0 0
-answered (Refused r) = refused (numberOf r)
+answered (Refused r) = refusing r
 
 abbrev pub counted : Counted → Outcome
 counted (Counts g count) = outcome 0 (isExact g) count 0
-counted (Refuses r) = refused (numberOf r)
+counted (Refuses r) = refusing r
 
 -- the code is from the first to the last
 abbrev pub among : ℕ → ℕ → ℕ → Bool

@@ -50,6 +50,11 @@ pub const SHIFT: u8 = 13;
 // The number of a call that is not here.
 pub const ABSENT: u32 = 11;
 
+// The first and the last number of a refusal that names the position of an entry.
+const ROW: u32 = 14;
+
+const ORDER: u32 = 17;
+
 // What lent slices hold before a call; none can be part of an answer.
 pub const FLOAT: f64 = 165.5;
 
@@ -59,7 +64,7 @@ pub const BYTE: u8 = 165;
 
 pub const SHORT: u16 = 42_405;
 
-// What a call answered: the number, and on 0 the grade, the count of items and the count of pairs.
+// What a call answered: the number, and on 0 the grade, the count of items and the count of pairs; on 14 to 17 the count is a position.
 pub struct Outcome {
     pub number: u32,
     pub is_exact: bool,
@@ -67,10 +72,21 @@ pub struct Outcome {
     pub pairs: usize,
 }
 
-// 1 to 8 change nothing lent.
+// Whether a refusal names the position of an entry.
+fn has_position(number: u32) -> bool {
+    if number < ROW {
+        return false;
+    }
+    number <= ORDER
+}
+
+// 1 to 8 and 14 to 17 change nothing lent.
 fn is_early(number: u32) -> bool {
     if number == 0 {
         return false;
+    }
+    if has_position(number) {
+        return true;
     }
     number < 9
 }
@@ -85,7 +101,7 @@ pub fn is_among(code: u8, first: u8, last: u8) -> bool
     code <= last
 }
 
-// The number and, where there is a field, its grade.
+// The number and, where there is a field, its grade; the position that a refusal names.
 pub fn put_outcome(out: &mut [u8], used: usize, code: u8, outcome: Outcome) -> usize
     ensures { λ r. ⌜ r ≤ length (after out) ⌝ }
 {
@@ -93,6 +109,10 @@ pub fn put_outcome(out: &mut [u8], used: usize, code: u8, outcome: Outcome) -> u
         return put_text(out, used, b"absent");
     }
     let numbered = put_number(out, used, scratch::wide_word(outcome.number));
+    if has_position(outcome.number) {
+        let named = put_text(out, numbered, b" at=");
+        return put_number(out, named, outcome.count);
+    }
     if outcome.number > 0 {
         return numbered;
     }
@@ -236,7 +256,7 @@ fn put_found(out: &mut [u8], used: usize, code: u8, number: u32, found: &[u8]) -
     if number == 0 {
         return put_digits(out, named, found);
     }
-    if number < 9 {
+    if is_early(number) {
         let is_kept = all_bytes(found, BYTE);
         return put_promise(out, named, b"kept", is_kept);
     }

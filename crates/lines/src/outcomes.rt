@@ -4,8 +4,9 @@ use field::Answer;
 use field::Checked;
 use field::Counted;
 use field::Grade;
+use field::Refusal;
 ghost use mathlib.Core.Path.{_≡_};
-ghost use Rattle.lines.specs.Outcomes.{isExact, refused as refusedBy, answered as answeredBy, checked as checkedBy, counted as countedBy};
+ghost use Rattle.lines.specs.Outcomes.{isExact, refused as refusedBy, refusing as refusingBy, answered as answeredBy, checked as checkedBy, counted as countedBy};
 
 // Whether a grade is exact.
 pub fn is_exact(grade: Grade) -> bool
@@ -29,7 +30,19 @@ pub fn refused(number: u32) -> Outcome
     }
 }
 
-// Done with a grade, or a refusal's number.
+// A refusal's number, with the position that it names.
+pub fn refusing(refusal: Refusal) -> Outcome
+    ensures { λ r. ⌜ r ≡ refusingBy refusal ⌝ }
+{
+    Outcome {
+        number: refusal.number(),
+        is_exact: false,
+        count: refusal.position(),
+        pairs: 0,
+    }
+}
+
+// Done with a grade, or a refusal.
 pub fn answered(answer: Answer) -> Outcome
     ensures { λ r. ⌜ r ≡ answeredBy answer ⌝ }
 {
@@ -40,21 +53,21 @@ pub fn answered(answer: Answer) -> Outcome
             count: 0,
             pairs: 0,
         },
-        Answer::Refused(refusal) => refused(refusal.number()),
+        Answer::Refused(refusal) => refusing(refusal),
     }
 }
 
-// The number alone, 0 where all passed.
+// A refusal, or 0 where all passed.
 pub fn checked(answer: Checked) -> Outcome
     ensures { λ r. ⌜ r ≡ checkedBy answer ⌝ }
 {
     match answer {
         Checked::Passed => refused(0),
-        Checked::Failed(refusal) => refused(refusal.number()),
+        Checked::Failed(refusal) => refusing(refusal),
     }
 }
 
-// Done with a grade and a count, or a refusal's number.
+// Done with a grade and a count, or a refusal.
 pub fn counted(answer: Counted) -> Outcome
     ensures { λ r. ⌜ r ≡ countedBy answer ⌝ }
 {
@@ -67,6 +80,6 @@ pub fn counted(answer: Counted) -> Outcome
                 pairs: 0,
             }
         }
-        Counted::Refuses(refusal) => refused(refusal.number()),
+        Counted::Refuses(refusal) => refusing(refusal),
     }
 }

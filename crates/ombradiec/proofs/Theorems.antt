@@ -6,9 +6,13 @@ use lib.Ieee.{Float}
 use Rattle.field.specs.Answers.{checkedNumber}
 use Rattle.field.specs.Field.{Field}
 use Rattle.calls.specs.Values as values
+use Rattle.run.specs.Run.{closure}
 use Rattle.closure.specs.Call as closing
+use Rattle.components.specs.Small.{smallParts}
 use Rattle.components.specs.Call as components
+use Rattle.preprocess.specs.Working as working
 use Rattle.preprocess.specs.Call as preprocess
+use Rattle.heavy.specs.Rounds as rounding
 use Rattle.heavy.specs.Call as heavy
 use Rattle.no_effect.specs.Call as effectless
 use Rattle.shift.specs.Call as shifting
@@ -50,16 +54,16 @@ module _ {A L : Type 0} {packed : A → ℕ} (answerIn : L → A) {left left′ 
 
 module _ (F : Field) (s : List ℕ) (f : List Float) (u : List ℕ) {s′ : List ℕ} {f′ : List Float} {u′ : List ℕ} {r : ℕ} where
   pub closure-reads : Exported packedAnswer (λ a. values.left a s′ f′ u′) r (closing.closureCall F s f u) → AnswerRead (closing.closureCall F s f u .answer) r
-  closure-reads e = rw (number-is (λ (x : values.Left). x .answer) (λ a. refl) e) (answer-reads (closing.closureCall F s f u .answer) (values-fit _ F s f u))
+  closure-reads e = rw (number-is (λ (x : values.Left). x .answer) (λ a. refl) e) (answer-reads (closing.closureCall F s f u .answer) (values-fit closure F s f u))
 
   pub components-reads : Exported packedAnswer (λ a. values.left a s′ f′ u′) r (components.componentsCall F s f u) → AnswerRead (components.componentsCall F s f u .answer) r
-  components-reads e = rw (number-is (λ (x : values.Left). x .answer) (λ a. refl) e) (answer-reads (components.componentsCall F s f u .answer) (values-fit _ F s f u))
+  components-reads e = rw (number-is (λ (x : values.Left). x .answer) (λ a. refl) e) (answer-reads (components.componentsCall F s f u .answer) (values-fit smallParts F s f u))
 
   pub preprocess-reads : Exported packedAnswer (λ a. values.left a s′ f′ u′) r (preprocess.preprocessCall F s f u) → AnswerRead (preprocess.preprocessCall F s f u .answer) r
-  preprocess-reads e = rw (number-is (λ (x : values.Left). x .answer) (λ a. refl) e) (answer-reads (preprocess.preprocessCall F s f u .answer) (values-fit _ F s f u))
+  preprocess-reads e = rw (number-is (λ (x : values.Left). x .answer) (λ a. refl) e) (answer-reads (preprocess.preprocessCall F s f u .answer) (values-fit working.preprocess F s f u))
 
   pub heavy-reads : Exported packedAnswer (λ a. values.left a s′ f′ u′) r (heavy.heavyCall F s f u) → AnswerRead (heavy.heavyCall F s f u .answer) r
-  heavy-reads e = rw (number-is (λ (x : values.Left). x .answer) (λ a. refl) e) (answer-reads (heavy.heavyCall F s f u .answer) (values-fit _ F s f u))
+  heavy-reads e = rw (number-is (λ (x : values.Left). x .answer) (λ a. refl) e) (answer-reads (heavy.heavyCall F s f u .answer) (values-fit rounding.heavy F s f u))
 
   pub probe-one-reads : (i v : ℕ) (t : List ℕ) → Exported packedAnswer (λ a. probing.left a s′ f′ u′) r (probing.probeOneCall F s i v t f u)
       → AnswerRead (probing.probeOneCall F s i v t f u .answer) r

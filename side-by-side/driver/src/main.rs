@@ -20,8 +20,8 @@ fn main() -> io::Result<()> {
 
 /// The refusals are worked out here from document 01's table; all else is the text's.
 fn answer(case: &Case) -> Answer {
-    if let Some(number) = table::refusal(case) {
-        return Answer::Refused(number);
+    if let Some(refusal) = table::refusal(case) {
+        return Answer::Refused(refusal);
     }
     let given = map_of(&case.start);
     let mut done = Done::default();

@@ -1,12 +1,13 @@
 //! The words of an answer line, as docs/CASES.md gives them.
 
-use crate::{table, Case};
+use crate::table::{self, Refusal};
+use crate::Case;
 use std::fmt::Display;
 
 /// What a call answers.
 pub enum Answer {
-    /// The refusals 1 to 8.
-    Refused(u8),
+    /// The refusals that change nothing lent.
+    Refused(Refusal),
     /// An answer list does not fit.
     NoRoom,
     Clash,
@@ -32,12 +33,15 @@ pub fn line(case: &Case, answer: &Answer) -> String {
     let mut words: Vec<String> = Vec::new();
     // The word for start values, answer lists, the field and scratch.
     let (number, start, lists, scratch) = match answer {
-        Answer::Refused(number) => (*number, "kept", "kept", "kept"),
+        Answer::Refused(refusal) => (refusal.number, "kept", "kept", "kept"),
         Answer::NoRoom => (9, "kept", "zeros", "zeros"),
         Answer::Clash => (10, "kept", "zeros", "zeros"),
         Answer::Done(_) => (0, "", "", "zeros"),
     };
     words.push(number.to_string());
+    if let Answer::Refused(Refusal { at: Some(at), .. }) = answer {
+        words.push(format!("at={at}"));
+    }
     if let Answer::Done(done) = answer {
         if call.has_field() {
             words.push(table::grade(case).to_string());

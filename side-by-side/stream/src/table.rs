@@ -1,31 +1,48 @@
 //! Document 01's table of answers and its grade, worked out from the case alone.
 
 use crate::{Call, Case};
+use std::cmp::Ordering;
 
 pub const MOST_VARIABLES: usize = 4_096;
 pub const MOST_ENTRIES: usize = 32_768;
 pub const MOST_CONSTRAINTS: usize = 65_536;
 
+/// A refusal's number, and the position of the first entry at fault where it names one.
+#[derive(Clone, Copy, Debug, PartialEq, Eq)]
+pub struct Refusal {
+    pub number: u8,
+    pub at: Option<usize>,
+}
+
 /// Says whether a test fails on the case.
 type Fails = fn(&Case) -> bool;
 
-/// The first of the tests 1 to 8 that fails, in the table's order.
-pub fn refusal(case: &Case) -> Option<u8> {
+/// The first test that fails, in the table's order: 1, 2, 14 to 17 as one, and 4 to 8.
+pub fn refusal(case: &Case) -> Option<Refusal> {
     let call = case.call;
-    let tests: [(u8, bool, Fails); 8] = [
+    let before: [(u8, bool, Fails); 2] = [
         (1, true, too_many),
         (2, call.has_field(), lists_broken),
-        (3, call.has_field(), order_broken),
+    ];
+    let after: [(u8, bool, Fails); 5] = [
         (4, call.needs_standard(), diagonal),
         (5, call.has_field(), not_finite),
         (6, call.has_start(), start_broken),
         (7, true, arguments_broken),
         (8, true, scratch_short),
     ];
-    tests
-        .iter()
-        .find(|(_, applies, fails)| *applies && fails(case))
-        .map(|test| test.0)
+    let first = |tests: &[(u8, bool, Fails)]| {
+        let failed = tests
+            .iter()
+            .find(|(_, applies, fails)| *applies && fails(case));
+        failed.map(|test| Refusal {
+            number: test.0,
+            at: None,
+        })
+    };
+    first(&before)
+        .or_else(|| fault(case).filter(|_| call.has_field()))
+        .or_else(|| first(&after))
 }
 
 fn too_many(case: &Case) -> bool {
@@ -37,10 +54,27 @@ fn lists_broken(case: &Case) -> bool {
     m != case.columns.len() || m != case.weights.len() || m > MOST_ENTRIES
 }
 
-fn order_broken(case: &Case) -> bool {
+/// Document 02, C-12: what is wrong with the first entry at fault, the row before the column and both before order.
+fn fault(case: &Case) -> Option<Refusal> {
     let n = case.n();
     let places: Vec<_> = case.entries().map(|(i, j, _)| (j, i)).collect();
-    places.iter().any(|&(j, i)| i >= n || j >= n) || places.windows(2).any(|p| p[0] >= p[1])
+    let wrong = |k: usize| {
+        let (column, row) = places[k];
+        let order = k.checked_sub(1).map(|last| places[last].cmp(&places[k]));
+        match order {
+            _ if row >= n => Some(14),
+            _ if column >= n => Some(15),
+            Some(Ordering::Equal) => Some(16),
+            Some(Ordering::Greater) => Some(17),
+            _ => None,
+        }
+    };
+    (0..places.len()).find_map(|k| {
+        wrong(k).map(|number| Refusal {
+            number,
+            at: Some(k),
+        })
+    })
 }
 
 fn diagonal(case: &Case) -> bool {

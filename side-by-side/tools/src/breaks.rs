@@ -3,7 +3,7 @@
 use crate::random::Random;
 use stream::{table, Call, Case};
 
-/// Breaks the case so that the numbered test fails where the call makes it; says whether it does.
+/// Breaks the case so that the numbered test fails where the call makes it; says whether it does. The order of entries, 14 to 17, is the third.
 pub fn break_case(random: &mut Random, case: &mut Case, number: u8) -> bool {
     let call = case.call;
     match number {
@@ -80,6 +80,42 @@ fn break_order(random: &mut Random, case: &mut Case) {
             case.columns.push(n.saturating_sub(1));
             case.weights.push(1.0);
         }
+    }
+}
+
+/// Breaks entries in one to three ways, so that faults of all four kinds meet in either order, also at the first and the last entry.
+pub fn break_entries(random: &mut Random, case: &mut Case) {
+    if case.rows.is_empty() && case.columns.is_empty() && case.weights.is_empty() {
+        case.rows.push(0);
+        case.columns.push(0);
+        case.weights.push(1.0);
+    }
+    for _ in 0..random.pick(&[1, 2, 2, 3]) {
+        break_entry(random, case);
+    }
+}
+
+fn break_entry(random: &mut Random, case: &mut Case) {
+    let n = case.n() as u16;
+    let m = case.rows.len().min(case.columns.len());
+    if m == 0 {
+        return;
+    }
+    let any = random.below(m);
+    let at = random.pick(&[0, m - 1, any, any]);
+    let far = random.pick(&[n, n + 1, u16::MAX]);
+    let earlier = random.below(at + 1);
+    let other = random.pick(&[at.saturating_sub(1), earlier]);
+    match random.below(6) {
+        0 => case.rows[at] = far,
+        1 => case.columns[at] = far,
+        2 => (case.rows[at], case.columns[at]) = (far, n),
+        3 => (case.rows[at], case.columns[at]) = (case.rows[other], case.columns[other]),
+        4 => {
+            case.rows.swap(at, other);
+            case.columns.swap(at, other);
+        }
+        _ => case.rows.swap(at, other),
     }
 }
 

@@ -1,4 +1,4 @@
-//! The recorded set: document 01's worked values, every refusal alone and in pairs, sizes at the limits, and small random cases.
+//! The recorded set: document 01's worked values, every refusal alone and in pairs, sizes at the limits, small random cases, and lists with one or more entries at fault.
 
 use crate::breaks;
 use crate::make;
@@ -163,6 +163,12 @@ pub fn recorded(calls: &[Call]) -> Vec<Case> {
             }
         }
     }
+    // These came with document 02, and stand last so that the others keep their places.
+    for (call, _) in CALLS {
+        if calls.contains(&call) && call.has_field() {
+            faults(call, &mut cases);
+        }
+    }
     cases
 }
 
@@ -252,7 +258,7 @@ fn refusals(call: Call, cases: &mut Vec<Case>) {
         for _ in 0..5 {
             let mut case = base(&mut random);
             if breaks::break_case(&mut random, &mut case, number) {
-                assert_eq!(table::refusal(&case), Some(number).filter(|&k| k < 9));
+                assert_eq!(test_of(&case), Some(number).filter(|&k| k < 9));
                 cases.push(case);
             }
         }
@@ -260,10 +266,65 @@ fn refusals(call: Call, cases: &mut Vec<Case>) {
             let mut case = base(&mut random);
             let second = breaks::break_case(&mut random, &mut case, other);
             if breaks::break_case(&mut random, &mut case, number) && second {
-                assert_eq!(table::refusal(&case), Some(number));
+                assert_eq!(test_of(&case), Some(number));
                 cases.push(case);
             }
         }
+    }
+}
+
+/// The place in the table of the test that refuses the case: 14 to 17 stand in the third.
+fn test_of(case: &Case) -> Option<u8> {
+    table::refusal(case).map(|refusal| if refusal.at.is_some() { 3 } else { refusal.number })
+}
+
+/// Lists with an entry at fault: n, the places (row, column), the number and the position.
+type Faulty = (usize, &'static [(u16, u16)], u8, usize);
+
+pub const FAULTY: [Faulty; 13] = [
+    (2, &[(0, 1), (2, 0)], 14, 1),
+    (2, &[(5, 7)], 14, 0),
+    (2, &[(0, 9)], 15, 0),
+    (2, &[(0, 1), (0, 1)], 16, 1),
+    (2, &[(1, 1), (0, 1)], 17, 1),
+    (3, &[(0, 1), (0, 1), (3, 0)], 16, 1),
+    (0, &[(0, 0)], 14, 0),
+    (2, &[(0, 1), (1, 1), (0, 1)], 17, 2),
+    (3, &[(0, 1), (3, 1), (0, 1)], 14, 1),
+    (3, &[(0, 2), (0, 1), (0, 3)], 17, 1),
+    (3, &[(0, 1), (0, 3), (0, 1)], 15, 1),
+    (3, &[(1, 0), (0, 1), (u16::MAX, 2)], 14, 2),
+    (3, &[(1, 0), (0, 1), (1, u16::MAX)], 15, 2),
+];
+
+/// Entries at fault, and random lists with more than one.
+fn faults(call: Call, cases: &mut Vec<Case>) {
+    let listed = |n: usize, places: &[(u16, u16)]| {
+        let mut case = Case::new(call);
+        case.linear = vec![1.0; n];
+        case.rows = places.iter().map(|place| place.0).collect();
+        case.columns = places.iter().map(|place| place.1).collect();
+        case.weights = vec![1.0; places.len()];
+        if call.has_start() {
+            case.start = vec![2; n];
+        }
+        ample(&mut case);
+        case
+    };
+    for (n, places, number, at) in FAULTY {
+        let case = listed(n, places);
+        let refusal = table::Refusal {
+            number,
+            at: Some(at),
+        };
+        assert_eq!(table::refusal(&case), Some(refusal));
+        cases.push(case);
+    }
+    let mut random = Random::new(0xfa17 + u64::from(call.code()));
+    for _ in 0..12 {
+        let mut case = listed(4, &[(1, 0), (0, 1), (2, 1), (0, 2), (1, 2), (3, 2), (2, 3)]);
+        breaks::break_entries(&mut random, &mut case);
+        cases.push(case);
     }
 }
 

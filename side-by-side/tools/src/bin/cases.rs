@@ -1,12 +1,13 @@
 //! Writes a stream of cases to standard output.
-//! Usage: `cases SEED COUNT [CALLS]` for random ones, `cases recorded [CALLS]` for the recorded set; CALLS is a list of names with commas.
+//! Usage: `cases SEED COUNT [CALLS]` for random ones, `cases entries SEED COUNT [CALLS]` for random ones whose entries are broken,
+//! `cases recorded [CALLS]` for the recorded set; CALLS is a list of names with commas.
 
 use std::io::{self, BufWriter, Write};
 use tools::random::Random;
-use tools::{calls_named, make, recorded};
+use tools::{breaks, calls_named, make, recorded};
 
 fn main() -> io::Result<()> {
-    let words: Vec<String> = std::env::args().skip(1).collect();
+    let mut words: Vec<String> = std::env::args().skip(1).collect();
     let mut output = BufWriter::with_capacity(1 << 20, io::stdout().lock());
     if words.first().is_some_and(|word| word == "recorded") {
         for case in recorded::recorded(&calls_named(words.get(1).map(String::as_str))) {
@@ -14,9 +15,13 @@ fn main() -> io::Result<()> {
         }
         return output.flush();
     }
+    let broken = words.first().is_some_and(|word| word == "entries");
+    if broken {
+        words.remove(0);
+    }
     let number = |at: usize, name: &str| -> u64 {
         let word = words.get(at).and_then(|word| word.parse().ok());
-        word.unwrap_or_else(|| panic!("{name} is a number: cases SEED COUNT [CALLS]"))
+        word.unwrap_or_else(|| panic!("{name} is a number: cases [entries] SEED COUNT [CALLS]"))
     };
     let (seed, count) = (number(0, "SEED"), number(1, "COUNT"));
     let calls = calls_named(words.get(2).map(String::as_str));
@@ -24,7 +29,11 @@ fn main() -> io::Result<()> {
         // Each case has its own seed, so that one case does not depend on those before it.
         let mut random = Random::new(seed.wrapping_mul(0x9e37_79b9) ^ (at << 32) ^ at);
         let call = calls[random.below(calls.len())];
-        make::random_case(&mut random, call, false).write(&mut output)?;
+        let mut case = make::random_case(&mut random, call, broken);
+        if broken && call.has_field() {
+            breaks::break_entries(&mut random, &mut case);
+        }
+        case.write(&mut output)?;
     }
     output.flush()
 }

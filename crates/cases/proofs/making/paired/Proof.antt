@@ -1,7 +1,5 @@
 -- The number is 0 or a refusal's. Assumes nothing.
-use mathlib.Core.Path.{ap, _∙_}
-use Rattle.lines.specs.Outcomes.{refused}
-use Rattle.lines.proofs.Numbers.{refused-few}
+use Rattle.lines.proofs.Numbers.{refusing-few}
 use borrow.Author.Needs.{needs}
 use Rattle.cases.proofs.making.paired.Statement.{statement}
 use Rattle.cases.proofs.making.paired.Tie as tie
@@ -15,17 +13,14 @@ is-exact-requires c κs = search needs
 enum-known-answer-2 : tie.Need-enum-known-answer-2
 enum-known-answer-2 c = search needs
 
-number-requires : tie.Need-number-requires
-number-requires c κs = search needs
-
-refused-requires : tie.Need-refused-requires
-refused-requires c κs = search needs
+refusing-requires : tie.Need-refusing-requires
+refusing-requires c κs = search needs
 
 returns : tie.Need-returns
 returns c = search needs
 
 returns-2 : tie.Need-returns-2
-returns-2 c = refused-few (c .before .before .before .answer2 .given .0 .0) (c .refused .ensures ∙ ap refused (c .before .number .ensures))
+returns-2 c = refusing-few (c .before .before .answer2 .given .0 .0) (c .refusing .ensures)
 
 pub paired-spec : {M : Type 1} → statement M
 paired-spec =
@@ -34,7 +29,6 @@ paired-spec =
     enum-known-answer
     is-exact-requires
     enum-known-answer-2
-    number-requires
-    refused-requires
+    refusing-requires
     returns
     returns-2)

@@ -1,6 +1,6 @@
 -- The outcome of this answer, by its cases. Assumes nothing.
 use mathlib.Core.Path.{sym, ap, _∙_}
-use Rattle.lines.specs.Outcomes.{outcome, refused, answered}
+use Rattle.lines.specs.Outcomes.{outcome, answered}
 use borrow.Author.Needs.{needs}
 use Rattle.lines.proofs.outcomes.answered.Statement.{statement}
 use Rattle.lines.proofs.outcomes.answered.Tie as tie
@@ -14,17 +14,14 @@ is-exact-requires c κs = search needs
 enum-known-answer-2 : tie.Need-enum-known-answer-2
 enum-known-answer-2 c = search needs
 
-number-requires : tie.Need-number-requires
-number-requires c κs = search needs
-
-refused-requires : tie.Need-refused-requires
-refused-requires c κs = search needs
+refusing-requires : tie.Need-refusing-requires
+refusing-requires c κs = search needs
 
 returns : tie.Need-returns
 returns c = ap (λ b. outcome 0 b 0 0) (c .is-exact .ensures) ∙ ap answered (sym (c .before .before .answer .given .1))
 
 returns-2 : tie.Need-returns-2
-returns-2 c = c .refused .ensures ∙ ap refused (c .before .number .ensures) ∙ ap answered (sym (c .before .before .before .answer2 .given .1))
+returns-2 c = c .refusing .ensures ∙ ap answered (sym (c .before .before .answer2 .given .1))
 
 pub answered-spec : {M : Type 1} → statement M
 answered-spec =
@@ -33,7 +30,6 @@ answered-spec =
     enum-known-answer
     is-exact-requires
     enum-known-answer-2
-    number-requires
-    refused-requires
+    refusing-requires
     returns
     returns-2)

@@ -1,6 +1,6 @@
 -- The outcome of this answer, by its cases. Assumes nothing.
 use mathlib.Core.Path.{sym, ap, _∙_}
-use Rattle.lines.specs.Outcomes.{refused, checked}
+use Rattle.lines.specs.Outcomes.{checked}
 use borrow.Author.Needs.{needs}
 use Rattle.lines.proofs.outcomes.checked.Statement.{statement}
 use Rattle.lines.proofs.outcomes.checked.Tie as tie
@@ -14,17 +14,14 @@ refused-requires c κs = search needs
 enum-known-answer : tie.Need-enum-known-answer
 enum-known-answer c = search needs
 
-number-requires : tie.Need-number-requires
-number-requires c κs = search needs
-
-refused-requires-2 : tie.Need-refused-requires-2
-refused-requires-2 c κs = search needs
+refusing-requires : tie.Need-refusing-requires
+refusing-requires c κs = search needs
 
 returns : tie.Need-returns
 returns c = c .refused .ensures ∙ ap checked (sym (c .before .enum-told .given .1))
 
 returns-2 : tie.Need-returns-2
-returns-2 c = c .refused2 .ensures ∙ ap refused (c .before .number .ensures) ∙ ap checked (sym (c .before .before .before .answer .given .1))
+returns-2 c = c .refusing .ensures ∙ ap checked (sym (c .before .before .answer .given .1))
 
 pub checked-spec : {M : Type 1} → statement M
 checked-spec =
@@ -33,7 +30,6 @@ checked-spec =
     enum-told
     refused-requires
     enum-known-answer
-    number-requires
-    refused-requires-2
+    refusing-requires
     returns
     returns-2)
