@@ -12,7 +12,7 @@ use Rattle.meaning.specs.Free.{frees, freeTo}
 use Rattle.expansion.specs.Sum as expansion
 use Rattle.constraints.specs.Triple.{flat, filled, triples}
 use Rattle.constraints.specs.Sorted as sorted
-use Rattle.field.specs.Tests.{endsBelow, allRise, allFinite, bytesSmall, fewVariables, listsMatch, inOrder, offDiagonal, weightsFinite, startFits, floatsFit, wordsFit, shapeTests, looseTests, standardTests, readyTests}
+use Rattle.field.specs.Tests.{endsBelow, allRise, allFinite, bytesSmall, fewVariables, listsMatch, inOrder, isFine, firstFrom, wrongAt, faultOf, offDiagonal, weightsFinite, startFits, floatsFit, wordsFit, shapeTests, looseTests, standardTests, readyTests}
 use Rattle.field.specs.Grade.{weighs, allWeigh, isExact, gradeOf}
 use Rattle.calls.specs.Call.{called, run as staged, keeping}
 use Rattle.calls.specs.Values as values
@@ -51,7 +51,7 @@ unfolding given expected
     probes.probeCall probes.probeLimitedCall probes.candidatesCall probes.fits probes.allValues probes.allConstraints
     pairs.pairsCall anchors.anchorsCall anchors.anchorTests
     propagation.propagateCall literals.propagationTests literals.constraintsFit literals.allFit
-    readyTests standardTests looseTests shapeTests fewVariables listsMatch inOrder offDiagonal weightsFinite startFits floatsFit wordsFit
+    readyTests standardTests looseTests shapeTests fewVariables listsMatch inOrder isFine firstFrom wrongAt faultOf offDiagonal weightsFinite startFits floatsFit wordsFit
     endsBelow allRise allFinite bytesSmall allBelow gradeOf isExact allWeigh weighs wholeIn magnitude
     run.closure run.closureRun run.propagate run.work run.serve run.serveAll run.serveAt run.moveRow run.scanTo run.scanAt run.judged run.settle run.force
     upTo places placesFrom keep otherEnd rows.rowOf rows.rowTo rows.atEntry rows.atEnd addTerm

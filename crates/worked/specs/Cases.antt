@@ -1,4 +1,4 @@
--- Document 01's values worked by hand, cases a to n, and others beside them: each names its call, what it is given, and its answer. Assumes nothing.
+-- Document 01's values worked by hand, cases a to n, those of document 02's C-12, and others beside them: each names its call, what it is given, and its answer. Assumes nothing.
 use Prim.Native.Nat.{ℕ, _+_, _*_}
 use mathlib.Core.List.{List, [], _∷_, _++_}
 use lib.Ieee.{Float}
@@ -8,10 +8,11 @@ use Rattle.scratch.specs.Cleared.{cleared}
 use Rattle.constraints.specs.Triple.{room}
 use Rattle.field.specs.declared.Grade.{Grade}
 use Rattle.field.specs.declared.Grade.the-variants.{Exact, Inexact}
-use Rattle.field.specs.declared.Refusal.the-variants.{Clash}
+use Rattle.field.specs.declared.Refusal.{Refusal}
+use Rattle.field.specs.declared.Refusal.the-variants.{Row, Column, Repeat, Order, Clash}
 use Rattle.field.specs.declared.Checked.{Checked}
 use Rattle.field.specs.declared.Checked.the-variants.{Passed, Failed}
-use Rattle.field.specs.declared.Answer.the-variants.{Done}
+use Rattle.field.specs.declared.Answer.the-variants.{Done, Refused}
 use Rattle.field.specs.declared.Counted.the-variants.{Counts}
 use Rattle.field.specs.Field.{Field, variables, entries}
 use Rattle.calls.specs.Values as values
@@ -25,7 +26,7 @@ use Rattle.pairs.specs.declared.Paired.the-variants as paired
 use Rattle.pairs.specs.Call as pairs
 use Rattle.anchors.specs.Call as anchors
 use Rattle.propagation.specs.Call as propagation
-use Rattle.worked.specs.Fields.{nought, half, minus-half, minus-one, two, minus-two, four, minus-five, six, alone, joined, apart, opposed, swallowing, unbalanced, two-parts, overflowing, on-diagonal, with-zero, parted, popped, one-term, two-pairs, linked, at-tolerance}
+use Rattle.worked.specs.Fields.{nought, half, minus-half, minus-one, two, minus-two, four, minus-five, six, alone, joined, apart, opposed, swallowing, unbalanced, two-parts, overflowing, on-diagonal, with-zero, parted, popped, one-term, two-pairs, linked, at-tolerance, placed}
 
 -- a call, the field with its grade, the start values, what else it is given, and what it answers
 pub data Case : Type 0 where
@@ -46,6 +47,8 @@ pub data Case : Type 0 where
   anchors-at : Field → Grade → List ℕ → ℕ → List ℕ → Case
   -- no field: start values and constraints, the answer, and what is in the start values afterwards
   propagates : List ℕ → List ℕ → Checked → List ℕ → Case
+  -- the closure is refused, and all that was lent stays
+  refuses : Field → Refusal → Case
 
 -- ---- the list
 
@@ -122,6 +125,17 @@ cases =
     ∷ anchors-at two-parts Inexact (2 ∷ 2 ∷ 2 ∷ []) 0 (0 ∷ [])
     ∷ anchors-at overflowing Inexact (2 ∷ 2 ∷ []) 0 []
     ∷ anchors-at on-diagonal Inexact (2 ∷ []) 1 (0 ∷ [])
+    -- C-12, places as (row,column). n=2: (0,1) (2,0) is 14 at 1; (5,7) is 14 at 0, the row before the column; (0,9) is 15 at 0
+    ∷ refuses (placed 2 (0 ∷ 2 ∷ []) (1 ∷ 0 ∷ [])) (Row 1)
+    ∷ refuses (placed 2 (5 ∷ []) (7 ∷ [])) (Row 0)
+    ∷ refuses (placed 2 (0 ∷ []) (9 ∷ [])) (Column 0)
+    -- n=2: (0,1) (0,1) is 16 at 1; (1,1) (0,1) is 17 at 1; (0,1) (1,1) (0,1) is 17 at 2, a repeat of no entry before
+    ∷ refuses (placed 2 (0 ∷ 0 ∷ []) (1 ∷ 1 ∷ [])) (Repeat 1)
+    ∷ refuses (placed 2 (1 ∷ 0 ∷ []) (1 ∷ 1 ∷ [])) (Order 1)
+    ∷ refuses (placed 2 (0 ∷ 1 ∷ 0 ∷ []) (1 ∷ 1 ∷ 1 ∷ [])) (Order 2)
+    -- n=3: (0,1) (0,1) (3,0) is 16 at 1, the first entry at fault; n=0: (0,0) is 14 at 0
+    ∷ refuses (placed 3 (0 ∷ 0 ∷ 3 ∷ []) (1 ∷ 1 ∷ 0 ∷ [])) (Repeat 1)
+    ∷ refuses (placed 0 (0 ∷ []) (0 ∷ [])) (Row 0)
     ∷ []
 
 -- ---- what each call leaves, and what the list says
@@ -145,6 +159,10 @@ words F = replicate (16 * variables F + 8 * entries F + 16) 7
 abbrev pub constraint-words : List ℕ → List ℕ → List ℕ
 constraint-words s k = replicate (16 * length s + 8 * room k + 16) 7
 
+-- nothing given
+abbrev pub free : Field → List ℕ
+free F = replicate (variables F) 2
+
 -- a list with room for an answer, and an element more, which stays
 abbrev pub lent : List ℕ → List ℕ
 lent l = replicate (length l) 7 ++ (9 ∷ [])
@@ -164,6 +182,7 @@ given (probes-some F g s limit t k) = in-both (probes.probeLimitedCall F s limit
 given (compares F g s k items examined) = in-pairs (pairs.pairsCall F s 250000 (lent k) (floats F) (words F))
 given (anchors-at F g s least l) = in-anchors (anchors.anchorsCall F s least (lent l) (floats F) (words F))
 given (propagates s k r t) = in-literals (propagation.propagateCall s k (constraint-words s k))
+given (refuses F r) = in-start (closure.closureCall F (free F) (floats F) (words F))
 
 -- what the list says: the answer, the values or the list with what is past it, and scratch that is all zeros
 unfoldable pub expected : Case → Outcome
@@ -177,3 +196,4 @@ expected (probes-some F g s limit t k) = in-both (probes.left (Counts g (room k)
 expected (compares F g s k items examined) = in-pairs (pairs.left (paired.Done g items examined) (front k) (cleared zero64 (floats F)) (cleared 0 (words F)))
 expected (anchors-at F g s least l) = in-anchors (anchors.left (Counts g (length l)) (front l) (cleared zero64 (floats F)) (cleared 0 (words F)))
 expected (propagates s k r t) = in-literals (propagation.left r t (cleared 0 (constraint-words s k)))
+expected (refuses F r) = in-start (values.left (Refused r) (free F) (floats F) (words F))

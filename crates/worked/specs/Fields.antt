@@ -1,9 +1,10 @@
 -- The fields of the values worked by hand. Assumes nothing.
+use Prim.Native.Nat.{ℕ}
 use mathlib.Core.Bool.{true, false}
 use mathlib.Core.List.{List, [], _∷_}
 use lib.IntN.{pos, negsuc}
 use lib.Ieee.{Float, fin}
-use lib.ListN.{replicate}
+use lib.ListN.{length, replicate}
 use Rattle.field.specs.Field.{Field, fieldOf}
 use Rattle.margins.specs.Model.{tiny64}
 
@@ -137,3 +138,7 @@ linked =
 -- c=(1e-10,0), no entries
 abbrev pub at-tolerance : Field
 at-tolerance = alone (tiny64 ∷ nought ∷ [])
+
+-- n variables with c = 0, and entries of weight 2 at these rows and columns
+abbrev pub placed : ℕ → List ℕ → List ℕ → Field
+placed n rows cols = fieldOf (replicate n nought) rows cols (replicate (length rows) two)
