@@ -76,6 +76,9 @@ int main(void)
     answer = ombradiec_shift(SLICE(shifted), SLICE(some_rows), SLICE(some_cols), SLICE(quad));
     print("shift", answer, "first entry", some_rows[0], some_cols[0]);
     printf("  c %g, q %g\n", shifted[0], quad[0]);
+    /* the place past the new end is unchanged, so both lists in full have the entry twice */
+    answer = ombradiec_shift(SLICE(shifted), SLICE(some_rows), SLICE(some_cols), SLICE(quad));
+    printf("shift: refusal %d at entry %zu\n", OMBRADIEC_REFUSAL(answer), OMBRADIEC_POSITION(answer));
 
     const uint16_t both[6] = {0, 1, OMBRADIEC_EQUAL, 0, 1, OMBRADIEC_EXACTLY_ONE};
     start[0] = start[1] = 2;
