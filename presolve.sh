@@ -38,27 +38,31 @@ esac
 cd "$(dirname "$0")"
 command -v rt >/dev/null || fail 'there is no rt here: it is the command of the Rattle kit, which README.md names, and makes the program'
 
-# Shows the answer of the program on standard input, and ends with status 1 where it refuses.
-present() {
-    answer=$(tools/run presolve) || fail 'the program gave no answer'
+# Shows the answer of the program on the records of a file, and ends with status 1 where it refuses; of 14 to 17 it says which entry is at fault.
+present() { # FILE
+    answer=$(tools/run presolve <"$1") || fail 'the program gave no answer'
     printf '%s\n' "$answer"
-    case $answer in
-    'refused '*)
-        why=$(sed -n "s/^${answer#refused } //p" tools/refusals)
-        echo "presolve.sh: refused: ${why:-there are no words for ${answer#refused }}" >&2
-        exit 1
-        ;;
+    number=${answer#refused }
+    [ "$number" != "$answer" ] || return 0
+    why=$(sed -n "s/^$number //p" tools/refusals)
+    echo "presolve.sh: refused: ${why:-there are no words for $number}" >&2
+    case $number in
+    14 | 15 | 16 | 17) echo "presolve.sh: $(tools/fault <"$1")" >&2 ;;
     esac
+    exit 1
 }
 
 if [ "$records" = - ]; then
-    present
+    room=$(mktemp -d)
+    trap 'rm -rf "$room"' EXIT
+    cat >"$room/records"
+    present "$room/records"
     exit
 fi
 [ ! -d "$records" ] || fail "$records is a folder, not a file of records"
 [ -r "$records" ] || fail "there is no file $records that can be read"
 [ $# -eq 1 ] || echo "The flush plan of example/plan.txt:"
-present <"$records"
+present "$records"
 if [ $# -eq 0 ] && command -v python3 >/dev/null; then
     echo "With the groups' names, where 1 is the second window:"
     printf '%s\n' "$answer" | tools/records answer example/plan.txt

@@ -86,6 +86,10 @@ longest >"$room/longest"
 printf ZZ >"$room/ends"
 : >"$room/empty"
 { VC; QE 0 0; printf ZZ; } >"$room/diagonal"
+{ VC; VC; QE 0 1; QE 2 0; printf ZZ; } >"$room/row"
+{ VC; VC; QE 0 2; printf ZZ; } >"$room/column"
+{ VC; VC; QE 0 1; QE 0 1; printf ZZ; } >"$room/repeat"
+{ VC; VC; QE 0 1; QE 1 0; printf ZZ; } >"$room/back"
 
 nothing_forced='grade exact
 end 0
@@ -121,6 +125,18 @@ holds 'standard input' 0 "$nothing_forced" on small ./presolve.sh -
 holds 'a refusal' 1 'refused 4
 ' ./presolve.sh "$room/diagonal"
 says 'a refusal is told in words' 'an entry is on the diagonal'
+holds 'a row that is no variable' 1 'refused 14
+' ./presolve.sh "$room/row"
+says 'its entry is told' 'entry 1, from 0, at byte 34: its row 2 is not below 2'
+holds 'a column that is none' 1 'refused 15
+' on column ./presolve.sh -
+says 'its entry too' 'entry 0, from 0, at byte 20: its column 2 is not below 2'
+holds 'an entry at the place of the one before' 1 'refused 16
+' ./presolve.sh "$room/repeat"
+says 'its entry too' 'entry 1, from 0, at byte 34: it has the same place as the entry before, row 0 and column 1'
+holds 'an entry out of order' 1 'refused 17
+' ./presolve.sh "$room/back"
+says 'its entry too' 'entry 1, from 0, at byte 34: row 1 and column 0 stand after row 0 and column 1'
 holds 'a refusal of standard input' 1 "$malformed" on empty ./presolve.sh -
 says 'and in words too' 'the input is not well-formed'
 here=$PWD
