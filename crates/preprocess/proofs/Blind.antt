@@ -19,17 +19,18 @@ use Rattle.field.specs.Field.{Field, variables, entries, linearOf, rowEnd, colu
 use Rattle.rows.specs.declared.Row.{Row}
 use Rattle.rows.specs.declared.Verdict.{Verdict}
 use Rattle.rows.specs.declared.Verdict.the-variants.{Zero, One, Open}
-use Rattle.rows.specs.Row.{startRow, judgeOf}
+use Rattle.rows.specs.Row.{startRow, judgeOf, isStrict}
 use Rattle.rows.specs.Model.{coeffOf, atEnd, atEntry, rowTo, rowOf}
 use Rattle.rows.specs.Stored.{upTo}
 use Rattle.rows.proofs.Upto.{getD-upTo, upTo-same}
 use Rattle.places.specs.Places.{places, otherEnd}
 use Rattle.places.proofs.Places.{places-touch, other-column, other-row}
 use Rattle.run.specs.Run.{Run, noRow, rowFor, isFree, force, settle, judged, scanAt, scanTo, moved, moveRow, serveAt, serveAll, serve, work, propagate, closureRun, closure}
+use Rattle.run.proofs.Keeps.{unforced-stays}
 use Rattle.no_effect.specs.Effect.{hasNoEffect, NoEntry}
 use Rattle.no_effect.proofs.Listed.{effect-means}
 
--- ---- a row of no effect is open
+-- ---- a row of no effect forces nothing
 
 -- ±a is 0 where it is equal to 0, and not on either side of it
 level-zero : (s : Bool) (a b : ℕ) → b ≡ 0 → level s a false b ≡ true → (below false b s a ≡ false) × (below s a false b ≡ false)
@@ -39,11 +40,11 @@ level-zero s a b z e = let q : a ≡ 0 = eqb-true a b (both (eqb a b) _ e .0) �
     by true = (refl, refl)
     by false = (refl, refl)
 
-zero-open : (x : Float) → eq x zero64 ≡ true → judgeOf (startRow x) ≡ Open
+zero-unforced : (x : Float) → eq x zero64 ≡ true → isStrict (startRow x) ≡ false
 unfolding eq lt ofBits
-zero-open nan e = absurd (true≢false (sym e))
-zero-open (inf s) e = absurd (true≢false (sym e))
-zero-open (fin s m d) e =
+zero-unforced nan e = absurd (true≢false (sym e))
+zero-unforced (inf s) e = absurd (true≢false (sym e))
+zero-unforced (fin s m d) e =
     let sides = level-zero s (m * up d * down (pos 0)) (0 * up (pos 0) * down d) (ap (λ (y : ℕ). y * down d) (zero-mul (up (pos 0))) ∙ zero-mul (down d)) e in
     rw (sides .0, sides .1)
 
@@ -69,11 +70,11 @@ module _ {F : Field} (S : Shaped F) where
   row-start s i none (suc k) h =
       rw (ne-eqb (columnEnd F k) i (none k (omega arith) .1), ne-eqb (rowEnd F k) i (none k (omega arith) .0)) (row-start s i none k (omega arith))
 
-  idle-open : (s : List ℕ) (i : ℕ) → hasNoEffect F i ≡ true → judgeOf (rowOf F s i) ≡ Open
+  idle-unforced : (s : List ℕ) (i : ℕ) → hasNoEffect F i ≡ true → isStrict (rowOf F s i) ≡ false
   unfolding rowOf
-  idle-open s i e =
+  idle-unforced s i e =
       let p = effect-means F i (S .rows-long) .0 e in
-      ap judgeOf (row-start s i (p .0) (entries F) (omega arith)) ∙ zero-open (linearOf F i) (p .1)
+      ap isStrict (row-start s i (p .0) (entries F) (omega arith)) ∙ zero-unforced (linearOf F i) (p .1)
 
   -- rows turn on the values of ends alone
   row-same : (s s′ : List ℕ) → ((t : ℕ) → hasNoEffect F t ≡ false → getD s′ t 0 ≡ getD s t 0) → (i k : ℕ) → k ≤ entries F → rowTo F s′ i k ≡ rowTo F s i k
@@ -87,7 +88,7 @@ module _ {F : Field} (S : Shaped F) where
 -- a run leaves the values that variables of no effect have in s
 record Leaves (F : Field) (s : List ℕ) (run : Run) : Type 0 where
   still : (t : ℕ) → hasNoEffect F t ≡ true → getD (run .values) t 0 ≡ getD s t 0
-  unforced : (t : ℕ) → t < variables F → hasNoEffect F t ≡ true → judgeOf (rowFor run t) ≡ Open
+  unforced : (t : ℕ) → t < variables F → hasNoEffect F t ≡ true → isStrict (rowFor run t) ≡ false
   queued : (h : ℕ) → h < length (run .queue) → hasNoEffect F (getD (run .queue) h 0) ≡ false
 
 record Beside (F : Field) (s s′ : List ℕ) (run other : Run) : Type 0 where
@@ -129,14 +130,14 @@ leaves-move : {F : Field} {s : List ℕ} (run : Run) (t : ℕ) (a : Float) (v : 
 unfolding moveRow
 leaves-move {F} run t a v p L = record {
   still = L .still;
-  unforced = λ j l q. ap judgeOf (getD-set-other (run .rows) t j _ noRow (differ F p q)) ∙ L .unforced j l q;
+  unforced = λ j l q. ap isStrict (getD-set-other (run .rows) t j _ noRow (differ F p q)) ∙ L .unforced j l q;
   queued = L .queued;
 }
 
--- a scan passes over an open row
-open-scan : (run : Run) (i : ℕ) → judgeOf (rowFor run i) ≡ Open → scanAt run i ≡ run
-unfolding scanAt judged settle
-open-scan run i e = rw e (by (isFree run i))
+-- a scan passes over a row that forces nothing
+unforced-scan : (run : Run) (i : ℕ) → isStrict (rowFor run i) ≡ false → scanAt run i ≡ run
+unfolding scanAt judged
+unforced-scan run i e = rw (unforced-stays run i (judgeOf (rowFor run i)) e) (by (isFree run i))
   where
     by : (b : Bool) → cond b run run ≡ run
     by true = refl
@@ -145,7 +146,7 @@ open-scan run i e = rw e (by (isFree run i))
 fresh-leaves : {F : Field} → Shaped F → (s : List ℕ) → Leaves F s (record { values = s; rows = upTo (rowOf F s) (variables F); queue = [] })
 fresh-leaves {F} S s = record {
   still = λ t q. refl;
-  unforced = λ t l q. ap judgeOf (getD-upTo (rowOf F s) (variables F) t noRow l) ∙ idle-open S s t q;
+  unforced = λ t l q. ap isStrict (getD-upTo (rowOf F s) (variables F) t noRow l) ∙ idle-unforced S s t q;
   queued = λ h l. absurd (omega arith);
 }
 
@@ -193,7 +194,7 @@ module _ {F : Field} where
     beside-scan run other (suc i) h B = by (hasNoEffect F i) refl (beside-scan run other i (omega arith) B)
       where
         by : (b : Bool) → hasNoEffect F i ≡ b → Beside F s s′ (scanTo run i) (scanTo other i) → Beside F s s′ (scanAt (scanTo run i) i) (scanAt (scanTo other i) i)
-        by true e C = rw (open-scan (scanTo run i) i (C .leaves .unforced i h e), open-scan (scanTo other i) i (C .leaves′ .unforced i h e)) C
+        by true e C = rw (unforced-scan (scanTo run i) i (C .leaves .unforced i h e), unforced-scan (scanTo other i) i (C .leaves′ .unforced i h e)) C
         by false e C = same-way (isFree (scanTo run i) i) (isFree (scanTo other i) i) (same-free C i e) (λ f. beside-judged (scanTo run i) (scanTo other i) i e C) C
 
     -- ---- a row is moved

@@ -2,6 +2,7 @@
 use Prim.Native.Nat.{ℕ, zero, suc, _+_, _<_, _≤_}
 use mathlib.Core.Path.{_≡_, refl, sym, ap, _∙_}
 use mathlib.Core.Logic.{_≢_, _⊎_, inl, inr, ⊎-elim}
+use mathlib.Core.Bool.{true}
 use mathlib.Core.List.{List, [], _∷_}
 use native.Mathlib.Decide.{ℕ-discrete}
 use native.Mathlib.Omega.{arith}
@@ -12,8 +13,7 @@ use Rattle.scratch.proofs.Region.{region-at}
 use Rattle.meaning.proofs.Values.{inside}
 use Rattle.field.specs.Field.{Field, variables}
 use Rattle.rows.specs.declared.Row.{Row}
-use Rattle.rows.specs.declared.Verdict.the-variants.{Open}
-use Rattle.rows.specs.Row.{judgeOf}
+use Rattle.rows.specs.Row.{isStrict}
 use Rattle.rows.specs.Model.{rowOf}
 use Rattle.rows.specs.Stored.{rowOn, upTo}
 use Rattle.rows.proofs.Upto.{getD-upTo, upTo-same}
@@ -63,10 +63,10 @@ module _ {F : Field} {s : List ℕ} {f : List Float} {u : List ℕ} {many : ℕ}
   base-row t h = getD-upTo (rowOf F s) (variables F) t noRow h
 
   -- a free variable whose row is strict at the start values is among them
-  strict-listed : (t : ℕ) → t < variables F → getD s t 0 ≡ 2 → judgeOf (rowOf F s t) ≢ Open → Listed F u many t
+  strict-listed : (t : ℕ) → t < variables F → getD s t 0 ≡ 2 → isStrict (rowOf F s t) ≡ true → Listed F u many t
   unfolding candidates remembered
   strict-listed t h free strict =
-      let m = base-scan .all t h free (λ e. strict (ap judgeOf (sym (base-row t h)) ∙ e)) in
+      let m = base-scan .all t h free (ap isStrict (base-row t h) ∙ strict) in
       let l : m .place < many = omega (arith, m .within, R .count) in
       record { place = m .place; within = l; holds = listed-at (m .place) l ∙ m .holds }
 
@@ -109,7 +109,7 @@ module _ {F : Field} {s : List ℕ} {f : List Float} {u : List ℕ} {many : ℕ}
         all = λ t h z strict. by t h z strict (leads-or-none F i t (places (F .rows) (F .cols) i));
       }
         where
-          by : (t : ℕ) → t < variables F → getD (set s i v) t 0 ≡ 2 → judgeOf (rowOn f₁ (variables F) t) ≢ Open
+          by : (t : ℕ) → t < variables F → getD (set s i v) t 0 ≡ 2 → isStrict (rowOn f₁ (variables F) t) ≡ true
               → Leads F i t (places (F .rows) (F .cols) i) ⊎ None F i t (places (F .rows) (F .cols) i) → Listed F u many t ⊎ Joined F i t
           by t h z strict (inl l) =
               let k = places-touch (F .rows) (F .cols) i (l .place) (l .within) in
@@ -117,7 +117,7 @@ module _ {F : Field} {s : List ℕ} {f : List Float} {u : List ℕ} {many : ℕ}
           by t h z strict (inr none) =
               let a = free-after s i v free small t z in
               let e = row-now t h z ∙ row-elsewhere (R .placed .shaped) s i v t (a .0) none in
-              inl (strict-listed t h (a .1) (λ q. strict (ap judgeOf e ∙ q)))
+              inl (strict-listed t h (a .1) (ap isStrict (sym e) ∙ strict))
 
       -- ---- the scan, then the queue
 

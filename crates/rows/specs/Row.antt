@@ -1,6 +1,6 @@
 -- What each operation on a row of the gradient gives (document 01, "Rows"). Assumes nothing.
 use Prim.Native.Nat.{ℕ}
-use mathlib.Core.Bool.{cond}
+use mathlib.Core.Bool.{Bool, true, false, cond}
 use lib.Dec.{eqb}
 use lib.IntN.{pos}
 use lib.Ieee.{Float, binary64, add, sub, mul, le, lt, ofInt}
@@ -52,3 +52,13 @@ unfoldable pub valueOf : Verdict → ℕ
 valueOf (Zero b) = 0
 valueOf (One b) = 1
 valueOf Open = 2
+
+-- whether a verdict forces a value
+abbrev pub isForced : Verdict → Bool
+isForced (Zero b) = true
+isForced (One b) = true
+isForced Open = false
+
+-- a row is strict where its verdict forces a value
+abbrev pub isStrict : Row → Bool
+isStrict r = isForced (judgeOf r)

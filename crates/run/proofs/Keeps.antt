@@ -1,7 +1,7 @@
 -- Whatever a forced variable and a moved row keep, the run keeps. Assumes nothing.
 use Prim.Native.Nat.{ℕ, zero, suc, _<_, _≤_}
 use mathlib.Core.Path.{_≡_, refl}
-use mathlib.Core.Bool.{Bool, true, false, cond}
+use mathlib.Core.Bool.{Bool, true, false, cond, true≢false}
 use mathlib.Core.List.{List, [], _∷_}
 use native.Mathlib.Omega.{arith}
 use borrow.Author.Tests.{eqb-true, le-ltb}
@@ -12,10 +12,17 @@ use Rattle.field.specs.Field.{Field, variables}
 use Rattle.rows.specs.declared.Row.{Row}
 use Rattle.rows.specs.declared.Verdict.{Verdict}
 use Rattle.rows.specs.declared.Verdict.the-variants.{Zero, One, Open}
-use Rattle.rows.specs.Row.{judgeOf}
+use Rattle.rows.specs.Row.{judgeOf, isForced}
 use Rattle.rows.specs.Model.{coeffOf}
 use Rattle.places.specs.Places.{otherEnd, places}
 use Rattle.run.specs.Run.{Run, rowFor, isFree, force, settle, judged, scanAt, scanTo, moveRow, serveAt, serveAll, serve, work, propagate}
+
+-- a verdict that forces nothing is passed over
+pub unforced-stays : (run : Run) (t : ℕ) (v : Verdict) → isForced v ≡ false → settle run t v ≡ run
+unfolding settle
+unforced-stays run t (Zero b) e = absurd (true≢false e)
+unforced-stays run t (One b) e = absurd (true≢false e)
+unforced-stays run t Open e = refl
 
 -- P is kept where a free variable takes 0 or 1
 abbrev pub ByForce : (Run → Type 0) → Type 0

@@ -2,6 +2,7 @@
 use Prim.Native.Nat.{ℕ, _+_, _<_}
 use mathlib.Core.Path.{_≡_, refl, sym, ap, _∙_}
 use mathlib.Core.Logic.{_≢_, ⊎-elim}
+use mathlib.Core.Bool.{true, false, true≢false}
 use mathlib.Core.List.{List, [], _∷_}
 use native.Mathlib.Nat.{le-refl}
 use native.Mathlib.Decide.{ℕ-discrete}
@@ -18,7 +19,7 @@ use Rattle.rows.specs.declared.Row.{Row}
 use Rattle.rows.specs.declared.Verdict.{Verdict}
 use Rattle.rows.specs.declared.Verdict.the-variants.{Zero, One, Open}
 use Rattle.rows.specs.declared.Conclusion.{Conclusion}
-use Rattle.rows.specs.Row.{judgeOf, concludeOf, valueOf}
+use Rattle.rows.specs.Row.{judgeOf, concludeOf, valueOf, isForced}
 use Rattle.rows.specs.Model.{coeffOf}
 use Rattle.rows.specs.Stored.{rowOn, putRow}
 use Rattle.rows.proofs.Verdict.{the-type}
@@ -31,32 +32,28 @@ use Rattle.run.specs.Run.{Run, noRow, withRow, force, settle, judged, sc
 use Rattle.run.specs.Cells.{Cells, cells, base, runIn, Placed, Does, Settled}
 use Rattle.meaning.proofs.Free.{frees-set}
 use Rattle.run.proofs.Cells.{does-same, does-as, does-then}
+use Rattle.run.proofs.Keeps.{unforced-stays}
 
--- ---- a verdict: forced, or open
+-- ---- a verdict that forces a value, or none
 
--- the tag is that of zero or of one
-abbrev pub Forced : Verdict → Type 0
-Forced v = OneOf (0 ∷ 1 ∷ []) (tagOf the-type v)
-
-not-open : Forced Open → ⊥
-not-open k = ⊎-elim (λ (e : _≡_ {A = ℕ} 2 0). omega (arith, e)) (λ (e : _≡_ {A = ℕ} 2 1). omega (arith, e)) k
+-- its tag is that of zero or of one
+pub tag-forces : (v : Verdict) → OneOf (0 ∷ 1 ∷ []) (tagOf the-type v) → isForced v ≡ true
+tag-forces (Zero b) k = refl
+tag-forces (One b) k = refl
+tag-forces Open k = absurd (⊎-elim (λ (e : _≡_ {A = ℕ} 2 0). omega (arith, e)) (λ (e : _≡_ {A = ℕ} 2 1). omega (arith, e)) k)
 
 -- it forces 0 or 1, and settles as that value
-forced-small : (v : Verdict) → Forced v → valueOf v < 2
+forced-small : (v : Verdict) → isForced v ≡ true → valueOf v < 2
 unfolding valueOf
 forced-small (Zero b) k = omega arith
 forced-small (One b) k = omega arith
-forced-small Open k = absurd (not-open k)
+forced-small Open k = absurd (true≢false (sym k))
 
-forced-settles : (run : Run) (t : ℕ) (v : Verdict) → Forced v → force run t (valueOf v) ≡ settle run t v
+forced-settles : (run : Run) (t : ℕ) (v : Verdict) → isForced v ≡ true → force run t (valueOf v) ≡ settle run t v
 unfolding valueOf settle
 forced-settles run t (Zero b) k = refl
 forced-settles run t (One b) k = refl
-forced-settles run t Open k = absurd (not-open k)
-
-open-stays : (run : Run) (t : ℕ) {v : Verdict} → v ≡ Open → run ≡ settle run t v
-unfolding settle
-open-stays run t e = rw e
+forced-settles run t Open k = absurd (true≢false (sym k))
 
 -- ---- a free variable t and its row
 
@@ -114,11 +111,11 @@ module _ {F : Field} {s : Cells} (P : Placed F s) {t : ℕ} (ht : t < variables 
         ap (λ (j : Conclusion). settle (runIn F s) t (j .verdict)) e
         ∙ ap (λ (r : Row). settle (runIn F s) t (judgeOf r)) (sym (getD-upTo (rowOn (s .floats) (variables F)) (variables F) t noRow ht))
 
-    -- an open row is passed over
-    judged-open : found .verdict ≡ Open → Does F (λ run. judged run t) s s
-    judged-open o = does-same P (open-stays (runIn F s) t o ∙ settles)
+    -- a row that forces nothing is passed over
+    judged-unforced : isForced (found .verdict) ≡ false → Does F (λ run. judged run t) s s
+    judged-unforced o = does-same P (sym (unforced-stays (runIn F s) t (found .verdict) o) ∙ settles)
 
-    judged-forced : {vs′ u′ : List ℕ} {r : ℕ} → getD (s .values) t 0 ≡ 2 → Forced (found .verdict)
+    judged-forced : {vs′ u′ : List ℕ} {r : ℕ} → getD (s .values) t 0 ≡ 2 → isForced (found .verdict) ≡ true
         → Settled found (base F) (s .tail) (s .values) (s .words) vs′ u′ r
         → Does F (λ run. judged run t) s (cells vs′ (s .floats) u′ r)
     judged-forced free k S =
@@ -141,10 +138,10 @@ module _ {F : Field} {s : Cells} (P : Placed F s) {i : ℕ} (hi : i < variables 
     unfolding scanAt runIn
     scans = rw (eq-eqb (getD (s .values) i 0) 2 free)
 
-    pub scan-open : found .verdict ≡ Open → Does F (λ run. scanAt run i) s s
-    scan-open o = does-as (λ run. scanAt run i) (judged-open P hi of-row o) scans
+    pub scan-unforced : isForced (found .verdict) ≡ false → Does F (λ run. scanAt run i) s s
+    scan-unforced o = does-as (λ run. scanAt run i) (judged-unforced P hi of-row o) scans
 
-    pub scan-forced : {vs′ u′ : List ℕ} {r : ℕ} → Forced (found .verdict)
+    pub scan-forced : {vs′ u′ : List ℕ} {r : ℕ} → isForced (found .verdict) ≡ true
         → Settled found (base F) (s .tail) (s .values) (s .words) vs′ u′ r
         → Does F (λ run. scanAt run i) s (cells vs′ (s .floats) u′ r)
     scan-forced k S = does-as (λ run. scanAt run i) (judged-forced P hi of-row free k S) scans
@@ -210,11 +207,11 @@ module _ {F : Field} {s : Cells} (P : Placed F s) (i : ℕ) {k t : ℕ} (hk : k 
       then-judged : {s′ : Cells} → Does F (λ run. judged run t) mid s′ → Does F (λ run. serveAt F i v run k) s s′
       then-judged D = does-as (λ run. serveAt F i v run k) (does-then (λ run. judged run t) moved-there D) serves
 
-      pub serve-open : found .verdict ≡ Open → Does F (λ run. serveAt F i v run k) s (cells (s .values) f′ (s .words) (s .tail))
+      pub serve-unforced : isForced (found .verdict) ≡ false → Does F (λ run. serveAt F i v run k) s (cells (s .values) f′ (s .words) (s .tail))
       unfolding mid
-      serve-open o = rw ef (then-judged (judged-open (moved-there .kept .placed) target-below of-moved o))
+      serve-unforced o = rw ef (then-judged (judged-unforced (moved-there .kept .placed) target-below of-moved o))
 
-      pub serve-forced : {vs′ u′ : List ℕ} {r : ℕ} → Forced (found .verdict)
+      pub serve-forced : {vs′ u′ : List ℕ} {r : ℕ} → isForced (found .verdict) ≡ true
           → Settled found (base F) (s .tail) (s .values) (s .words) vs′ u′ r
           → Does F (λ run. serveAt F i v run k) s (cells vs′ f′ u′ r)
       unfolding mid

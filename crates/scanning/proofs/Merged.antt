@@ -2,7 +2,7 @@
 -- row. Assumes nothing.
 use Prim.Native.Nat.{ℕ, _+_, _*_, _-_, _<_, _≤_}
 use mathlib.Core.Path.{_≡_, refl, sym, ap, _∙_}
-use mathlib.Core.Logic.{_≢_, _⊎_, inl, inr, ⊎-elim}
+use mathlib.Core.Logic.{⊎-elim}
 use mathlib.Core.Bool.{Bool, true, false, cond}
 use mathlib.Core.List.{List, []}
 use native.Mathlib.Numerals.{add-one}
@@ -14,9 +14,7 @@ use lib.ListN.{length, getD, drop}
 use lib.Seq.{getD-drop}
 use Rattle.scratch.specs.Region.{region}
 use Rattle.field.specs.Field.{Field, variables, entries, Shaped}
-use Rattle.rows.specs.declared.Verdict.{Verdict}
-use Rattle.rows.specs.declared.Verdict.the-variants.{Zero, One, Open}
-use Rattle.rows.specs.Row.{judgeOf}
+use Rattle.rows.specs.Row.{isStrict}
 use Rattle.rows.specs.Stored.{rowOn}
 use Rattle.rows.proofs.Upto.{getD-upTo}
 use Rattle.places.proofs.Places.{other-column, other-row}
@@ -92,11 +90,6 @@ lesser-from b c d p q = go (leb c d)
     go : (t : Bool) → b ≤ cond t c d
     go true = p
     go false = q
-
-open-or : (v : Verdict) → (v ≡ Open) ⊎ (v ≢ Open)
-open-or (Zero b) = inr (λ e. let z : _≡_ {A = ℕ} 0 1 = cc in omega arith)
-open-or (One b) = inr (λ e. let z : _≡_ {A = ℕ} 0 1 = cc in omega arith)
-open-or Open = inl refl
 
 module _ {F : Field} {i many first last b h x y : ℕ} {s₀ s : Cells} (M : Merging F i many first last b h x y s₀ s) where
   most : last ≤ 2 * length (F .rows)
@@ -190,14 +183,18 @@ module _ {F : Field} {i many first last b h x y : ℕ} {s₀ s : Cells} (M : Mer
             omega (arith, least₃, v, head-least (M .beside) in-beside rises₃ (st .position) (omega (arith, st .from, M .first-is)) (omega (arith, st .to, M .last-is)) n (omega (arith, v)))
 
     -- so between b and t no free variable's row is strict
-    quiet : (d : ℕ) → b ≤ d → d < t → d < variables F → getD (runIn F s₀ .values) d 0 ≡ 2 → judgeOf (rowFor (runIn F s₀) d) ≡ Open
+    quiet : (d : ℕ) → b ≤ d → d < t → d < variables F → getD (runIn F s₀ .values) d 0 ≡ 2 → isStrict (rowFor (runIn F s₀) d) ≡ false
     unfolding runIn
-    quiet d low high below free = ⊎-elim (λ e. e) (λ strict. absurd (never strict)) (open-or (judgeOf (rowFor (runIn F s₀) d)))
+    quiet d low high below free = by (isStrict (rowFor (runIn F s₀) d)) refl
       where
-        never : judgeOf (rowFor (runIn F s₀) d) ≢ Open → ⊥
+        never : isStrict (rowFor (runIn F s₀) d) ≡ true → ⊥
         never strict =
             ⊎-elim (λ z. omega (arith, not-listed d low z)) (λ z. omega (arith, not-joined d low z))
-            (M .covers .all d below free (λ e. strict (ap judgeOf (getD-upTo (rowOn (s₀ .floats) (variables F)) (variables F) d noRow below) ∙ e)))
+            (M .covers .all d below free (ap isStrict (sym (getD-upTo (rowOn (s₀ .floats) (variables F)) (variables F) d noRow below)) ∙ strict))
+
+        by : (b : Bool) → isStrict (rowFor (runIn F s₀) d) ≡ b → isStrict (rowFor (runIn F s₀) d) ≡ false
+        by true e = absurd (never e)
+        by false e = e
 
     empty-queue : runIn F s₀ .queue ≡ []
     unfolding runIn region

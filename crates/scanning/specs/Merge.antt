@@ -2,14 +2,13 @@
 -- it is the row, and by row where it is the column. Assumes nothing.
 use Prim.Native.Nat.{ℕ, _+_, _<_, _≤_}
 use mathlib.Core.Path.{_≡_}
-use mathlib.Core.Logic.{_≢_, _⊎_}
+use mathlib.Core.Logic.{_⊎_}
 use mathlib.Core.Bool.{Bool, true, cond}
 use mathlib.Core.List.{List}
 use lib.Dec.{eqb, leb}
 use lib.ListN.{length, getD}
 use Rattle.field.specs.Field.{Field, variables}
-use Rattle.rows.specs.declared.Verdict.the-variants.{Open}
-use Rattle.rows.specs.Row.{judgeOf}
+use Rattle.rows.specs.Row.{isStrict}
 use Rattle.rows.specs.Stored.{rowOn}
 use Rattle.places.specs.Places.{otherEnd, Touches}
 use Rattle.run.specs.Cells.{Cells, base, Placed}
@@ -75,4 +74,4 @@ pub record Covers (F : Field) (i many : ℕ) (s : Cells) : Type 0 where
   pub here : i < variables F
   pub list-room : base F + variables F + many ≤ length (s .words)
   pub rising : (p q : ℕ) → p < q → q < many → listAt (s .words) (base F + variables F) p ≤ listAt (s .words) (base F + variables F) q
-  pub all : (t : ℕ) → t < variables F → getD (s .values) t 0 ≡ 2 → judgeOf (rowOn (s .floats) (variables F) t) ≢ Open → Listed F (s .words) many t ⊎ Joined F i t
+  pub all : (t : ℕ) → t < variables F → getD (s .values) t 0 ≡ 2 → isStrict (rowOn (s .floats) (variables F) t) ≡ true → Listed F (s .words) many t ⊎ Joined F i t

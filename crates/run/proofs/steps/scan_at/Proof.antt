@@ -1,5 +1,7 @@
 -- `scan_at` passes over a fixed variable and an open row, and settles a forced verdict. Assumes nothing.
-use Rattle.run.proofs.Moves.{settle-room, scan-fixed, scan-open, scan-forced}
+use Rattle.run.proofs.Moves.{tag-forces, settle-room, scan-fixed, scan-unforced, scan-forced}
+use mathlib.Core.Path.{ap}
+use Rattle.rows.specs.Row.{isForced}
 use borrow.Author.Needs.{needs}
 use Rattle.run.proofs.steps.scan_at.Statement.{statement}
 use Rattle.run.proofs.steps.scan_at.Tie as tie
@@ -39,7 +41,7 @@ returns-2 c =
     let at-row-at = at-conclude .before in
     let at-if1 = at-row-at .before in
     let start = at-if1 .before .before .before .before .before .before .before .before .before in
-    scan-open (start .pre .0) (start .pre .1) (at-if1 .if1 .left) (at-row-at .row-at .ensures) (at-conclude .conclude .ensures) (c .enum-told .given .1)
+    scan-unforced (start .pre .0) (start .pre .1) (at-if1 .if1 .left) (at-row-at .row-at .ensures) (at-conclude .conclude .ensures) (ap isForced (c .enum-told .given .1))
 
 settle-requires : tie.Need-settle-requires
 settle-requires c κs =
@@ -62,7 +64,7 @@ returns-3 c =
     let at-row-at = at-conclude .before in
     let at-if1 = at-row-at .before in
     let start = at-if1 .before .before .before .before .before .before .before .before .before in
-    scan-forced (start .pre .0) (start .pre .1) (at-if1 .if1 .left) (at-row-at .row-at .ensures) (at-conclude .conclude .ensures) (at-match .match .keys2)
+    scan-forced (start .pre .0) (start .pre .1) (at-if1 .if1 .left) (at-row-at .row-at .ensures) (at-conclude .conclude .ensures) (tag-forces (at-conclude .conclude .result .verdict) (at-match .match .keys2))
     (at-settle .settle .ensures)
 
 pub scan-at-spec : {M : Type 1} → statement M

@@ -1,7 +1,9 @@
 -- `serve_at` passes over a fixed other end, moves the row of a free one, and settles a forced verdict. Assumes nothing.
 use native.Mathlib.Omega.{arith}
 use Rattle.places.proofs.Shape.{other-end-below}
-use Rattle.run.proofs.Moves.{settle-room, serve-fixed, serve-open, serve-forced}
+use Rattle.run.proofs.Moves.{tag-forces, settle-room, serve-fixed, serve-unforced, serve-forced}
+use mathlib.Core.Path.{ap}
+use Rattle.rows.specs.Row.{isForced}
 use borrow.Author.Needs.{needs}
 use Rattle.run.proofs.steps.serve_at.Statement.{statement}
 use Rattle.run.proofs.steps.serve_at.Tie as tie
@@ -68,8 +70,8 @@ returns-2 c =
     let at-if1 = at-half .before .before in
     let at-other-end = at-if1 .before .before in
     let start = at-other-end .before .before .before .before .before .before .before .before in
-    serve-open (start .pre .0) _ (start .pre .1) (at-other-end .other-end .ensures) _ (at-if1 .if1 .left) (at-half .half .ensures) (at-move-row .move-row .ensures .0)
-    (at-move-row .move-row .ensures .1) (at-conclude .conclude .ensures) (c .enum-told .given .1)
+    serve-unforced (start .pre .0) _ (start .pre .1) (at-other-end .other-end .ensures) _ (at-if1 .if1 .left) (at-half .half .ensures) (at-move-row .move-row .ensures .0)
+    (at-move-row .move-row .ensures .1) (at-conclude .conclude .ensures) (ap isForced (c .enum-told .given .1))
 
 settle-requires : tie.Need-settle-requires
 settle-requires c κs =
@@ -99,7 +101,7 @@ returns-3 c =
     let at-other-end = at-if1 .before .before in
     let start = at-other-end .before .before .before .before .before .before .before .before in
     serve-forced (start .pre .0) _ (start .pre .1) (at-other-end .other-end .ensures) _ (at-if1 .if1 .left) (at-half .half .ensures) (at-move-row .move-row .ensures .0)
-    (at-move-row .move-row .ensures .1) (at-conclude .conclude .ensures) (at-match .match .keys2) (at-settle .settle .ensures)
+    (at-move-row .move-row .ensures .1) (at-conclude .conclude .ensures) (tag-forces (at-conclude .conclude .result .verdict) (at-match .match .keys2)) (at-settle .settle .ensures)
 
 pub serve-at-spec : {M : Type 1} → statement M
 serve-at-spec =
