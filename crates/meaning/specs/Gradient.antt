@@ -1,13 +1,14 @@
--- The gradient's bounds in halves, and what they force, at the values or at what each entry sees of them.
+-- The gradient's bounds in halves, what they force and which are 0, at the values or at what each entry sees of them.
 -- The gradient closure of s is the t with `Closure (Forces F) s t`. Assumes nothing.
 use mathlib.Core.Path.{_≡_}
 use mathlib.Core.Logic.{_⊎_}
 use mathlib.Core.Bool.{Bool, true, false, cond, _&&_}
 use mathlib.Core.List.{List}
-use Prim.Native.Nat.{ℕ, zero, suc}
-use lib.ListN.{getD}
+use Prim.Native.Nat.{ℕ, zero, suc, _+_}
+use lib.ListN.{length, getD}
 use lib.Dec.{eqb, ltb}
 use Rattle.whole.specs.Whole.{Whole, nothing, _⊕_, only, sum, min0, max0, Above0, Below0}
+use Rattle.meaning.specs.Free.{isFree}
 use Rattle.meaning.specs.Steps.{Rule}
 use Rattle.meaning.specs.Field.{Field}
 
@@ -78,3 +79,18 @@ judge false false = 2
 unfoldable pub verdict : Field → List ℕ → ℕ → ℕ
 unfolding share sum
 verdict F s i = judge (ltb (low F s i .less) (low F s i .plus)) (ltb (high F s i .plus) (high F s i .less))
+
+-- ---- where both are 0
+
+abbrev pub isZero : Whole → Bool
+isZero a = eqb (a .plus) (a .less)
+
+-- "free variables with low = high = 0": how many there are below i
+unfoldable pub flatsTo : Field → List ℕ → ℕ → ℕ
+unfolding share sum
+flatsTo F s zero = 0
+flatsTo F s (suc i) = flatsTo F s i + cond (isFree s i && (isZero (low F s i) && isZero (high F s i))) 1 0
+
+-- and how many in all
+abbrev pub flats : Field → List ℕ → ℕ
+flats F s = flatsTo F s (length s)

@@ -18,7 +18,7 @@ use Rattle.scratch.proofs.All.{both}
 use Rattle.field.specs.Field.{Field, variables, entries, linearOf, rowEnd, columnEnd, Shaped}
 use Rattle.rows.specs.declared.Row.{Row}
 use Rattle.rows.specs.declared.Verdict.{Verdict}
-use Rattle.rows.specs.declared.Verdict.the-variants.{Zero, One, Open}
+use Rattle.rows.specs.declared.Verdict.the-variants.{Zero, One, Flat, Open}
 use Rattle.rows.specs.Row.{startRow, judgeOf, isStrict}
 use Rattle.rows.specs.Model.{coeffOf, atEnd, atEntry, rowTo, rowOf}
 use Rattle.rows.specs.Stored.{upTo}
@@ -46,7 +46,7 @@ zero-unforced nan e = absurd (true≢false (sym e))
 zero-unforced (inf s) e = absurd (true≢false (sym e))
 zero-unforced (fin s m d) e =
     let sides = level-zero s (m * up d * down (pos 0)) (0 * up (pos 0) * down d) (ap (λ (y : ℕ). y * down d) (zero-mul (up (pos 0))) ∙ zero-mul (down d)) e in
-    rw (sides .0, sides .1)
+    rw (sides .0, sides .1, e)
 
 module _ {F : Field} (S : Shaped F) where
   -- an end of an entry has an effect
@@ -169,6 +169,7 @@ module _ {F : Field} where
     unfolding settle
     beside-settle run other t (Zero b) p B = beside-force run other t 0 p B
     beside-settle run other t (One b) p B = beside-force run other t 1 p B
+    beside-settle run other t Flat p B = B
     beside-settle run other t Open p B = B
 
     beside-judged : (run other : Run) (t : ℕ) → hasNoEffect F t ≡ false → Beside F s s′ run other → Beside F s s′ (judged run t) (judged other t)

@@ -1,18 +1,20 @@
 -- What each operation on a row does to the two whole numbers that it is worth. Assumes nothing.
-use mathlib.Core.Path.{_≡_, refl, subst}
-use mathlib.Core.Bool.{Bool, true, false, not, cond}
+use mathlib.Core.Path.{_≡_, refl, sym, subst, ap₂, _∙_}
+use mathlib.Core.Bool.{Bool, true, false, not, cond, _&&_}
 use Prim.Native.Nat.{ℕ, zero, suc, _^_, _≤_, _<_}
+use native.Mathlib.Nat.{zero-add, add-zero}
 use native.Mathlib.Omega.{arith}
+use borrow.Author.Tests.{ltb-true, eqb-true}
 use lib.IntN.{pos}
 use lib.Dec.{T, ltb, eqb, leb→le, nleb→lt}
-use lib.Ieee.{Float, binary64, add, sub, mul, le, ofInt}
+use lib.Ieee.{Float, binary64, add, sub, mul, le, eq, ofInt}
 use Rattle.whole.specs.Whole.{Whole, _⊕_, _⊖_, only, min0, max0, _≈_, Zero, Under}
 use Rattle.weights.specs.Worth.{Worth, Small, zero64}
-use Rattle.weights.proofs.Worth.{add-worth, sub-worth, times-worth, as-worth, at-most-zero, at-least-zero, above-zero, below-zero}
+use Rattle.weights.proofs.Worth.{add-worth, sub-worth, times-worth, eq-worth, as-worth, zero-worth, at-most-zero, at-least-zero, above-zero, below-zero}
 use Rattle.meaning.specs.Gradient.{share, judge}
 use Rattle.rows.specs.declared.Row.{Row}
-use Rattle.rows.specs.declared.Verdict.the-variants.{Zero as ZeroBy, One as OneBy, Open}
-use Rattle.rows.specs.Row.{addFree, removeFree, addFixed, addTerm, judgeOf, valueOf}
+use Rattle.rows.specs.declared.Verdict.the-variants.{Zero as ZeroBy, One as OneBy, Flat, Open}
+use Rattle.rows.specs.Row.{addFree, removeFree, addFixed, addTerm, bothZero, judgeOf, valueOf, isFlat}
 use Rattle.rows.specs.Model.{atEnd}
 use Rattle.rows.specs.Counted.{RowWorth}
 
@@ -88,18 +90,40 @@ pub moved-worth : {u : ℕ} {r : Row} {a b : Whole} → RowWorth u r a b → Und
 moved-worth h near-a near-b k small v l =
     add-fixed-worth (remove-free-worth h (omega arith) (omega arith) k small) (omega arith) (omega arith) k small v l
 
--- ---- the verdict: zero where the lower bound is strictly above 0, one where the upper is strictly below, else open
+-- ---- the verdict: zero where the lower bound is strictly above 0, one where the upper is strictly below, flat where both are 0, else open
+
+at-zero : {u : ℕ} {x : Float} {a : Whole} → Worth u x a → eq x zero64 ≡ eqb (a .plus) (a .less)
+at-zero {a = a} h = eq-worth h (zero-worth (h .unit)) ∙ ap₂ eqb (add-zero (a .plus)) (zero-add (a .less))
 
 module _ {u : ℕ} {r : Row} {a b : Whole} (h : RowWorth u r a b) where
-  pub judge-worth : judgeOf r ≡ cond (ltb (a .less) (a .plus)) (ZeroBy (r .lower)) (cond (ltb (b .plus) (b .less)) (OneBy (r .upper)) Open)
+  pub flat-worth : bothZero r ≡ (eqb (a .plus) (a .less) && eqb (b .plus) (b .less))
+  flat-worth = ap₂ _&&_ (at-zero (h .lower)) (at-zero (h .upper))
+
+  pub judge-worth : judgeOf r ≡ cond (ltb (a .less) (a .plus)) (ZeroBy (r .lower)) (cond (ltb (b .plus) (b .less)) (OneBy (r .upper)) (cond (bothZero r) Flat Open))
   judge-worth = rw (above-zero (h .lower), below-zero (h .upper)) refl
 
   -- the value that it forces, by the two whole numbers
   pub value-worth : valueOf (judgeOf r) ≡ judge (ltb (a .less) (a .plus)) (ltb (b .plus) (b .less))
   unfolding valueOf
-  value-worth = rw judge-worth (by (ltb (a .less) (a .plus)) (ltb (b .plus) (b .less)))
+  value-worth = rw judge-worth (by (ltb (a .less) (a .plus)) (ltb (b .plus) (b .less)) (bothZero r))
     where
-      by : (x y : Bool) → valueOf (cond x (ZeroBy (r .lower)) (cond y (OneBy (r .upper)) Open)) ≡ judge x y
-      by true y = refl
-      by false true = refl
-      by false false = refl
+      by : (x y z : Bool) → valueOf (cond x (ZeroBy (r .lower)) (cond y (OneBy (r .upper)) (cond z Flat Open))) ≡ judge x y
+      by true y z = refl
+      by false true z = refl
+      by false false true = refl
+      by false false false = refl
+
+  -- flat exactly if both whole numbers are 0
+  pub is-flat-worth : isFlat (judgeOf r) ≡ (eqb (a .plus) (a .less) && eqb (b .plus) (b .less))
+  is-flat-worth = rw (judge-worth, flat-worth) (by (ltb (a .less) (a .plus)) (ltb (b .plus) (b .less)) (eqb (a .plus) (a .less)) (eqb (b .plus) (b .less)) refl refl refl refl)
+    where
+      by : (x y v w : Bool) → ltb (a .less) (a .plus) ≡ x → ltb (b .plus) (b .less) ≡ y → eqb (a .plus) (a .less) ≡ v → eqb (b .plus) (b .less) ≡ w
+          → isFlat (cond x (ZeroBy (r .lower)) (cond y (OneBy (r .upper)) (cond (v && w) Flat Open))) ≡ (v && w)
+      by true y false w p q i j = refl
+      by true y true w p q i j = absurd (omega (arith, ltb-true (a .less) (a .plus) p, eqb-true (a .plus) (a .less) i))
+      by false true false w p q i j = refl
+      by false true true false p q i j = refl
+      by false true true true p q i j = absurd (omega (arith, ltb-true (b .plus) (b .less) q, eqb-true (b .plus) (b .less) j))
+      by false false false w p q i j = refl
+      by false false true false p q i j = refl
+      by false false true true p q i j = refl

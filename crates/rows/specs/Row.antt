@@ -1,13 +1,13 @@
 -- What each operation on a row of the gradient gives (document 01, "Rows"). Assumes nothing.
 use Prim.Native.Nat.{ℕ}
-use mathlib.Core.Bool.{Bool, true, false, cond}
+use mathlib.Core.Bool.{Bool, true, false, cond, _&&_}
 use lib.Dec.{eqb}
 use lib.IntN.{pos}
-use lib.Ieee.{Float, binary64, add, sub, mul, le, lt, ofInt}
+use lib.Ieee.{Float, binary64, add, sub, mul, le, lt, eq, ofInt}
 use Rattle.weights.specs.Worth.{zero64}
 use Rattle.rows.specs.declared.Row.{Row}
 use Rattle.rows.specs.declared.Verdict.{Verdict}
-use Rattle.rows.specs.declared.Verdict.the-variants.{Zero, One, Open}
+use Rattle.rows.specs.declared.Verdict.the-variants.{Zero, One, Flat, Open}
 use Rattle.rows.specs.declared.Conclusion.{Conclusion}
 
 -- "A row holds its lower and upper bound and starts both at c_i"
@@ -39,9 +39,14 @@ addFixed r a v = record {
 unfoldable pub addTerm : Row → Float → ℕ → Row
 addTerm r a v = cond (eqb v 2) (addFree r a) (addFixed r a v)
 
--- "zero, carrying a lower bound above 0; one, carrying an upper bound below 0; or open. Zero is tested first"
+-- "A row whose two bounds are both 0"
+abbrev pub bothZero : Row → Bool
+bothZero r = eq (r .lower) zero64 && eq (r .upper) zero64
+
+-- "zero, carrying a lower bound above 0; one, carrying an upper bound below 0"; "a fourth kind, flat, and open now means neither forced nor flat".
+-- "Zero is tested first"
 abbrev pub judgeOf : Row → Verdict
-judgeOf r = cond (lt zero64 (r .lower)) (Zero (r .lower)) (cond (lt (r .upper) zero64) (One (r .upper)) Open)
+judgeOf r = cond (lt zero64 (r .lower)) (Zero (r .lower)) (cond (lt (r .upper) zero64) (One (r .upper)) (cond (bothZero r) Flat Open))
 
 -- "A conclusion is a variable together with that verdict"
 abbrev pub concludeOf : Row → ℕ → Conclusion
@@ -51,14 +56,23 @@ concludeOf r i = record { variable = i; verdict = judgeOf r }
 unfoldable pub valueOf : Verdict → ℕ
 valueOf (Zero b) = 0
 valueOf (One b) = 1
+valueOf Flat = 2
 valueOf Open = 2
 
 -- whether a verdict forces a value
 abbrev pub isForced : Verdict → Bool
 isForced (Zero b) = true
 isForced (One b) = true
+isForced Flat = false
 isForced Open = false
 
 -- a row is strict where its verdict forces a value
 abbrev pub isStrict : Row → Bool
 isStrict r = isForced (judgeOf r)
+
+-- whether a verdict is flat
+abbrev pub isFlat : Verdict → Bool
+isFlat (Zero b) = false
+isFlat (One b) = false
+isFlat Flat = true
+isFlat Open = false

@@ -3,18 +3,32 @@ pub mod fill;
 pub mod store;
 
 ghost use mathlib.Core.Path.{_≡_};
-ghost use Rattle.rows.specs.Row.{startRow, addFree, removeFree, addFixed, addTerm, judgeOf, concludeOf};
+ghost use Rattle.rows.specs.Row.{startRow, addFree, removeFree, addFixed, addTerm, judgeOf, concludeOf, isFlat};
 
 pub struct Row {
     pub lower: f64,
     pub upper: f64,
 }
 
-// Zero carries a lower bound above 0, and one an upper bound below 0.
+// Zero carries a lower bound above 0, and one an upper bound below 0; of a flat row both are 0; open is none of these.
 pub enum Verdict {
     Zero(f64),
     One(f64),
+    Flat,
     Open,
+}
+
+impl Verdict {
+    pub fn is_flat(self) -> bool
+        ensures { λ r. ⌜ r ≡ isFlat self ⌝ }
+    {
+        match self {
+            Verdict::Zero(_) => false,
+            Verdict::One(_) => false,
+            Verdict::Flat => true,
+            Verdict::Open => false,
+        }
+    }
 }
 
 pub struct Conclusion {
@@ -87,6 +101,9 @@ impl Row {
         }
         if self.upper < 0.0 {
             return Verdict::One(self.upper);
+        }
+        if self.lower == 0.0 && self.upper == 0.0 {
+            return Verdict::Flat;
         }
         Verdict::Open
     }

@@ -14,7 +14,7 @@ use Rattle.meaning.specs.Free as free
 use Rattle.field.specs.Field.{Field, variables}
 use Rattle.rows.specs.declared.Row.{Row}
 use Rattle.rows.specs.declared.Verdict.{Verdict}
-use Rattle.rows.specs.declared.Verdict.the-variants.{Zero, One, Open}
+use Rattle.rows.specs.declared.Verdict.the-variants.{Zero, One, Flat, Open}
 use Rattle.rows.specs.Row.{judgeOf}
 use Rattle.rows.specs.Model.{coeffOf}
 use Rattle.places.specs.Places.{otherEnd, places}
@@ -50,6 +50,7 @@ alike-settle : (run other : Run) (t : ℕ) (r : Verdict) → getD (run .values) 
 unfolding settle
 alike-settle run other t (Zero b) free a = alike-force run other t 0 free (omega arith) a
 alike-settle run other t (One b) free a = alike-force run other t 1 free (omega arith) a
+alike-settle run other t Flat free a = a
 alike-settle run other t Open free a = a
 
 alike-judged : (run other : Run) (t : ℕ) → getD (run .values) t 0 ≡ 2 → Alike run other → Alike (judged run t) (judged other t)

@@ -19,7 +19,8 @@ use Rattle.meaning.proofs.Passes.{steps-join}
 use Rattle.meaning.proofs.Theorems.{lagging-forces}
 use Rattle.field.specs.Field.{Field, variables, entries}
 use Rattle.field.specs.Reading.{wholeOf}
-use Rattle.rows.specs.declared.Verdict.the-variants.{Zero, One, Open}
+use Rattle.rows.specs.declared.Verdict.the-variants.{Zero, One, Flat, Open}
+use Rattle.rows.specs.Row.{bothZero}
 use Rattle.rows.specs.Counted.{RowWorth}
 use Rattle.rows.proofs.Terms.{judge-worth}
 use Rattle.run.specs.Run.{Run, rowFor, force, settle, judged}
@@ -122,7 +123,7 @@ module _ {u : ℕ} {F : Field} {s : List ℕ} {run : Run} {w : View} {b h e k : 
 
   pub judged-holds : Holds u F s (judged run t) w b h e k
   unfolding judged settle
-  judged-holds = rw (judge-worth (c .worth t free)) (go (ltb (lo .less) (lo .plus)) (ltb (hi .plus) (hi .less)) refl refl)
+  judged-holds = rw (judge-worth (c .worth t free)) (go (ltb (lo .less) (lo .plus)) (ltb (hi .plus) (hi .less)) (bothZero (rowFor run t)) refl refl)
     where
       lo : Whole
       lo = gradient min0 (wholeOf u F) w t
@@ -134,16 +135,20 @@ module _ {u : ℕ} {F : Field} {s : List ℕ} {run : Run} {w : View} {b h e k : 
       still x y v (zero-by f) = omega arith
       still x y v (one-by f) = omega arith
 
-      go : (x y : Bool) → ltb (lo .less) (lo .plus) ≡ x → ltb (hi .plus) (hi .less) ≡ y
-          → Holds u F s (settle run t (cond x (Zero (rowFor run t .lower)) (cond y (One (rowFor run t .upper)) Open))) w b h e k
-      go true y p z = forced (omega arith) (zero-by (ltb-true _ _ p))
-      go false true p z = forced (omega arith) (one-by (ltb-true _ _ z))
-      go false false p z = record {
+      passed : Still (wholeOf u F) w t → Holds u F s run w b h e k
+      passed n = record {
         room = room;
         counted = c;
-        quiet = λ j a f. elim (ℕ-discrete j t) [ yes i ↦ rw i (still (ltb-false _ _ p) (ltb-false _ _ z)) | no i ↦ q j a i f ];
+        quiet = λ j a f. elim (ℕ-discrete j t) [ yes i ↦ rw i n | no i ↦ q j a i f ];
         queued = d;
       }
+
+      go : (x y o : Bool) → ltb (lo .less) (lo .plus) ≡ x → ltb (hi .plus) (hi .less) ≡ y
+          → Holds u F s (settle run t (cond x (Zero (rowFor run t .lower)) (cond y (One (rowFor run t .upper)) (cond o Flat Open)))) w b h e k
+      go true y o p z = forced (omega arith) (zero-by (ltb-true _ _ p))
+      go false true o p z = forced (omega arith) (one-by (ltb-true _ _ z))
+      go false false true p z = passed (still (ltb-false _ _ p) (ltb-false _ _ z))
+      go false false false p z = passed (still (ltb-false _ _ p) (ltb-false _ _ z))
 
 -- ---- i, with the value v, stands at the cursor
 

@@ -11,7 +11,7 @@ use lib.Ieee.{Float}
 use Rattle.field.specs.Field.{Field, variables}
 use Rattle.rows.specs.declared.Row.{Row}
 use Rattle.rows.specs.declared.Verdict.{Verdict}
-use Rattle.rows.specs.declared.Verdict.the-variants.{Zero, One, Open}
+use Rattle.rows.specs.declared.Verdict.the-variants.{Zero, One, Flat, Open}
 use Rattle.rows.specs.Row.{judgeOf, isForced}
 use Rattle.rows.specs.Model.{coeffOf}
 use Rattle.places.specs.Places.{otherEnd, places}
@@ -22,6 +22,7 @@ pub unforced-stays : (run : Run) (t : ℕ) (v : Verdict) → isForced v ≡ fals
 unfolding settle
 unforced-stays run t (Zero b) e = absurd (true≢false e)
 unforced-stays run t (One b) e = absurd (true≢false e)
+unforced-stays run t Flat e = refl
 unforced-stays run t Open e = refl
 
 -- P is kept where a free variable takes 0 or 1
@@ -37,6 +38,7 @@ module _ (P : Run → Type 0) (by-force : ByForce P) where
   unfolding settle
   by-settle run t (Zero b) free p = by-force run t 0 free (omega arith) p
   by-settle run t (One b) free p = by-force run t 1 free (omega arith) p
+  by-settle run t Flat free p = p
   by-settle run t Open free p = p
 
   pub by-judged : (run : Run) (t : ℕ) → getD (run .values) t 0 ≡ 2 → P run → P (judged run t)

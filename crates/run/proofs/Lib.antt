@@ -10,3 +10,4 @@ pub mod Cells
 pub mod Moves
 pub mod Turns
 pub mod Unique
+pub mod FlatRows

@@ -17,7 +17,7 @@ use Rattle.scratch.proofs.Region.{region-push}
 use Rattle.field.specs.Field.{Field, variables, entries}
 use Rattle.rows.specs.declared.Row.{Row}
 use Rattle.rows.specs.declared.Verdict.{Verdict}
-use Rattle.rows.specs.declared.Verdict.the-variants.{Zero, One, Open}
+use Rattle.rows.specs.declared.Verdict.the-variants.{Zero, One, Flat, Open}
 use Rattle.rows.specs.declared.Conclusion.{Conclusion}
 use Rattle.rows.specs.Row.{judgeOf, concludeOf, valueOf, isForced}
 use Rattle.rows.specs.Model.{coeffOf}
@@ -36,23 +36,30 @@ use Rattle.run.proofs.Keeps.{unforced-stays}
 
 -- ---- a verdict that forces a value, or none
 
--- its tag is that of zero or of one
-pub tag-forces : (v : Verdict) → OneOf (0 ∷ 1 ∷ []) (tagOf the-type v) → isForced v ≡ true
-tag-forces (Zero b) k = refl
-tag-forces (One b) k = refl
-tag-forces Open k = absurd (⊎-elim (λ (e : _≡_ {A = ℕ} 2 0). omega (arith, e)) (λ (e : _≡_ {A = ℕ} 2 1). omega (arith, e)) k)
+-- a tag that is none of three
+away : (n a b c : ℕ) → OneOf (a ∷ b ∷ c ∷ []) n → n ≢ a → n ≢ b → n ≢ c → ⊥
+away n a b c k x y z = ⊎-elim x (λ l. ⊎-elim y z l) k
+
+-- its tag is neither that of open nor that of flat
+pub tag-forces : (v : Verdict) → OneOf (0 ∷ 1 ∷ 2 ∷ []) (tagOf the-type v) → OneOf (0 ∷ 1 ∷ 3 ∷ []) (tagOf the-type v) → isForced v ≡ true
+tag-forces (Zero b) j k = refl
+tag-forces (One b) j k = refl
+tag-forces Flat j k = absurd (away 2 0 1 3 k (λ e. omega (arith, e)) (λ e. omega (arith, e)) (λ e. omega (arith, e)))
+tag-forces Open j k = absurd (away 3 0 1 2 j (λ e. omega (arith, e)) (λ e. omega (arith, e)) (λ e. omega (arith, e)))
 
 -- it forces 0 or 1, and settles as that value
 forced-small : (v : Verdict) → isForced v ≡ true → valueOf v < 2
 unfolding valueOf
 forced-small (Zero b) k = omega arith
 forced-small (One b) k = omega arith
+forced-small Flat k = absurd (true≢false (sym k))
 forced-small Open k = absurd (true≢false (sym k))
 
 forced-settles : (run : Run) (t : ℕ) (v : Verdict) → isForced v ≡ true → force run t (valueOf v) ≡ settle run t v
 unfolding valueOf settle
 forced-settles run t (Zero b) k = refl
 forced-settles run t (One b) k = refl
+forced-settles run t Flat k = absurd (true≢false (sym k))
 forced-settles run t Open k = absurd (true≢false (sym k))
 
 -- ---- a free variable t and its row

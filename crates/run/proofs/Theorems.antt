@@ -1,10 +1,13 @@
 -- The theorems about the gradient run, each in one statement: on an exact field it is the closure in whole numbers. Assumes nothing.
 use Prim.Native.Nat.{ℕ, _<_, _≤_}
-use mathlib.Core.Path.{_≡_, sym}
+use mathlib.Core.Path.{_≡_, refl, sym}
 use mathlib.Core.Logic.{_≢_}
+use mathlib.Core.Bool.{Bool, true, false, cond}
 use mathlib.Core.List.{List}
 use native.Mathlib.Omega.{arith}
 use lib.ListN.{length, getD}
+use lib.Ieee.{lt}
+use Rattle.weights.specs.Worth.{zero64}
 use Rattle.meaning.specs.Field as meaning
 use Rattle.meaning.specs.Steps.{Extends, Agrees, stop, Closure}
 use Rattle.meaning.specs.Passes as passes
@@ -15,10 +18,12 @@ use Rattle.field.specs.Field.{Field, variables, Shaped, StartFor}
 use Rattle.field.specs.Grade.{ExactIn}
 use Rattle.field.specs.Reading.{wholeOf}
 use Rattle.rows.specs.declared.Row.{Row}
+use Rattle.rows.specs.declared.Verdict.the-variants.{Zero, One, Flat, Open}
+use Rattle.rows.specs.Row.{bothZero}
 use Rattle.rows.specs.Model.{rowOf}
 use Rattle.rows.specs.Stored.{upTo}
 use Rattle.rows.proofs.Upto.{length-upTo}
-use Rattle.run.specs.Run.{noRow, propagate, closureRun, closure}
+use Rattle.run.specs.Run.{Run, noRow, rowFor, force, settle, judged, propagate, closureRun, closure}
 use Rattle.run.specs.Room.{Room}
 use Rattle.run.specs.Ended.{RowsWorth, Ended}
 use Rattle.run.proofs.Room.{room-propagate}
@@ -26,6 +31,19 @@ use Rattle.run.proofs.Alike.{alike-propagate}
 use Rattle.run.proofs.Bridge.{start-rows-worth, propagate-ends}
 
 -- ---- on every field, exact or not
+
+-- A row acts by its two strict tests alone, so a flat one is passed over as an open one is.
+pub judged-strict : (run : Run) (t : ℕ)
+    → judged run t ≡ cond (lt zero64 (rowFor run t .lower)) (force run t 0) (cond (lt (rowFor run t .upper) zero64) (force run t 1) run)
+unfolding judged settle
+judged-strict run t = by (lt zero64 (rowFor run t .lower)) (lt (rowFor run t .upper) zero64) (bothZero (rowFor run t))
+  where
+    by : (x y z : Bool)
+        → settle run t (cond x (Zero (rowFor run t .lower)) (cond y (One (rowFor run t .upper)) (cond z Flat Open))) ≡ cond x (force run t 0) (cond y (force run t 1) run)
+    by true y z = refl
+    by false true z = refl
+    by false false true = refl
+    by false false false = refl
 
 -- The queue of a run has room for n variables.
 pub propagate-room : (F : Field) {s : List ℕ} → StartFor (variables F) s → (rows : List Row) → Room (variables F) s (propagate F s rows .values) (propagate F s rows .queue)

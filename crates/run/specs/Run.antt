@@ -1,7 +1,7 @@
 -- The gradient run as the source works it (document 01, "Closure"): variables are scanned upward, then a first-in queue is served.
 -- Executable on every field, float by float. Assumes nothing.
-use Prim.Native.Nat.{ℕ, zero, suc}
-use mathlib.Core.Bool.{Bool, cond}
+use Prim.Native.Nat.{ℕ, zero, suc, _+_}
+use mathlib.Core.Bool.{Bool, cond, _&&_}
 use mathlib.Core.List.{List, [], _∷_, _++_}
 use lib.Dec.{ltb}
 use lib.ListN.{length, getD, set}
@@ -10,8 +10,8 @@ use Rattle.meaning.specs.Free as free
 use Rattle.field.specs.Field.{Field, variables}
 use Rattle.rows.specs.declared.Row.{Row}
 use Rattle.rows.specs.declared.Verdict.{Verdict}
-use Rattle.rows.specs.declared.Verdict.the-variants.{Zero, One, Open}
-use Rattle.rows.specs.Row.{addFixed, removeFree, judgeOf}
+use Rattle.rows.specs.declared.Verdict.the-variants.{Zero, One, Flat, Open}
+use Rattle.rows.specs.Row.{addFixed, removeFree, judgeOf, isFlat}
 use Rattle.rows.specs.Model.{coeffOf, rowOf}
 use Rattle.rows.specs.Stored.{upTo}
 use Rattle.places.specs.Places.{places, otherEnd}
@@ -39,10 +39,11 @@ withRow run t r = record { values = run .values; rows = set (run .rows) t r; que
 unfoldable pub force : Run → ℕ → ℕ → Run
 force run t x = record { values = set (run .values) t x; rows = run .rows; queue = run .queue ++ (t ∷ []) }
 
--- "Callers act only on a forced verdict and pass over an open row"
+-- "Callers act only on a forced verdict and pass over an open row"; "Others treat flat as open"
 unfoldable pub settle : Run → ℕ → Verdict → Run
 settle run t (Zero b) = force run t 0
 settle run t (One b) = force run t 1
+settle run t Flat = run
 settle run t Open = run
 
 -- t is settled by the verdict on its row
@@ -99,3 +100,14 @@ closureRun F s = propagate F s (upTo (rowOf F s) (variables F))
 
 unfoldable pub closure : Field → List ℕ → List ℕ
 closure F s = closureRun F s .values
+
+-- ---- "The closure counts the rows that are flat at its end, over free variables"
+
+-- of the variables below i
+unfoldable pub flatTo : List ℕ → List Row → ℕ → ℕ
+flatTo values rows zero = 0
+flatTo values rows (suc i) = flatTo values rows i + cond (free.isFree values i && isFlat (judgeOf (getD rows i noRow))) 1 0
+
+-- of all variables, as a run holds them
+abbrev pub flatRows : Run → ℕ
+flatRows run = flatTo (run .values) (run .rows) (length (run .values))

@@ -1,4 +1,5 @@
 // The gradient run over lent memory: variables are scanned upward, then a first-in queue is served.
+pub mod flat;
 pub mod queue;
 pub mod steps;
 

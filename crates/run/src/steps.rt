@@ -21,6 +21,7 @@ fn forced(verdict: Verdict) -> u8
     match verdict {
         Verdict::Zero(_) => 0,
         Verdict::One(_) => 1,
+        Verdict::Flat => 2,
         Verdict::Open => 2,
     }
 }
@@ -85,6 +86,9 @@ pub fn scan_at(
     if let Verdict::Open = verdict {
         return tail;
     }
+    if let Verdict::Flat = verdict {
+        return tail;
+    }
     settle(found, values, u, base, tail)
 }
 
@@ -119,6 +123,9 @@ pub fn serve_at(
     let found = move_row(f, n, t, coeff, v).conclude(t as u16);
     let verdict = found.verdict;
     if let Verdict::Open = verdict {
+        return tail;
+    }
+    if let Verdict::Flat = verdict {
         return tail;
     }
     settle(found, values, u, base, tail)

@@ -12,7 +12,7 @@ use lib.ListN.{length, getD, length-append, List·getD-append}
 use lib.Seq.{getD-set-other, getD-append-seam}
 use Rattle.rows.specs.declared.Row.{Row}
 use Rattle.rows.specs.declared.Verdict.{Verdict}
-use Rattle.rows.specs.declared.Verdict.the-variants.{Zero, One, Open}
+use Rattle.rows.specs.declared.Verdict.the-variants.{Zero, One, Flat, Open}
 use Rattle.rows.specs.Row.{judgeOf, isForced, isStrict}
 use Rattle.run.specs.Run.{Run, noRow, rowFor, isFree, force, settle, judged, scanAt, scanTo}
 use Rattle.run.proofs.Keeps.{unforced-stays}
@@ -72,6 +72,7 @@ module _ {run₀ : Run} {i : ℕ} {run : Run} (S : Scanned run₀ i run) where
   unfolding settle
   by-verdict (Zero b) e = take 0
   by-verdict (One b) e = take 1
+  by-verdict Flat e = pass (λ free. ap isForced e)
   by-verdict Open e = pass (λ free. ap isForced e)
 
   next : Scanned run₀ (suc i) (scanAt run i)

@@ -13,6 +13,9 @@ enum-told-2 c = search needs
 enum-told-3 : tie.Need-enum-told-3
 enum-told-3 c = search needs
 
+enum-told-4 : tie.Need-enum-told-4
+enum-told-4 c = search needs
+
 returns : tie.Need-returns
 unfolding valueOf
 returns c = search needs
@@ -25,5 +28,9 @@ returns-3 : tie.Need-returns-3
 unfolding valueOf
 returns-3 c = search needs
 
+returns-4 : tie.Need-returns-4
+unfolding valueOf
+returns-4 c = search needs
+
 pub forced-spec : {M : Type 1} → statement M
-forced-spec = tie.close (tie.spec enum-told enum-told-2 enum-told-3 returns returns-2 returns-3)
+forced-spec = tie.close (tie.spec enum-told enum-told-2 enum-told-3 enum-told-4 returns returns-2 returns-3 returns-4)

@@ -43,9 +43,20 @@ returns-2 c =
     let start = at-if1 .before .before .before .before .before .before .before .before .before in
     scan-unforced (start .pre .0) (start .pre .1) (at-if1 .if1 .left) (at-row-at .row-at .ensures) (at-conclude .conclude .ensures) (ap isForced (c .enum-told .given .1))
 
+enum-told-2 : tie.Need-enum-told-2
+enum-told-2 c = search needs
+
+returns-3 : tie.Need-returns-3
+returns-3 c =
+    let at-conclude = c .before .before .before in
+    let at-row-at = at-conclude .before in
+    let at-if1 = at-row-at .before in
+    let start = at-if1 .before .before .before .before .before .before .before .before .before in
+    scan-unforced (start .pre .0) (start .pre .1) (at-if1 .if1 .left) (at-row-at .row-at .ensures) (at-conclude .conclude .ensures) (ap isForced (c .enum-told2 .given .1))
+
 settle-requires : tie.Need-settle-requires
 settle-requires c κs =
-    let at-conclude = c .before .before .before in
+    let at-conclude = c .before .before .before .before in
     let at-if1 = at-conclude .before .before in
     let start = at-if1 .before .before .before .before .before .before .before .before .before in
     settle-room (start .pre .0) (start .pre .1) (at-if1 .if1 .left) (at-conclude .conclude .ensures)
@@ -56,15 +67,16 @@ same-length c = search needs
 same-length-2 : tie.Need-same-length-2
 same-length-2 c = search needs
 
-returns-3 : tie.Need-returns-3
-returns-3 c =
+returns-4 : tie.Need-returns-4
+returns-4 c =
     let at-settle = c .before .before .before .before in
-    let at-match = at-settle .before .before .before in
+    let at-match2 = at-settle .before .before .before in
+    let at-match = at-match2 .before in
     let at-conclude = at-match .before in
     let at-row-at = at-conclude .before in
     let at-if1 = at-row-at .before in
     let start = at-if1 .before .before .before .before .before .before .before .before .before in
-    scan-forced (start .pre .0) (start .pre .1) (at-if1 .if1 .left) (at-row-at .row-at .ensures) (at-conclude .conclude .ensures) (tag-forces (at-conclude .conclude .result .verdict) (at-match .match .keys2))
+    scan-forced (start .pre .0) (start .pre .1) (at-if1 .if1 .left) (at-row-at .row-at .ensures) (at-conclude .conclude .ensures) (tag-forces (at-conclude .conclude .result .verdict) (at-match .match .keys2) (at-match2 .match2 .keys2))
     (at-settle .settle .ensures)
 
 pub scan-at-spec : {M : Type 1} → statement M
@@ -81,7 +93,9 @@ scan-at-spec =
     conclude-requires
     enum-told
     returns-2
+    enum-told-2
+    returns-3
     settle-requires
     same-length
     same-length-2
-    returns-3)
+    returns-4)

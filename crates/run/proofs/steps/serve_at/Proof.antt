@@ -73,16 +73,30 @@ returns-2 c =
     serve-unforced (start .pre .0) _ (start .pre .1) (at-other-end .other-end .ensures) _ (at-if1 .if1 .left) (at-half .half .ensures) (at-move-row .move-row .ensures .0)
     (at-move-row .move-row .ensures .1) (at-conclude .conclude .ensures) (ap isForced (c .enum-told .given .1))
 
+enum-told-2 : tie.Need-enum-told-2
+enum-told-2 c = search needs
+
+same-length-2 : tie.Need-same-length-2
+same-length-2 c = search needs
+
+returns-3 : tie.Need-returns-3
+returns-3 c =
+    let at-conclude = c .before .before .before in
+    let at-move-row = at-conclude .before .before .before in
+    let at-half = at-move-row .before .before in
+    let at-if1 = at-half .before .before in
+    let at-other-end = at-if1 .before .before in
+    let start = at-other-end .before .before .before .before .before .before .before .before in
+    serve-unforced (start .pre .0) _ (start .pre .1) (at-other-end .other-end .ensures) _ (at-if1 .if1 .left) (at-half .half .ensures) (at-move-row .move-row .ensures .0)
+    (at-move-row .move-row .ensures .1) (at-conclude .conclude .ensures) (ap isForced (c .enum-told2 .given .1))
+
 settle-requires : tie.Need-settle-requires
 settle-requires c κs =
-    let at-conclude = c .before .before .before in
+    let at-conclude = c .before .before .before .before in
     let at-if1 = at-conclude .before .before .before .before .before .before .before in
     let at-other-end = at-if1 .before .before in
     let start = at-other-end .before .before .before .before .before .before .before .before in
     settle-room (start .pre .0) (other-end-below (start .pre .0 .shaped) _ (start .pre .1) (at-other-end .other-end .ensures)) (at-if1 .if1 .left) (at-conclude .conclude .ensures)
-
-same-length-2 : tie.Need-same-length-2
-same-length-2 c = search needs
 
 same-length-3 : tie.Need-same-length-3
 same-length-3 c = search needs
@@ -90,10 +104,14 @@ same-length-3 c = search needs
 same-length-4 : tie.Need-same-length-4
 same-length-4 c = search needs
 
-returns-3 : tie.Need-returns-3
-returns-3 c =
+same-length-5 : tie.Need-same-length-5
+same-length-5 c = search needs
+
+returns-4 : tie.Need-returns-4
+returns-4 c =
     let at-settle = c .before .before .before .before in
-    let at-match = at-settle .before .before .before in
+    let at-match2 = at-settle .before .before .before in
+    let at-match = at-match2 .before in
     let at-conclude = at-match .before in
     let at-move-row = at-conclude .before .before .before in
     let at-half = at-move-row .before .before in
@@ -101,7 +119,7 @@ returns-3 c =
     let at-other-end = at-if1 .before .before in
     let start = at-other-end .before .before .before .before .before .before .before .before in
     serve-forced (start .pre .0) _ (start .pre .1) (at-other-end .other-end .ensures) _ (at-if1 .if1 .left) (at-half .half .ensures) (at-move-row .move-row .ensures .0)
-    (at-move-row .move-row .ensures .1) (at-conclude .conclude .ensures) (tag-forces (at-conclude .conclude .result .verdict) (at-match .match .keys2)) (at-settle .settle .ensures)
+    (at-move-row .move-row .ensures .1) (at-conclude .conclude .ensures) (tag-forces (at-conclude .conclude .result .verdict) (at-match .match .keys2) (at-match2 .match2 .keys2)) (at-settle .settle .ensures)
 
 pub serve-at-spec : {M : Type 1} → statement M
 serve-at-spec =
@@ -122,8 +140,11 @@ serve-at-spec =
     enum-told
     same-length
     returns-2
-    settle-requires
+    enum-told-2
     same-length-2
+    returns-3
+    settle-requires
     same-length-3
     same-length-4
-    returns-3)
+    same-length-5
+    returns-4)
