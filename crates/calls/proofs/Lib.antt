@@ -1,4 +1,5 @@
 pub mod Call
 pub mod Usual
 pub mod Answers
+pub mod ValuesBy
 pub mod Values

@@ -3,8 +3,8 @@ use Prim.Native.Nat.{ℕ}
 use mathlib.Core.Path.{_≡_, refl, sym, ap, _∙_}
 use mathlib.Core.Logic.{_↔_}
 use mathlib.Core.Bool.{true}
+use mathlib.Core.List.{List}
 use native.Mathlib.Omega.{arith}
-use mathlib.Core.List.{List, [], append-nil}
 use lib.ListN.{length, replicate}
 use lib.Ieee.{Float}
 use Rattle.weights.specs.Worth.{zero64}
@@ -23,11 +23,12 @@ use Rattle.field.specs.Grade.{halves, gradeOf, ExactIn}
 use Rattle.field.proofs.Means.{ready-passes}
 use Rattle.field.proofs.Exact.{exact-means}
 use Rattle.field.proofs.Faults.{fault-other}
-use Rattle.calls.specs.Call.{run, table, no-stage, without}
-use Rattle.calls.specs.Values.{Left, left, lent, Values, valuesCall}
-use Rattle.calls.proofs.Answers.{same-refused, done-apart}
+use Rattle.calls.specs.Call.{without}
+use Rattle.calls.specs.Values.{Left, left, Values, grades, valuesCall}
+use Rattle.calls.proofs.Answers.{done-apart}
 use Rattle.calls.proofs.Call as any
-use Rattle.calls.proofs.Usual as usual
+use Rattle.calls.proofs.ValuesBy as by
+use Rattle.calls.proofs.ValuesBy.{grades-tell}
 
 module _ (values : Values) (F : Field) (s : List ℕ) (f : List Float) (u : List ℕ) where
   -- any two results that the promise permits are equal
@@ -36,36 +37,29 @@ module _ (values : Values) (F : Field) (s : List ℕ) (f : List Float) (u : List
 
   -- the call is refused with r exactly if the tests before r's own pass, and its own fails
   pub refused-when : (r : Refusal) → (valuesCall values F s f u .answer ≡ Refused r) ↔ FirstToFail (readyTests F s (length f) (length u)) r
-  unfolding valuesCall table
-  refused-when = usual.refused-when Refused _ _ [] _ same-refused done-apart (append-nil (readyTests F s (length f) (length u)))
+  refused-when = by.refused-when grades-tell values F s f u
 
   -- a refusal changes nothing lent
   pub refused-leaves : (r : Refusal) → valuesCall values F s f u .answer ≡ Refused r → valuesCall values F s f u ≡ left (Refused r) s f u
-  unfolding valuesCall
-  refused-leaves r e = usual.refused-leaves Refused _ _ [] _ same-refused done-apart r no-stage e
+  refused-leaves = by.refused-leaves grades-tell values F s f u
 
   -- it is done exactly if the field, the start values and both scratches are as the table asks, and then gives the grade
   pub done-when : (valuesCall values F s f u .answer ≡ Done (gradeOf F)) ↔ Ready F s (length f) (length u)
-  unfolding valuesCall table
-  done-when = usual.done-when Refused _ _ [] _ same-refused done-apart (rw (append-nil (readyTests F s (length f) (length u))) (ready-passes F s (length f) (length u)))
+  done-when = by.done-when grades-tell values F s f u
 
   module _ (g : Grade) (e : valuesCall values F s f u .answer ≡ Done g) where
     -- then the values are in the start values, and both scratches are all zeros
     pub done-leaves : valuesCall values F s f u ≡ left (Done (gradeOf F)) (values F s) (cleared zero64 f) (cleared 0 u)
-    unfolding valuesCall
-    done-leaves = usual.done-leaves Refused _ _ [] _ same-refused done-apart (λ r z. done-apart r (sym e ∙ z))
-
-    answered : Done (gradeOf F) ≡ valuesCall values F s f u .answer
-    answered = ap (λ (l : Left). l .answer) (sym done-leaves)
+    done-leaves = by.done-leaves grades-tell values F s f u e done-apart
 
     pub ready : Ready F s (length f) (length u)
-    ready = done-when .0 (sym answered)
+    ready = by.ready grades-tell values F s f u e done-apart
 
     pub graded : gradeOf F ≡ g
-    graded = let a : Done (gradeOf F) ≡ Done g = answered ∙ e in let z : gradeOf F ≡ g = cc in z
+    graded = let a : Done (gradeOf F) ≡ Done g = by.done-answer grades-tell values F s f u e done-apart in let z : gradeOf F ≡ g = cc in z
 
     pub values-are : valuesCall values F s f u .lent .values ≡ values F s
-    values-are = ap (λ (l : Left). l .lent .values) done-leaves
+    values-are = by.values-are grades-tell values F s f u e done-apart
 
   -- what an answer of done with the grade exact says of the field
   pub exact-field : valuesCall values F s f u .answer ≡ Done Exact → Shaped F × (ExactIn halves F × StartFor (variables F) s)
@@ -89,11 +83,9 @@ module _ {F : Field} {s : List ℕ} {floats words : ℕ} where
 
 module _ (values : Values) (F : Field) (s : List ℕ) (f : List Float) (u : List ℕ) {k : Checked} (e : k ≡ tested (readyTests F s (length f) (length u))) where
   pub refused-call : {r : Refusal} → k ≡ Failed r → left (Refused r) s f u ≡ valuesCall values F s f u
-  unfolding valuesCall
-  refused-call failed = usual.refused-call Refused _ _ [] _ (sym e ∙ failed)
+  refused-call = by.refused-call grades values F s f u e
 
   pub done-call : k ≡ Passed → {g : Grade} → g ≡ gradeOf F → {s′ : List ℕ} → s′ ≡ values F s
       → {f′ : List Float} {fs : ℕ} → f′ ≡ replicate fs zero64 → fs ≡ length f → {u′ : List ℕ} {us : ℕ} → u′ ≡ replicate us 0 → us ≡ length u
       → left (Done g) s′ f′ u′ ≡ valuesCall values F s f u
-  unfolding valuesCall run
-  done-call passes eg es ef lf eu lu = rw (eg, es, ef, lf, eu, lu) (usual.passed-call Refused _ _ [] _ (sym e ∙ passes))
+  done-call passes eg = by.done-call grades values F s f u e passes (ap Done eg)

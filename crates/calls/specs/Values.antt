@@ -1,5 +1,6 @@
 -- A call that answers in the start values: what it answers and leaves, as one function of what it is given, for every input. Assumes nothing.
 use Prim.Native.Nat.{ℕ}
+use mathlib.Core.Path.{_≡_}
 use mathlib.Core.List.{List, []}
 use lib.ListN.{length}
 use lib.Ieee.{Float}
@@ -7,6 +8,9 @@ use Rattle.weights.specs.Worth.{zero64}
 use Rattle.scratch.specs.Cleared.{cleared}
 use Rattle.field.specs.declared.Answer.{Answer}
 use Rattle.field.specs.declared.Answer.the-variants.{Done, Refused}
+use Rattle.field.specs.declared.Counted.{Counted}
+use Rattle.field.specs.declared.Counted.the-variants.{Counts, Refuses}
+use Rattle.field.specs.declared.Refusal.{Refusal}
 use Rattle.field.specs.Field.{Field}
 use Rattle.field.specs.Tests.{readyTests}
 use Rattle.field.specs.Grade.{gradeOf}
@@ -33,8 +37,30 @@ left r s f u = any.left r (lent s f u)
 abbrev pub Values : Type 0
 Values = Field → List ℕ → List ℕ
 
+-- how a call answers: how it refuses, and what it says when done
+pub record Says (A : Type 0) : Type 0 where
+  pub refuse : Refusal → A
+  pub done : Field → List ℕ → A
+
+-- refusals differ, and none is what is said when done
+pub record Tells {A : Type 0} (says : Says A) : Type 0 where
+  pub same : (r t : Refusal) → says .refuse r ≡ says .refuse t → r ≡ t
+  pub apart : (F : Field) (s : List ℕ) (r : Refusal) → says .done F s ≡ says .refuse r → ⊥
+
+-- "On 0 a field call also gives this grade"
+abbrev pub grades : Says Answer
+grades = record { refuse = Refused; done = λ F s. Done (gradeOf F) }
+
+-- and a count beside it
+abbrev pub counts : (Field → List ℕ → ℕ) → Says Counted
+counts count = record { refuse = Refuses; done = λ F s. Counts (gradeOf F) (count F s) }
+
 -- tests 1 to 6 and 8, then the values: "Forced values go into the start values; so do those of small components, preprocess, heavy";
--- "On 0 a field call also gives this grade"; "After passing 8, scratch ends as all zeros"
-unfoldable pub valuesCall : Values → Field → List ℕ → List Float → List ℕ → Left
-valuesCall values F s f u =
-    called (usual Refused (lent s f u) (readyTests F s (length f) (length u)) [] (left (Done (gradeOf F)) (values F s) (cleared zero64 f) (cleared 0 u)))
+-- "After passing 8, scratch ends as all zeros"
+unfoldable pub valuesBy : {A : Type 0} → Says A → Values → Field → List ℕ → List Float → List ℕ → any.Left A Lent
+valuesBy says values F s f u =
+    called (usual (says .refuse) (lent s f u) (readyTests F s (length f) (length u)) [] (any.left (says .done F s) (lent (values F s) (cleared zero64 f) (cleared 0 u))))
+
+-- with the grade alone
+abbrev pub valuesCall : Values → Field → List ℕ → List Float → List ℕ → Left
+valuesCall = valuesBy grades

@@ -46,14 +46,14 @@ use Rattle.worked.specs.Cases.{cases, given, expected}
 -- each call's promise gives exactly the answer of the list, and leaves exactly what it says in all that was lent
 pub worked : map given cases ≡ map expected cases
 unfolding given expected
-    called staged keeping values.valuesCall
+    called staged keeping values.valuesBy
     probe.probeOneCall probe.probeOne probe.newOnly probe.newAt probe.probeTests probe.mayProbe
     probes.probeCall probes.probeLimitedCall probes.candidatesCall probes.fits probes.allValues probes.allConstraints
     pairs.pairsCall anchors.anchorsCall anchors.anchorTests
     propagation.propagateCall literals.propagationTests literals.constraintsFit literals.allFit
     readyTests standardTests looseTests shapeTests fewVariables listsMatch inOrder isFine firstFrom wrongAt faultOf offDiagonal weightsFinite startFits floatsFit wordsFit
     endsBelow allRise allFinite bytesSmall allBelow gradeOf isExact allWeigh weighs wholeIn magnitude
-    run.closure run.closureRun run.propagate run.work run.serve run.serveAll run.serveAt run.moveRow run.scanTo run.scanAt run.judged run.settle run.force
+    run.closure run.closureRun run.propagate run.work run.serve run.serveAll run.serveAt run.moveRow run.scanTo run.scanAt run.judged run.settle run.force run.flatTo
     upTo places placesFrom keep otherEnd rows.rowOf rows.rowTo rows.atEntry rows.atEnd addTerm
     small.smallParts small.solvedParts small.solvedPart
     walk.components walk.partsTo walk.partAt walk.walk walk.turns walk.turnOn walk.serve walk.visitAll walk.visitAt walk.visit walk.push walk.opened
