@@ -31,6 +31,10 @@ int main(void)
     answer = ombradiec_closure(FIELD, SLICE(start), SCRATCH);
     print("closure", answer, "values", start[0], start[1]);
 
+    q[0] = 2, start[0] = start[1] = 2;
+    answer = ombradiec_closure(FIELD, SLICE(start), SCRATCH);
+    print("closure", answer, "values", start[0], start[1]);
+
     c[0] = c[1] = -0.5, q[0] = 2, start[0] = start[1] = 2;
     answer = ombradiec_components(FIELD, SLICE(start), SCRATCH);
     print("components", answer, "values", start[0], start[1]);

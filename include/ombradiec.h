@@ -34,7 +34,7 @@ typedef uint64_t ombradiec_answer;
 #define OMBRADIEC_REFUSAL(answer) ((int)((answer) & 0xff))
 /* 1 if the field is exact, so that no sum rounds; 0 if it is not */
 #define OMBRADIEC_EXACT(answer) ((int)((answer) >> 8 & 0xff))
-/* the items in the answer list; of shift the new number of entries */
+/* the items in the answer list; of shift the new number of entries; of closure the free variables with a flat row */
 #define OMBRADIEC_COUNT(answer) ((size_t)((answer) >> 16 & 0xfffffff))
 /* of ROW, COLUMN, REPEAT and ORDER: the position of the first entry at fault, from 0, in the lists given */
 #define OMBRADIEC_POSITION(answer) OMBRADIEC_COUNT(answer)
@@ -83,7 +83,8 @@ typedef uint64_t ombradiec_answer;
 #define OMBRADIEC_LESS_THAN 4        /* not 1, 0 */
 #define OMBRADIEC_EQUAL 5            /* not 0, 1 and not 1, 0 */
 
-/* Puts every value that the gradient forces into `start`; on an exact field every best completion has them. */
+/* Puts every value that the gradient forces into `start`; on an exact field every best completion has them. Counts the
+ * free variables whose row is flat at the end, with both bounds 0: given the values so far, either value costs nothing. */
 ombradiec_answer ombradiec_closure(const double *c, size_t c_len, const uint16_t *rows, size_t rows_len,
                                    const uint16_t *cols, size_t cols_len, const double *q, size_t q_len,
                                    uint8_t *start, size_t start_len, double *f, size_t f_len, uint32_t *u,

@@ -16,7 +16,8 @@ pub enum Grade {
 pub struct Done {
     /// The grade of the field as it was given.
     pub grade: Grade,
-    /// How many items stand at the front of the answer list, of [`shift`](crate::shift) how many entries are left; else 0.
+    /// How many items stand at the front of the answer list, of [`shift`](crate::shift) how many entries are left, of
+    /// [`closure`](crate::closure) how many free variables have a flat row; else 0.
     pub count: usize,
     /// Of [`pairs`](crate::pairs) how many pairs were examined; else 0.
     pub pairs: usize,

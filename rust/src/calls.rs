@@ -44,7 +44,8 @@ fn freed(answer: Result<Done, Refusal>, values: &mut Values) -> Result<Done, Ref
     answer
 }
 
-/// Puts every value that the gradient forces into `start`. On an exact field every best completion has them.
+/// Puts every value that the gradient forces into `start`. On an exact field every best completion has them. Counts the free
+/// variables whose row is flat at the end, with both bounds 0: given the values so far, either value costs nothing.
 ///
 /// ```
 /// use ombradiec::{closure, Field, Refusal, Scratch, Values};
@@ -52,6 +53,7 @@ fn freed(answer: Result<Done, Refusal>, values: &mut Values) -> Result<Done, Ref
 /// let mut start = Values::free(2);
 /// closure(&Field::new(&[-1.0, -5.0], &[(0, 1, 4.0)]), &mut start, &mut scratch)?;
 /// assert_eq!(start.given().collect::<Vec<_>>(), [(0, false), (1, true)]);
+/// assert_eq!(closure(&Field::new(&[-5.0, -1.0], &[(0, 1, 2.0)]), &mut Values::free(2), &mut scratch)?.count, 1);
 ///
 /// let diagonal = Field::new(&[1.0], &[(0, 0, 2.0)]);
 /// assert_eq!(closure(&diagonal, &mut Values::free(1), &mut scratch), Err(Refusal::Diagonal));

@@ -9,8 +9,8 @@ use lib.Seq.{length-take-le}
 use lib.Ieee.{Float}
 use Rattle.weights.specs.Worth.{zero64}
 use Rattle.scratch.specs.Cleared.{cleared}
-use Rattle.field.specs.declared.Answer.{Answer}
-use Rattle.field.specs.declared.Answer.the-variants.{Done, Refused}
+use Rattle.field.specs.declared.Counted.{Counted as Answer}
+use Rattle.field.specs.declared.Counted.the-variants.{Counts, Refuses}
 use Rattle.field.specs.declared.Checked.{Checked}
 use Rattle.field.specs.declared.Checked.the-variants.{Passed, Failed}
 use Rattle.field.specs.declared.Grade.{Grade}
@@ -24,10 +24,10 @@ use Rattle.field.specs.Grade.{gradeOf}
 use Rattle.field.proofs.Answers.{number-most}
 use Rattle.field.proofs.Means.{floats-mean, words-mean}
 use Rattle.field.proofs.Table.{test-ok, none-left, group-no, group-ok}
-use Rattle.calls.specs.Values.{Left, left}
-use Rattle.calls.proofs.Values.{refused-call, done-call}
+use Rattle.calls.specs.Values.{counts}
+use Rattle.calls.proofs.ValuesBy.{refused-call, done-call}
 use Rattle.run.specs.Run.{closure}
-use Rattle.closure.specs.Call.{closureCall}
+use Rattle.closure.specs.Call.{Left, left, flat, closureCall}
 use Rattle.records.specs.Told.{Told, parsed}
 use Rattle.records.specs.Parsing.{answerOf, Parses}
 use Rattle.text.specs.Text.{refusedText, answerText}
@@ -38,7 +38,7 @@ use Rattle.records.proofs.Front.{field-whole, field-fronts}
 
 -- ---- a refusal's number
 
-pub refusal-small : {a : Answer} {r : Refusal} {n : ℕ} → a ≡ Refused r → n ≡ numberOf r → n < 1000
+pub refusal-small : {a : Answer} {r : Refusal} {n : ℕ} → a ≡ Refuses r → n ≡ numberOf r → n < 1000
 refusal-small {r = r} e same = omega (arith, number-most r)
 
 -- ---- the field's text
@@ -71,13 +71,13 @@ module _ (f : List Float) (u : List ℕ) {F : Field} {s v v′ : List ℕ} {f′
       scratch-fits F s floats words
 
   -- what is left, where the tests pass and where one fails
-  done-left : tested (readyTests F s (length f) (length u)) ≡ Passed → left a v′ f′ u′ ≡ left (Done (gradeOf F)) (closure F s) (cleared zero64 f) (cleared 0 u)
-  done-left p = decided ∙ sym (done-call closure F s f u refl p refl refl refl refl refl refl)
+  done-left : tested (readyTests F s (length f) (length u)) ≡ Passed → left a v′ f′ u′ ≡ left (Counts (gradeOf F) (flat F s)) (closure F s) (cleared zero64 f) (cleared 0 u)
+  done-left p = decided ∙ sym (done-call (counts flat) closure F s f u refl p refl refl refl refl refl refl)
 
-  refused-left : {r : Refusal} → tested (readyTests F s (length f) (length u)) ≡ Failed r → left a v′ f′ u′ ≡ left (Refused r) s f u
-  refused-left p = decided ∙ sym (refused-call closure F s f u refl p)
+  refused-left : {r : Refusal} → tested (readyTests F s (length f) (length u)) ≡ Failed r → left a v′ f′ u′ ≡ left (Refuses r) s f u
+  refused-left p = decided ∙ sym (refused-call (counts flat) closure F s f u refl p)
 
-  pub done-text : {g : Grade} → a ≡ Done g → answerText g s v′ ≡ fieldText F s
+  pub done-text : {g : Grade} {n : ℕ} → a ≡ Counts g n → answerText g s v′ ≡ fieldText F s
   unfolding fieldText checkedText
   done-text {g} e = by (tested (standardTests F s)) ready
     where
@@ -85,7 +85,7 @@ module _ (f : List Float) (u : List ℕ) {F : Field} {s v v′ : List ℕ} {f′
       by Passed p = cc (ap (λ (l : Left). l .answer) (done-left p), ap (λ (l : Left). l .lent .values) (done-left p))
       by (Failed r) p = let z : _≡_ {A = ℕ} 0 1 = cc (ap (λ (l : Left). l .answer) (refused-left p)) in absurd (omega arith)
 
-  pub refused-text : {r : Refusal} → a ≡ Refused r → refusedText (numberOf r) ≡ fieldText F s
+  pub refused-text : {r : Refusal} → a ≡ Refuses r → refusedText (numberOf r) ≡ fieldText F s
   unfolding fieldText checkedText
   refused-text {r} e = by (tested (standardTests F s)) ready
     where

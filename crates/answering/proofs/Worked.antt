@@ -1,6 +1,6 @@
 -- The answer to case g, byte by byte. Assumes nothing.
 use mathlib.Core.Path.{_≡_, refl}
-use lib.Ieee.{add, sub, mul, le, lt, ofInt, ofBits}
+use lib.Ieee.{add, sub, mul, le, lt, eq, ofInt, ofBits}
 use Rattle.weights.specs.Counts.{wholeIn}
 use Rattle.weights.specs.Worth.{magnitude}
 use Rattle.scratch.specs.All.{allBelow}
@@ -23,6 +23,6 @@ pub case-g : answerBytes input-g ≡ output-g
 unfolding answerBytes parsed readFrom taken readAt markedAt weightAt entryAt givenAt floatAt numberAt valueOf fieldText checkedText tested
     standardTests shapeTests fewVariables listsMatch inOrder offDiagonal weightsFinite startFits endsBelow allRise allFinite bytesSmall allBelow
     gradeOf isExact allWeigh weighs wholeIn magnitude closure closureRun propagate work serve serveAll serveAt moveRow scanTo scanAt judged settle
-    force upTo places placesFrom keep otherEnd rowOf rowTo atEntry atEnd addTerm add sub mul le lt ofInt ofBits decimal gradeLine forcedLine endLine
+    force upTo places placesFrom keep otherEnd rowOf rowTo atEntry atEnd addTerm add sub mul le lt eq ofInt ofBits decimal gradeLine forcedLine endLine
     forced forcedLines answerText
 case-g = refl

@@ -1,5 +1,5 @@
 // The whole answer: the field that an input tells, its closure, and their text.
-use field::Answer;
+use field::Counted;
 use records::parsing::Parsed;
 use records::parsing::parse;
 use text::put_bytes;
@@ -32,8 +32,8 @@ fn answer_field(
     put_bytes(values, 0, start);
     let answer = closure::closure(c, rows, cols, q, values, f, u);
     match answer {
-        Answer::Done(grade) => write_answer(grade, start, values, out),
-        Answer::Refused(refusal) => write_refused(scratch::wide_word(refusal.number()), out),
+        Counted::Counts(grade, _) => write_answer(grade, start, values, out),
+        Counted::Refuses(refusal) => write_refused(scratch::wide_word(refusal.number()), out),
     }
 }
 

@@ -71,7 +71,7 @@ fn in_start(
     ensures { λ r. ⌜ r .number ≤ 17 ⌝ }
 {
     if code == CLOSURE {
-        return answered(closure::closure(c, rows, cols, q, start, f, u));
+        return counted(closure::closure(c, rows, cols, q, start, f, u));
     }
     in_components(code, c, rows, cols, q, start, f, u)
 }

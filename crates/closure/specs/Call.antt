@@ -2,10 +2,23 @@
 use Prim.Native.Nat.{ℕ}
 use mathlib.Core.List.{List}
 use lib.Ieee.{Float}
+use Rattle.field.specs.declared.Counted.{Counted}
 use Rattle.field.specs.Field.{Field}
-use Rattle.calls.specs.Values.{Left, valuesCall}
-use Rattle.run.specs.Run.{closure}
+use Rattle.calls.specs.Call as any
+use Rattle.calls.specs.Values.{Lent, lent, counts, valuesBy}
+use Rattle.run.specs.Run.{closureRun, closure, flatRows}
 
--- tests 1 to 6 and 8, then the closure
+-- the answer, and the three lent lists afterwards
+abbrev pub Left : Type 0
+Left = any.Left Counted Lent
+
+abbrev pub left : Counted → List ℕ → List Float → List ℕ → Left
+left r s f u = any.left r (lent s f u)
+
+-- "The closure counts the rows that are flat at its end, over free variables": those that the run holds
+abbrev pub flat : Field → List ℕ → ℕ
+flat F s = flatRows (closureRun F s)
+
+-- tests 1 to 6 and 8, then the closure, and the flat rows beside the grade
 abbrev pub closureCall : Field → List ℕ → List Float → List ℕ → Left
-closureCall = valuesCall closure
+closureCall = valuesBy (counts flat) closure

@@ -156,6 +156,26 @@ fn put_values(
     put_promise(out, named, b"kept", is_kept)
 }
 
+fn put_count(out: &mut [u8], used: usize, count: usize) -> usize
+    ensures { λ r. ⌜ r ≤ length (after out) ⌝ }
+{
+    let named = put_text(out, used, b" count=");
+    put_number(out, named, count)
+}
+
+// The flat rows that the closure counts.
+fn put_flat(out: &mut [u8], used: usize, code: u8, outcome: Outcome) -> usize
+    ensures { λ r. ⌜ r ≤ length (after out) ⌝ }
+{
+    if code != CLOSURE {
+        return least(used, out.len());
+    }
+    if outcome.number > 0 {
+        return least(used, out.len());
+    }
+    put_count(out, used, outcome.count)
+}
+
 fn put_pairs(out: &mut [u8], used: usize, code: u8, outcome: Outcome) -> usize
     ensures { λ r. ⌜ r ≤ length (after out) ⌝ }
 {
@@ -220,8 +240,7 @@ fn put_answer_list(
         let named = put_text(out, used, name);
         return put_left(out, named, outcome.number, list);
     }
-    let counting = put_text(out, used, b" count=");
-    let counted = put_number(out, counting, outcome.count);
+    let counted = put_count(out, used, outcome.count);
     let named = put_text(out, counted, name);
     let end = end_of(outcome.count, in_triples, list.len());
     put_items(out, named, list, end, in_triples)
@@ -307,7 +326,7 @@ fn put_scratch(out: &mut [u8], used: usize, code: u8, number: u32, f: &[f64], u:
     put(out, words, b'\n')
 }
 
-// The answer lists, where the call has them.
+// The counts and the answer lists, where the call has them.
 fn put_answers(
     out: &mut [u8],
     used: usize,
@@ -318,7 +337,8 @@ fn put_answers(
 ) -> usize
     ensures { λ r. ⌜ r ≤ length (after out) ⌝ }
 {
-    let pairs = put_pairs(out, used, code, outcome);
+    let flat = put_flat(out, used, code, outcome);
+    let pairs = put_pairs(out, flat, code, outcome);
     let constraints = put_constraints(out, pairs, code, outcome, list);
     let values = put_found(out, constraints, code, outcome.number, found);
     put_variables(out, values, code, outcome, list)

@@ -10,9 +10,12 @@ use Rattle.field.specs.declared.Counted.{Counted}
 use Rattle.field.specs.declared.Counted.the-variants.{Refuses}
 use Rattle.field.specs.Field.{Field, variables, entries}
 use Rattle.field.specs.Tests.{looseTests, readyTests}
-use Rattle.field.proofs.Means.{loose-passes}
+use Rattle.field.proofs.Means.{loose-passes, ready-passes}
 use Rattle.field.proofs.Faults.{loose-near, ready-near}
+use Rattle.calls.specs.Values.{valuesBy}
 use Rattle.calls.proofs.Usual.{answer-has}
+use Rattle.closure.specs.Call as closing
+use Rattle.closure.proofs.Demands.{count-few}
 use Rattle.no_effect.specs.Putting.{chosenFrom}
 use Rattle.no_effect.specs.Effect.{hasNoEffect, noEffect}
 use Rattle.no_effect.specs.Call as effectless
@@ -32,6 +35,19 @@ use Rattle.pairs.proofs.ListLaws.{few-found}
 use Rattle.packing.specs.Layout.{countOf, pairedCount, pairsExamined}
 use Rattle.ombradiec.specs.Reading.{Few}
 use Rattle.ombradiec.proofs.Positions.{word-near, anchor-near}
+
+-- ---- closure: at most n
+
+module _ (F : Field) (s : List ℕ) (f : List Float) (u : List ℕ) where
+  pub closure-fits : countOf (closing.closureCall F s f u .answer) < 0x1000_0000
+  unfolding valuesBy
+  closure-fits =
+      answer-has Refuses _ (readyTests F s (length f) (length u)) [] _ (λ a. countOf a < 0x1000_0000) (λ r e. omega (arith, ready-near F s (length f) (length u) r e)) tt (λ e.
+      let ready = ready-passes F s (length f) (length u) .0 e .sound in
+      omega (arith, ready .shaped .few-variables, count-few F (ready .start)))
+
+  pub closure-few : {a : Counted} {s′ : List ℕ} {f′ : List Float} {u′ : List ℕ} → closing.left a s′ f′ u′ ≡ closing.closureCall F s f u → countOf a < 0x1000_0000
+  closure-few e = omega (arith, closure-fits, ap (λ (x : closing.Left). countOf (x .answer)) e)
 
 -- ---- no_effect: at most n
 

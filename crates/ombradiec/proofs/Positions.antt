@@ -48,7 +48,7 @@ propagation-near s list words =
 
 module _ (g : values.Values) (F : Field) (s : List ℕ) (f : List Float) (u : List ℕ) where
   pub values-fit : answerCount (values.valuesCall g F s f u .answer) < 0x1000_0000
-  unfolding values.valuesCall
+  unfolding values.valuesBy
   values-fit =
       answer-has Refused _ (readyTests F s (length f) (length u)) [] _ (λ a. answerCount a < 0x1000_0000) (λ r e. omega (arith, ready-near F s (length f) (length u) r e)) tt (λ e. omega arith)
 

@@ -6,7 +6,6 @@ use lib.Ieee.{Float}
 use Rattle.field.specs.Answers.{checkedNumber}
 use Rattle.field.specs.Field.{Field}
 use Rattle.calls.specs.Values as values
-use Rattle.run.specs.Run.{closure}
 use Rattle.closure.specs.Call as closing
 use Rattle.components.specs.Small.{smallParts}
 use Rattle.components.specs.Call as components
@@ -26,7 +25,7 @@ use Rattle.ombradiec.specs.Exported.{Exported}
 use Rattle.ombradiec.specs.Reading.{AnswerRead, CountRead}
 use Rattle.packing.proofs.Reading.{checked-reads, answer-reads, counted-reads, paired-reads}
 use Rattle.ombradiec.proofs.Positions.{values-fit, probe-one-fits, propagate-fits}
-use Rattle.ombradiec.proofs.Counts.{no-effect-fits, shift-fits, anchors-fit, pairs-fit}
+use Rattle.ombradiec.proofs.Counts.{closure-fits, no-effect-fits, shift-fits, anchors-fit, pairs-fit}
 use Rattle.ombradiec.proofs.Probed.{probe-fits, probe-limited-fits}
 
 -- ---- any call: `answerIn` takes the answer from the record of what a call leaves
@@ -53,8 +52,8 @@ module _ {A L : Type 0} {packed : A → ℕ} (answerIn : L → A) {left left′ 
 -- ---- each call: what is read from its number is the answer of its model
 
 module _ (F : Field) (s : List ℕ) (f : List Float) (u : List ℕ) {s′ : List ℕ} {f′ : List Float} {u′ : List ℕ} {r : ℕ} where
-  pub closure-reads : Exported packedAnswer (λ a. values.left a s′ f′ u′) r (closing.closureCall F s f u) → AnswerRead (closing.closureCall F s f u .answer) r
-  closure-reads e = rw (number-is (λ (x : values.Left). x .answer) (λ a. refl) e) (answer-reads (closing.closureCall F s f u .answer) (values-fit closure F s f u))
+  pub closure-reads : Exported packedCounted (λ a. closing.left a s′ f′ u′) r (closing.closureCall F s f u) → CountRead (closing.closureCall F s f u .answer) r
+  closure-reads e = rw (number-is (λ (x : closing.Left). x .answer) (λ a. refl) e) (counted-reads (closing.closureCall F s f u .answer) (closure-fits F s f u))
 
   pub components-reads : Exported packedAnswer (λ a. values.left a s′ f′ u′) r (components.componentsCall F s f u) → AnswerRead (components.componentsCall F s f u .answer) r
   components-reads e = rw (number-is (λ (x : values.Left). x .answer) (λ a. refl) e) (answer-reads (components.componentsCall F s f u .answer) (values-fit smallParts F s f u))

@@ -21,7 +21,7 @@ ghost use Rattle.propagation.specs.Call as propagating;
 ghost use Rattle.packing.specs.Layout.{packedChecked, packedAnswer, packedCounted, packedPaired};
 ghost use Rattle.ombradiec.specs.Exported.{Exported};
 
-// The gradient closure.
+// The gradient closure, and how many free variables have a flat row at its end.
 #[no_mangle]
 pub extern "C" fn ombradiec_closure(
     c: &[f64],
@@ -32,9 +32,9 @@ pub extern "C" fn ombradiec_closure(
     f: &mut [f64],
     u: &mut [u32],
 ) -> u64
-    ensures { λ r. ⌜ Exported packedAnswer (λ a. left a (after start) (after f) (after u)) r (closing.closureCall (given c rows cols q) (before start) (before f) (before u)) ⌝ }
+    ensures { λ r. ⌜ Exported packedCounted (λ a. closing.left a (after start) (after f) (after u)) r (closing.closureCall (given c rows cols q) (before start) (before f) (before u)) ⌝ }
 {
-    pack_answer(closure::closure(c, rows, cols, q, start, f, u))
+    pack_counted(closure::closure(c, rows, cols, q, start, f, u))
 }
 
 // The values of all small components.

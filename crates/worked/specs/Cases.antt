@@ -12,8 +12,8 @@ use Rattle.field.specs.declared.Refusal.{Refusal}
 use Rattle.field.specs.declared.Refusal.the-variants.{Row, Column, Repeat, Order, Clash}
 use Rattle.field.specs.declared.Checked.{Checked}
 use Rattle.field.specs.declared.Checked.the-variants.{Passed, Failed}
-use Rattle.field.specs.declared.Answer.the-variants.{Done, Refused}
-use Rattle.field.specs.declared.Counted.the-variants.{Counts}
+use Rattle.field.specs.declared.Answer.the-variants.{Done}
+use Rattle.field.specs.declared.Counted.the-variants.{Counts, Refuses}
 use Rattle.field.specs.Field.{Field, variables, entries}
 use Rattle.calls.specs.Values as values
 use Rattle.closure.specs.Call as closure
@@ -26,12 +26,12 @@ use Rattle.pairs.specs.declared.Paired.the-variants as paired
 use Rattle.pairs.specs.Call as pairs
 use Rattle.anchors.specs.Call as anchors
 use Rattle.propagation.specs.Call as propagation
-use Rattle.worked.specs.Fields.{nought, half, minus-half, minus-one, two, minus-two, four, minus-five, six, alone, joined, apart, opposed, swallowing, unbalanced, two-parts, overflowing, on-diagonal, with-zero, parted, popped, one-term, two-pairs, linked, at-tolerance, placed}
+use Rattle.worked.specs.Fields.{nought, half, minus-half, minus-one, two, minus-two, four, minus-five, six, alone, joined, apart, opposed, swallowing, unbalanced, two-parts, overflowing, on-diagonal, with-zero, parted, popped, one-term, two-pairs, linked, at-tolerance, placed, cancelling}
 
 -- a call, the field with its grade, the start values, what else it is given, and what it answers
 pub data Case : Type 0 where
-  -- what is in the start values afterwards
-  closes : Field → Grade → List ℕ → List ℕ → Case
+  -- what is in the start values afterwards, and for the closure how many free variables have a flat row
+  closes : Field → Grade → List ℕ → List ℕ → ℕ → Case
   completes : Field → Grade → List ℕ → List ℕ → Case
   preprocesses : Field → Grade → List ℕ → List ℕ → Case
   rounds : Field → Grade → List ℕ → List ℕ → Case
@@ -59,19 +59,19 @@ both = 0 ∷ 1 ∷ 5 ∷ 0 ∷ 1 ∷ 1 ∷ []
 abbrev pub cases : List Case
 cases =
     -- "a. n=0: nothing forced."
-    closes (alone []) Exact [] []
+    closes (alone []) Exact [] [] 0
     -- "b. c=0: closure leaves 2; preprocess gives 0."
-    ∷ closes (alone (nought ∷ [])) Exact (2 ∷ []) (2 ∷ [])
+    ∷ closes (alone (nought ∷ [])) Exact (2 ∷ []) (2 ∷ []) 1
     ∷ preprocesses (alone (nought ∷ [])) Exact (2 ∷ []) (0 ∷ [])
     -- "c. c=0.5: 0. d. c=-0.5: 1."
-    ∷ closes (alone (half ∷ [])) Exact (2 ∷ []) (0 ∷ [])
-    ∷ closes (alone (minus-half ∷ [])) Exact (2 ∷ []) (1 ∷ [])
+    ∷ closes (alone (half ∷ [])) Exact (2 ∷ []) (0 ∷ []) 0
+    ∷ closes (alone (minus-half ∷ [])) Exact (2 ∷ []) (1 ∷ []) 0
     -- "e. c=(0,0), (0,1) 2: lower exactly 0, nothing. f. (0,1) -2: upper exactly 0, nothing."
-    ∷ closes (joined (nought ∷ nought ∷ []) two) Exact (2 ∷ 2 ∷ []) (2 ∷ 2 ∷ [])
-    ∷ closes (joined (nought ∷ nought ∷ []) minus-two) Exact (2 ∷ 2 ∷ []) (2 ∷ 2 ∷ [])
+    ∷ closes (joined (nought ∷ nought ∷ []) two) Exact (2 ∷ 2 ∷ []) (2 ∷ 2 ∷ []) 0
+    ∷ closes (joined (nought ∷ nought ∷ []) minus-two) Exact (2 ∷ 2 ∷ []) (2 ∷ 2 ∷ []) 0
     -- "g. c=(-5,-1), (0,1) 4: 1,0. h. the same with x0 given 0: 0,1."
-    ∷ closes (joined (minus-five ∷ minus-one ∷ []) four) Exact (2 ∷ 2 ∷ []) (1 ∷ 0 ∷ [])
-    ∷ closes (joined (minus-five ∷ minus-one ∷ []) four) Exact (0 ∷ 2 ∷ []) (0 ∷ 1 ∷ [])
+    ∷ closes (joined (minus-five ∷ minus-one ∷ []) four) Exact (2 ∷ 2 ∷ []) (1 ∷ 0 ∷ []) 0
+    ∷ closes (joined (minus-five ∷ minus-one ∷ []) four) Exact (0 ∷ 2 ∷ []) (0 ∷ 1 ∷ []) 0
     -- "i. c=(-1,-1), (0,1) 4: probe gives ExactlyOne(0,1), no value; pairs give nothing."
     ∷ probes-all (joined (minus-one ∷ minus-one ∷ []) four) Exact (2 ∷ 2 ∷ []) (2 ∷ 2 ∷ []) (0 ∷ 1 ∷ 1 ∷ [])
     ∷ compares (joined (minus-one ∷ minus-one ∷ []) four) Exact (2 ∷ 2 ∷ []) [] 0 1
@@ -84,15 +84,15 @@ cases =
     ∷ preprocesses (joined (minus-half ∷ minus-half ∷ []) two) Exact (2 ∷ 2 ∷ []) (1 ∷ 0 ∷ [])
     ∷ anchors-at (joined (minus-half ∷ minus-half ∷ []) two) Exact (2 ∷ 2 ∷ []) 2 (0 ∷ [])
     -- "n. c=(-1,-5), (0,1) 4: 0,1."
-    ∷ closes (joined (minus-one ∷ minus-five ∷ []) four) Exact (2 ∷ 2 ∷ []) (0 ∷ 1 ∷ [])
+    ∷ closes (joined (minus-one ∷ minus-five ∷ []) four) Exact (2 ∷ 2 ∷ []) (0 ∷ 1 ∷ []) 0
     -- "c=(1e-10,0), no entries: no pair constraint."
     ∷ compares at-tolerance Inexact (2 ∷ 2 ∷ []) [] 0 1
     -- "The Rust forces 0,0,1,1, the port too, graded inexact"
-    ∷ closes swallowing Inexact (2 ∷ 2 ∷ 2 ∷ 2 ∷ []) (0 ∷ 0 ∷ 1 ∷ 1 ∷ [])
+    ∷ closes swallowing Inexact (2 ∷ 2 ∷ 2 ∷ 2 ∷ []) (0 ∷ 0 ∷ 1 ∷ 1 ∷ []) 0
     -- enumerated, the same field gives the best completion
     ∷ completes swallowing Inexact (2 ∷ 2 ∷ 2 ∷ 2 ∷ []) (1 ∷ 0 ∷ 1 ∷ 0 ∷ [])
     -- "Merging (i,j) with (j,i) in the gradient: the source bounds them one by one."
-    ∷ closes opposed Exact (2 ∷ 2 ∷ []) (2 ∷ 2 ∷ [])
+    ∷ closes opposed Exact (2 ∷ 2 ∷ []) (2 ∷ 2 ∷ []) 0
     -- "a start value of 1 is kept in the answer"
     ∷ preprocesses (alone (nought ∷ [])) Exact (1 ∷ []) (1 ∷ [])
     -- preprocess leaves heavy's first round nothing; eleven variables need a second one
@@ -136,12 +136,18 @@ cases =
     -- n=3: (0,1) (0,1) (3,0) is 16 at 1, the first entry at fault; n=0: (0,0) is 14 at 0
     ∷ refuses (placed 3 (0 ∷ 0 ∷ 3 ∷ []) (1 ∷ 1 ∷ 0 ∷ [])) (Repeat 1)
     ∷ refuses (placed 0 (0 ∷ []) (0 ∷ [])) (Row 0)
+    -- C-13, flat rows: under a stored zero, after a neighbour was forced, none of a given variable, and one that the run's rows have and fresh ones have not
+    ∷ closes (joined (nought ∷ nought ∷ []) nought) Exact (2 ∷ 2 ∷ []) (2 ∷ 2 ∷ []) 2
+    ∷ closes (joined (minus-five ∷ minus-one ∷ []) two) Exact (2 ∷ 2 ∷ []) (1 ∷ 2 ∷ []) 1
+    ∷ closes (alone (nought ∷ [])) Exact (0 ∷ []) (0 ∷ []) 0
+    ∷ closes cancelling Inexact (2 ∷ 2 ∷ []) (2 ∷ 0 ∷ []) 1
     ∷ []
 
 -- ---- what each call leaves, and what the list says
 
 -- the answer and all that was lent, as each call's promise has them
 pub data Outcome : Type 0 where
+  in-closing : closure.Left → Outcome
   in-start : values.Left → Outcome
   in-found : probe.Left → Outcome
   in-both : probes.Left → Outcome
@@ -172,7 +178,7 @@ front l = l ++ (9 ∷ [])
 
 -- what the promise of each call gives
 unfoldable pub given : Case → Outcome
-given (closes F g s t) = in-start (closure.closureCall F s (floats F) (words F))
+given (closes F g s t flat) = in-closing (closure.closureCall F s (floats F) (words F))
 given (completes F g s t) = in-start (components.componentsCall F s (floats F) (words F))
 given (preprocesses F g s t) = in-start (preprocess.preprocessCall F s (floats F) (words F))
 given (rounds F g s t) = in-start (heavy.heavyCall F s (floats F) (words F))
@@ -182,11 +188,11 @@ given (probes-some F g s limit t k) = in-both (probes.probeLimitedCall F s limit
 given (compares F g s k items examined) = in-pairs (pairs.pairsCall F s 250000 (lent k) (floats F) (words F))
 given (anchors-at F g s least l) = in-anchors (anchors.anchorsCall F s least (lent l) (floats F) (words F))
 given (propagates s k r t) = in-literals (propagation.propagateCall s k (constraint-words s k))
-given (refuses F r) = in-start (closure.closureCall F (free F) (floats F) (words F))
+given (refuses F r) = in-closing (closure.closureCall F (free F) (floats F) (words F))
 
 -- what the list says: the answer, the values or the list with what is past it, and scratch that is all zeros
 unfoldable pub expected : Case → Outcome
-expected (closes F g s t) = in-start (values.left (Done g) t (cleared zero64 (floats F)) (cleared 0 (words F)))
+expected (closes F g s t flat) = in-closing (closure.left (Counts g flat) t (cleared zero64 (floats F)) (cleared 0 (words F)))
 expected (completes F g s t) = in-start (values.left (Done g) t (cleared zero64 (floats F)) (cleared 0 (words F)))
 expected (preprocesses F g s t) = in-start (values.left (Done g) t (cleared zero64 (floats F)) (cleared 0 (words F)))
 expected (rounds F g s t) = in-start (values.left (Done g) t (cleared zero64 (floats F)) (cleared 0 (words F)))
@@ -196,4 +202,4 @@ expected (probes-some F g s limit t k) = in-both (probes.left (Counts g (room k)
 expected (compares F g s k items examined) = in-pairs (pairs.left (paired.Done g items examined) (front k) (cleared zero64 (floats F)) (cleared 0 (words F)))
 expected (anchors-at F g s least l) = in-anchors (anchors.left (Counts g (length l)) (front l) (cleared zero64 (floats F)) (cleared 0 (words F)))
 expected (propagates s k r t) = in-literals (propagation.left r t (cleared 0 (constraint-words s k)))
-expected (refuses F r) = in-start (values.left (Refused r) (free F) (floats F) (words F))
+expected (refuses F r) = in-closing (closure.left (Refuses r) (free F) (floats F) (words F))

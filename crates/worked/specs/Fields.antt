@@ -142,3 +142,7 @@ at-tolerance = alone (tiny64 ∷ nought ∷ [])
 -- n variables with c = 0, and entries of weight 2 at these rows and columns
 abbrev pub placed : ℕ → List ℕ → List ℕ → Field
 placed n rows cols = fieldOf (replicate n nought) rows cols (replicate (length rows) two)
+
+-- c=(1,2^61), (1,0) 2^61, (0,1) -2^61: the bounds of row 0 swallow its weight while variable 1 is free, and end at 0
+abbrev pub cancelling : Field
+cancelling = fieldOf (one ∷ fin false 1 (pos 61) ∷ []) (1 ∷ 0 ∷ []) (0 ∷ 1 ∷ []) (fin false 1 (pos 61) ∷ fin true 1 (pos 61) ∷ [])

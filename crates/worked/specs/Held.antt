@@ -21,7 +21,7 @@ heldBytes s = every (λ v. ltb v 256) s
 
 -- what a case gives its call
 unfoldable pub held : Case → Bool
-held (closes F g s t) = heldField F && heldBytes s
+held (closes F g s t flat) = heldField F && heldBytes s
 held (completes F g s t) = heldField F && heldBytes s
 held (preprocesses F g s t) = heldField F && heldBytes s
 held (rounds F g s t) = heldField F && heldBytes s

@@ -1,5 +1,7 @@
 //! Answers a stream of cases with the Rust text: cases on standard input, one line a case on standard output.
 
+mod flat;
+
 use hercules::constraint::{Constraint, ConstraintType};
 use hercules::qubo::Qubo;
 use hercules::{door, preprocess, variable_reduction, FixedVarMap};
@@ -18,7 +20,7 @@ fn main() -> io::Result<()> {
     output.flush()
 }
 
-/// The refusals are worked out here from document 01's table; all else is the text's.
+/// The refusals are worked out here from document 01's table, and the flat rows by the run once more; all else is the text's.
 fn answer(case: &Case) -> Answer {
     if let Some(refusal) = table::refusal(case) {
         return Answer::Refused(refusal);
@@ -43,7 +45,13 @@ fn work(case: &Case, qubo: &Qubo, given: FixedVarMap, done: &mut Done) {
     let n = case.n();
     let probed = case.variable as usize;
     match case.call {
-        Call::Closure => done.values = Some(list_of(n, &door::closure(qubo, given))),
+        Call::Closure => {
+            let values = list_of(n, &door::closure(qubo, given));
+            let (again, count) = flat::closure(case);
+            assert_eq!(again, values, "the run once more ends in other values");
+            done.values = Some(values);
+            done.flat = Some(count);
+        }
         Call::Components => {
             let values = preprocess::solve_small_components(qubo, &given, 10);
             done.values = Some(list_of(n, &values));

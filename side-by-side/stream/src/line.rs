@@ -18,6 +18,7 @@ pub enum Answer {
 #[derive(Default)]
 pub struct Done {
     pub values: Option<Vec<u8>>,
+    pub flat: Option<usize>,
     pub pairs: Option<u64>,
     pub constraints: Option<Vec<(usize, usize, usize)>>,
     pub found: Option<Vec<u8>>,
@@ -76,6 +77,9 @@ pub fn line(case: &Case, answer: &Answer) -> String {
 fn done_words(case: &Case, done: &Done, words: &mut Vec<String>) {
     if let Some(values) = &done.values {
         words.push(format!("values={}", digits(values)));
+    }
+    if let Some(flat) = done.flat {
+        words.push(format!("count={flat}"));
     }
     if let Some(pairs) = done.pairs {
         words.push(format!("pairs={pairs}"));

@@ -41,6 +41,19 @@ pub const WORKED: [Worked; 17] = [
     ("both", &[-1.0, 2.0], &[(1, 0, 4.0), (0, 1, -4.0)], &[2, 2]),
 ];
 
+/// Document 02's rows under C-13: flat by a stored zero, after a neighbour was forced, of a given variable, and in the run's rows alone.
+pub const FLAT: [Worked; 4] = [
+    ("stored zero", &[0.0, 0.0], &[(0, 1, 0.0)], &[2, 2]),
+    ("neighbour", &[-5.0, -1.0], &[(0, 1, 2.0)], &[2, 2]),
+    ("given", &[0.0], &[], &[0]),
+    (
+        "cancelling",
+        &[1.0, TWO_61],
+        &[(1, 0, TWO_61), (0, 1, -TWO_61)],
+        &[2, 2],
+    ),
+];
+
 /// The worked value as a case of the call, with room for every answer.
 pub fn worked_case(call: Call, worked: &Worked) -> Case {
     let mut case = Case::new(call);
@@ -168,6 +181,9 @@ pub fn recorded(calls: &[Call]) -> Vec<Case> {
         if calls.contains(&call) && call.has_field() {
             faults(call, &mut cases);
         }
+    }
+    if calls.contains(&Call::Closure) {
+        cases.extend(FLAT.iter().map(|flat| worked_case(Call::Closure, flat)));
     }
     cases
 }

@@ -66,6 +66,14 @@ impl Whole {
         bounds
     }
 
+    /// The free variables with low = high = 0.
+    pub fn flat(&self, values: &[u8]) -> usize {
+        let bounds = self.bounds(values);
+        (0..values.len())
+            .filter(|&i| values[i] == 2 && bounds[i] == (0, 0))
+            .count()
+    }
+
     /// The closure: steps taken until none is left, all at once in each round.
     pub fn closure(&self, values: &[u8]) -> Vec<u8> {
         let mut values = values.to_vec();

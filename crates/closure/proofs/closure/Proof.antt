@@ -1,5 +1,11 @@
--- `closure` tests, grades, works and clears. Assumes nothing.
-use Rattle.calls.proofs.Values.{tests-ready, ends-match, refused-call, done-call}
+-- `closure` tests, grades, works, counts and clears. Assumes nothing.
+use mathlib.Core.Path.{ap₂}
+use Rattle.field.specs.declared.Counted.the-variants.{Counts}
+use Rattle.calls.specs.Values.{counts}
+use Rattle.calls.proofs.Values.{tests-ready, ends-match}
+use Rattle.calls.proofs.ValuesBy.{refused-call, done-call}
+use Rattle.run.specs.Run.{closure}
+use Rattle.closure.specs.Call.{flat}
 use borrow.Author.Needs.{needs}
 use Rattle.closure.proofs.closure.Statement.{statement}
 use Rattle.closure.proofs.closure.Tie as tie
@@ -14,7 +20,7 @@ same-length : tie.Need-same-length
 same-length c = search needs
 
 returns : tie.Need-returns
-returns c = refused-call _ _ _ _ _ (c .before .before .before .ready .ensures) (c .before .checked .given .1)
+returns c = refused-call (counts flat) closure _ _ _ _ (c .before .before .before .ready .ensures) (c .before .checked .given .1)
 
 enum-told : tie.Need-enum-told
 enum-told c = search needs
@@ -44,7 +50,8 @@ returns-2 : tie.Need-returns-2
 returns-2 c =
     let at-work = c .before .before .before .before .before .before .before .before .before .before .before .before .before .before in
     let at-graded = at-work .before .before .before .before in
-    done-call _ _ _ _ _ (at-graded .before .before .before .ready .ensures) (at-graded .before .enum-told .given .1) (at-graded .graded .ensures) (at-work .work .ensures)
+    done-call (counts flat) closure _ _ _ _ (at-graded .before .before .before .ready .ensures) (at-graded .before .enum-told .given .1)
+    (ap₂ Counts (at-graded .graded .ensures) (at-work .work .ensures .1)) (at-work .work .ensures .0)
     (c .before .before .before .before .before .before .clear-floats .ensures) (at-work .work .kept .1 .1 .1 .1 .1 .0) (c .before .before .clear-words .ensures) (at-work .work .kept .1 .1 .1 .1 .1 .1 .0)
 
 pub closure-spec : {M : Type 1} → statement M

@@ -1,5 +1,5 @@
--- The position has room in the number. Assumes nothing.
-use Rattle.ombradiec.proofs.Positions.{values-few}
+-- The count has room in the number. Assumes nothing.
+use Rattle.ombradiec.proofs.Counts.{closure-few}
 use borrow.Author.Needs.{needs}
 use Rattle.ombradiec.proofs.ombradiec_closure.Statement.{statement}
 use Rattle.ombradiec.proofs.ombradiec_closure.Tie as tie
@@ -7,8 +7,8 @@ use Rattle.ombradiec.proofs.ombradiec_closure.Tie as tie
 closure-requires : tie.Need-closure-requires
 closure-requires c κs = search needs
 
-pack-answer-requires : tie.Need-pack-answer-requires
-pack-answer-requires c κs = values-few _ _ _ _ _ (c .before .before .before .before .before .before .closure .ensures)
+pack-counted-requires : tie.Need-pack-counted-requires
+pack-counted-requires c κs = closure-few _ _ _ _ (c .before .before .before .before .before .before .closure .ensures)
 
 same-length : tie.Need-same-length
 same-length c = search needs
@@ -27,7 +27,7 @@ ombradiec-closure-spec =
     tie.close
     (tie.spec
     closure-requires
-    pack-answer-requires
+    pack-counted-requires
     same-length
     same-length-2
     same-length-3

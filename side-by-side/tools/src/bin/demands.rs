@@ -69,6 +69,11 @@ fn field_call(case: &Case, line: &str) -> Checked {
     match case.call {
         Call::Closure => {
             same("closure", &values, &whole.closure(&case.start))?;
+            same(
+                "flat rows",
+                &part(line, "count"),
+                &Some(whole.flat(&values).to_string().as_str()),
+            )?;
             defined = 1;
         }
         Call::SingleProbe | Call::ColdProbe => {

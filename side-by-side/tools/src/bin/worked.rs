@@ -1,15 +1,15 @@
-//! Document 01's values worked by hand, its two that were run, and document 02's example under C-14.
+//! Document 01's values worked by hand, its two that were run, and document 02's examples under C-13 and C-14.
 //! Usage: `worked` writes them as a stream of cases, `worked ANSWERS` checks the answers to it.
 
 use std::io::{self, BufWriter, Write};
 use stream::line::part;
 use stream::{Call, Case};
-use tools::recorded::{ample, worked_case, WORKED};
+use tools::recorded::{ample, worked_case, FLAT, WORKED};
 
 /// A value's name, the call, and what stands in the answer: its first words, a part's name and content.
 type Expected = (&'static str, Call, &'static str, &'static str, &'static str);
 
-const EXPECTED: [Expected; 34] = [
+const EXPECTED: [Expected; 44] = [
     ("a", Call::Closure, "0 exact ", "values", ""),
     ("b", Call::Closure, "0 exact ", "values", "2"),
     ("b", Call::Preprocess, "0 exact ", "values", "0"),
@@ -80,6 +80,16 @@ const EXPECTED: [Expected; 34] = [
     ("h", Call::Preprocess, "0 exact ", "values", "01"),
     ("n", Call::Heavy, "0 exact ", "values", "01"),
     ("m", Call::Heavy, "0 exact ", "values", "10"),
+    ("b", Call::Closure, "0 exact ", "count", "1"),
+    ("e", Call::Closure, "0 exact ", "count", "0"),
+    ("stored zero", Call::Closure, "0 exact ", "values", "22"),
+    ("stored zero", Call::Closure, "0 exact ", "count", "2"),
+    ("neighbour", Call::Closure, "0 exact ", "values", "12"),
+    ("neighbour", Call::Closure, "0 exact ", "count", "1"),
+    ("given", Call::Closure, "0 exact ", "values", "0"),
+    ("given", Call::Closure, "0 exact ", "count", "0"),
+    ("cancelling", Call::Closure, "0 inexact ", "values", "20"),
+    ("cancelling", Call::Closure, "0 inexact ", "count", "1"),
 ];
 
 fn case_of(&(name, call, ..): &Expected) -> Case {
@@ -93,6 +103,7 @@ fn case_of(&(name, call, ..): &Expected) -> Case {
     let field = name.split(", x1").next().unwrap_or(name);
     let worked = WORKED
         .iter()
+        .chain(&FLAT)
         .find(|w| w.0 == field)
         .expect("a worked field");
     let mut case = worked_case(call, worked);

@@ -1,5 +1,5 @@
 -- The number is the answer's. Assumes nothing.
-use Rattle.lines.proofs.Numbers.{answered-few}
+use Rattle.lines.proofs.Numbers.{counted-few}
 use borrow.Author.Needs.{needs}
 use Rattle.cases.proofs.making.in_start.Statement.{statement}
 use Rattle.cases.proofs.making.in_start.Tie as tie
@@ -7,8 +7,8 @@ use Rattle.cases.proofs.making.in_start.Tie as tie
 closure-requires : tie.Need-closure-requires
 closure-requires c κs = search needs
 
-answered-requires : tie.Need-answered-requires
-answered-requires c κs = search needs
+counted-requires : tie.Need-counted-requires
+counted-requires c κs = search needs
 
 same-length : tie.Need-same-length
 same-length c = search needs
@@ -20,7 +20,7 @@ same-length-3 : tie.Need-same-length-3
 same-length-3 c = search needs
 
 returns : tie.Need-returns
-returns c = answered-few (c .before .before .before .before .before .before .before .closure .result) (c .answered .ensures)
+returns c = counted-few (c .before .before .before .before .before .before .before .closure .result) (c .counted .ensures)
 
 in-components-requires : tie.Need-in-components-requires
 in-components-requires c κs = search needs
@@ -42,7 +42,7 @@ in-start-spec =
     tie.close
     (tie.spec
     closure-requires
-    answered-requires
+    counted-requires
     same-length
     same-length-2
     same-length-3
