@@ -34,7 +34,7 @@ fn the_largest_field_is_taken() {
     let entries: Vec<_> = (1..=8).flat_map(|d| (d..4_096).map(move |j| (j - d, j, -1.0))).collect();
     let mut start = Values::free(4_096);
     start.set(0, Some(true));
-    let done = closure(&Field::new(&[0.25; 4_096], &entries), &mut start, &mut Scratch::new()).unwrap();
+    let done = closure(&Field::new(&[0.1; 4_096], &entries), &mut start, &mut Scratch::new()).unwrap();
     assert_eq!((done.grade, start.get(0)), (Grade::Inexact, Some(true)));
 }
 

@@ -16,7 +16,7 @@ use Rattle.field.specs.declared.Counted.the-variants.{Counts}
 use Rattle.field.specs.declared.Grade.{Grade}
 use Rattle.field.specs.Field.{Field, variables, entries, linearOf, Shaped}
 use Rattle.field.specs.Tests.{Finite}
-use Rattle.field.specs.Grade.{halves, ExactIn}
+use Rattle.field.specs.Grade.{ExactIn}
 use Rattle.field.specs.Reading.{wholeOf}
 use Rattle.places.specs.Places.{places}
 use Rattle.parts.specs.Walk.{opened, components}
@@ -53,10 +53,10 @@ pub parts-at-most : {F : Field} → Shaped F → (i t : ℕ) {r : List Float}
     → balanceOver F (plus (mul binary64 four64 (linearOf F i)) (parts [])) (take t (places (F .rows) (F .cols) i)) ≡ parts r → length r ≤ entries F + 1
 parts-at-most = number.balance-short
 
--- On an exact field the plain f64 sum of 4c and any first t of its entries is that number of halves, exactly.
-pub plain-sums-exact : {F : Field} → Shaped F → ExactIn halves F → (i : ℕ) → i < variables F → (t : ℕ)
-    → Worth halves (plainOver F (mul binary64 four64 (linearOf F i)) (take t (places (F .rows) (F .cols) i)))
-    (wholeOf halves F .linear i ⊙ 4 ⊕ gather (λ k. wholeOf halves F .weight k ⊙ 2) (take t (places (F .rows) (F .cols) i)))
+-- On an exact field the plain f64 sum of 4c and any first t of its entries is that number of half units, exactly.
+pub plain-sums-exact : {u : ℕ} {F : Field} → Shaped F → ExactIn u F → (i : ℕ) → i < variables F → (t : ℕ)
+    → Worth u (plainOver F (mul binary64 four64 (linearOf F i)) (take t (places (F .rows) (F .cols) i)))
+    (wholeOf u F .linear i ⊙ 4 ⊕ gather (λ k. wholeOf u F .weight k ⊙ 2) (take t (places (F .rows) (F .cols) i)))
 plain-sums-exact S x i = balance.plain-sums S x i
 
 -- ---- the call

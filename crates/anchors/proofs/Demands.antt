@@ -27,10 +27,9 @@ use Rattle.field.specs.declared.Refusal.the-variants.{Room}
 use Rattle.field.specs.Field.{Field, variables, Shaped}
 use Rattle.field.specs.Table.{FirstToFail}
 use Rattle.field.specs.Tests.{Finite}
-use Rattle.field.specs.Grade.{halves, gradeOf, ExactIn}
+use Rattle.field.specs.Grade.{gradeOf, ExactIn, Serves}
 use Rattle.field.specs.Reading.{wholeOf}
 use Rattle.field.proofs.Table.{group-is, last-is}
-use Rattle.field.proofs.Exact.{exact-means}
 use Rattle.calls.specs.Call.{table, no-stage}
 use Rattle.calls.proofs.Answers.{same-refuses, counts-apart}
 use Rattle.calls.proofs.Call as any
@@ -116,13 +115,13 @@ one-list S fine = rule-one S fine
 
 -- DEMAND 3. On an exact field each anchor alone is 0 in some best completion and 1 in another.
 pub anchor-stands : (F : Field) (s : List ℕ) (least : ℕ) (list : List ℕ) (f : List Float) (u : List ℕ) (k : ℕ) → anchorsCall F s least list f u .answer ≡ Counts Exact k
-    → (j : ℕ) → j < k → (v : ℕ) → v < 2 → Safe (wholeOf halves F) s (set s (getD (anchorsCall F s least list f u .lent .list) j 0) v)
-anchor-stands F s least list f u k e j h v small =
+    → {unit : ℕ} → Serves unit F → (j : ℕ) → j < k → (v : ℕ) → v < 2 → Safe (wholeOf unit F) s (set s (getD (anchorsCall F s least list f u .lent .list) j 0) v)
+anchor-stands F s least list f u k e serving j h v small =
     let d = fit F s least list f u Exact k e in
     let t = told F s least list f u Exact k e in
     let at : getD (take k (anchorsCall F s least list f u .lent .list)) j 0 ≡ getD (anchorsCall F s least list f u .lent .list) j 0 = getD-take k (anchorsCall F s least list f u .lent .list) j 0 h in
     let long : length (take k (anchorsCall F s least list f u .lent .list)) ≡ k = ap length (items F s least list f u Exact k e) ∙ t .1 in
-    rw at at (either-stands (d .shaped) (exact-means F (d .shaped .rows-long) .0 (t .0)) (d .start)
+    rw at at (either-stands (d .shaped) (serving .exact) (d .start)
     (anchors-by-rule F s least list f u Exact k e) j (omega (arith, long)) v small)
 
 -- What the rule calls symmetric is so on every field of f64 weights, exact or not: the sum of what is added at the variable, without rounding, is 0; and where no sum overflows,
@@ -135,9 +134,9 @@ module _ {F : Field} (S : Shaped F) (h : HeldWeights F) (i : ℕ) where
   symmetric-exactly = balance-exactly S h i
 
 -- On an exact field it is document 01's balance, in whole numbers.
-pub symmetric-exact-field : {F : Field} → Shaped F → ExactIn halves F → (i : ℕ) → i < variables F → (balanced F i ≡ true) ↔ Zero (balance (wholeOf halves F) i)
+pub symmetric-exact-field : {u : ℕ} {F : Field} → Shaped F → ExactIn u F → (i : ℕ) → i < variables F → (balanced F i ≡ true) ↔ Zero (balance (wholeOf u F) i)
 symmetric-exact-field S x i = balanced-is S x i
 
 -- There a plain sum, 4c and then each q, is exact, and tells the same.
-pub plain-exact-field : {F : Field} → Shaped F → ExactIn halves F → (i : ℕ) → i < variables F → eq (plainSum F i) zero64 ≡ balanced F i
+pub plain-exact-field : {u : ℕ} {F : Field} → Shaped F → ExactIn u F → (i : ℕ) → i < variables F → eq (plainSum F i) zero64 ≡ balanced F i
 plain-exact-field S x i = plain-sum-tells S x i

@@ -16,7 +16,7 @@ use Rattle.weights.proofs.Worth.{add-worth, as-worth, zero-worth, magnitude-wor
 use Rattle.expansion.proofs.Exact.{zero-test}
 use Rattle.meaning.specs.Field as meaning
 use Rattle.field.specs.Field.{Field, entries, rowEnd, columnEnd, quadOf, Shaped}
-use Rattle.field.specs.Grade.{halves, ExactIn}
+use Rattle.field.specs.Grade.{Serves}
 use Rattle.field.specs.Reading.{wholeOf}
 use Rattle.field.proofs.Reading.{quad-worth, quad-under}
 use Rattle.places.specs.Places.{places}
@@ -27,48 +27,48 @@ use Rattle.anchors.specs.EdgeWeight.{edge, edge-weight, Outweighs, Leads
 use Rattle.anchors.specs.Number.{gather}
 use Rattle.anchors.proofs.Balance.{touches, gather-places}
 
-module _ {F : Field} (S : Shaped F) (x : ExactIn halves F) where
+module _ {u : ℕ} {F : Field} (S : Shaped F) (x : Serves u F) where
   abbrev W : meaning.Field
-  W = wholeOf halves F
+  W = wholeOf u F
 
   -- |q| of entry k
   abbrev sizeAt : ℕ → Whole
   sizeAt k = size (W .weight k)
 
   off-diagonal : (k : ℕ) → k < entries F → eqb (rowEnd F k) (columnEnd F k) ≡ false
-  off-diagonal k h = ne-eqb (rowEnd F k) (columnEnd F k) (x .standard k h)
+  off-diagonal k h = ne-eqb (rowEnd F k) (columnEnd F k) (x .exact .standard k h)
 
   -- after n entries
   abbrev Sized : ℕ → Whole → Type 0
   Sized n a = Under (2 ^ 31 * n) a
 
-  weight-at : {y : Float} {a : Whole} (n k : ℕ) → n < 32768 → k < entries F → Sized n a → Worth (suc halves) y a → Worth (suc halves) (weightAt F y k) (a ⊕ sizeAt k)
+  weight-at : {y : Float} {a : Whole} (n k : ℕ) → n < 32768 → k < entries F → Sized n a → Worth (suc u) y a → Worth (suc u) (weightAt F y k) (a ⊕ sizeAt k)
   unfolding weightAt
-  weight-at {y} {a} n k hn h l w = rw (off-diagonal k h) (go (ne (quadOf F k) zero64) (λ e. zero-test (quad-worth x k h) .0 e))
+  weight-at {y} {a} n k hn h l w = rw (off-diagonal k h) (go (ne (quadOf F k) zero64) (λ e. zero-test (quad-worth (x .exact) k h) .0 e))
     where
-      go : (b : Bool) → (b ≡ false → W .weight k .plus ≡ W .weight k .less) → Worth (suc halves) (cond b (add binary64 y (magnitude (quadOf F k))) y) (a ⊕ sizeAt k)
-      go true z = add-worth w (magnitude-worth (quad-worth x k h)) (omega (arith, quad-under x k h))
+      go : (b : Bool) → (b ≡ false → W .weight k .plus ≡ W .weight k .less) → Worth (suc u) (cond b (add binary64 y (magnitude (quadOf F k))) y) (a ⊕ sizeAt k)
+      go true z = add-worth w (magnitude-worth (quad-worth (x .exact) k h)) (omega (arith, quad-under (x .exact) k h))
       go false z = as-worth w (omega (arith, z refl))
 
-  weight-over : {y : Float} {a : Whole} (ks : List ℕ) (n : ℕ) → n + length ks ≤ 32768 → ((h : ℕ) → h < length ks → getD ks h 0 < entries F) → Sized n a → Worth (suc halves) y a
-      → Worth (suc halves) (weightOver F y ks) (a ⊕ gather sizeAt ks)
+  weight-over : {y : Float} {a : Whole} (ks : List ℕ) (n : ℕ) → n + length ks ≤ 32768 → ((h : ℕ) → h < length ks → getD ks h 0 < entries F) → Sized n a → Worth (suc u) y a
+      → Worth (suc u) (weightOver F y ks) (a ⊕ gather sizeAt ks)
   unfolding weightOver gather
   weight-over [] n hn all l w = as-worth w (omega arith)
   weight-over (k ∷ ks) n hn all l w =
       let here : k < entries F = all 0 (omega arith) in
-      as-worth (weight-over ks (suc n) (omega arith) (λ h b. all (suc h) (omega arith)) (omega (arith, quad-under x k here)) (weight-at n k (omega arith) here l w)) (omega arith)
+      as-worth (weight-over ks (suc n) (omega arith) (λ h b. all (suc h) (omega arith)) (omega (arith, quad-under (x .exact) k here)) (weight-at n k (omega arith) here l w)) (omega arith)
 
   -- an entry off the diagonal counts where it touches i
   edge-is : (i k : ℕ) → k < entries F → only (touches F i k) (sizeAt k) ≈ edge W i k
   edge-is i k h = rw (off-diagonal k h) refl
 
-  pub weight-worth : (i : ℕ) → Worth (suc halves) (weightOf F i) (edge-weight (wholeOf halves F) i)
+  pub weight-worth : (i : ℕ) → Worth (suc u) (weightOf F i) (edge-weight (wholeOf u F) i)
   unfolding weightOf
   weight-worth i =
       let few : 0 + length (places (F .rows) (F .cols) i) ≤ 32768 = omega (arith, places-le (F .rows) (F .cols) i, S .rows-long, S .few-entries) in
       let within : (h : ℕ) → h < length (places (F .rows) (F .cols) i) → getD (places (F .rows) (F .cols) i) h 0 < entries F =
       λ h l. omega (arith, places-touch (F .rows) (F .cols) i h l .0, S .rows-long) in
-      as-worth (weight-over {a = nothing} (places (F .rows) (F .cols) i) 0 few within (omega arith) (zero-worth (omega arith)))
+      as-worth (weight-over {a = nothing} (places (F .rows) (F .cols) i) 0 few within (omega arith) (zero-worth (omega (arith, x .to))))
       (omega (arith, gather-places S sizeAt i, sum-same (entries F) (λ k. only (touches F i k) (sizeAt k)) (edge W i) (edge-is i)))
 
   -- ---- the leader
@@ -83,7 +83,7 @@ module _ {F : Field} (S : Shaped F) (x : ExactIn halves F) where
   level a i = eq-worth (weight-worth i) (weight-worth a)
 
   -- a variable stands before another exactly if it does in whole numbers
-  pub before-exact : (a i : ℕ) → Before F a i ↔ Outweighs (wholeOf halves F) a i
+  pub before-exact : (a i : ℕ) → Before F a i ↔ Outweighs (wholeOf u F) a i
   before-exact a i = (to, from)
     where
       to : Before F a i → Outweighs W a i
@@ -95,7 +95,7 @@ module _ {F : Field} (S : Shaped F) (x : ExactIn halves F) where
       from (inr h) = inr (level a i ∙ eq-eqb (weight i .plus + weight a .less) (weight a .plus + weight i .less) (omega (arith, h .0)), h .1)
 
   -- the leader of a part is its member of greatest weight in whole numbers, then of lowest index
-  pub leads-exact : (K : List ℕ) (a : ℕ) → Leads F K a ↔ LeadsByWeight (wholeOf halves F) K a
+  pub leads-exact : (K : List ℕ) (a : ℕ) → Leads F K a ↔ LeadsByWeight (wholeOf u F) K a
   leads-exact K a = (
     (λ l. record { member = l .member; first = λ i h. before-exact a i .0 (l .first i h) }),
     λ l. record { member = l .member; first = λ i h. before-exact a i .1 (l .first i h) },

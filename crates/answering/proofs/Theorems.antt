@@ -90,7 +90,8 @@ module _ (s : List ℕ) (bytes : (i : ℕ) → getD s i 0 < 256) (u : Told) (w :
       let sound = standard-passes (fieldTold u) (u .start) .0 (says .0) in
       record {
         values = closure (fieldTold u) (u .start);
-        closes = closure-is-closure (sound .shaped) (exact-means (fieldTold u) (sound .shaped .rows-long) .0 (says .1)) (sound .start);
+        unit-serves = exact-means (fieldTold u) (sound .shaped .rows-long) .0 (says .1);
+        closes = λ unit v. closure-is-closure (sound .shaped) (v .exact) (sound .start);
         shown = text ∙ sound-text u sound ∙ ap (λ (g : Grade). answerText g (u .start) (closure (fieldTold u) (u .start))) (says .1);
       }
 

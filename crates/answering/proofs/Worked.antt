@@ -1,12 +1,11 @@
 -- The answer to case g, byte by byte. Assumes nothing.
 use mathlib.Core.Path.{_≡_, refl}
 use lib.Ieee.{add, sub, mul, le, lt, eq, ofInt, ofBits}
-use Rattle.weights.specs.Counts.{wholeIn}
-use Rattle.weights.specs.Worth.{magnitude}
+use Rattle.weights.specs.Counts.{wholeIn, plus, minus}
 use Rattle.scratch.specs.All.{allBelow}
 use Rattle.field.specs.Table.{tested}
 use Rattle.field.specs.Tests.{endsBelow, allRise, allFinite, bytesSmall, fewVariables, listsMatch, inOrder, offDiagonal, weightsFinite, startFits, shapeTests, standardTests}
-use Rattle.field.specs.Grade.{weighs, allWeigh, isExact, gradeOf}
+use Rattle.field.specs.Grade.{weighs, allWeigh, serves, firstOf, unitOf, isExact, gradeOf}
 use Rattle.rows.specs.Row.{addTerm}
 use Rattle.rows.specs.Model.{rowOf, rowTo, atEntry, atEnd}
 use Rattle.rows.specs.Stored.{upTo}
@@ -22,7 +21,7 @@ use Rattle.answering.specs.CaseG.{input-g, output-g}
 pub case-g : answerBytes input-g ≡ output-g
 unfolding answerBytes parsed readFrom taken readAt markedAt weightAt entryAt givenAt floatAt numberAt valueOf fieldText checkedText tested
     standardTests shapeTests fewVariables listsMatch inOrder offDiagonal weightsFinite startFits endsBelow allRise allFinite bytesSmall allBelow
-    gradeOf isExact allWeigh weighs wholeIn magnitude closure closureRun propagate work serve serveAll serveAt moveRow scanTo scanAt judged settle
+    gradeOf isExact unitOf firstOf serves allWeigh weighs wholeIn plus minus closure closureRun propagate work serve serveAll serveAt moveRow scanTo scanAt judged settle
     force upTo places placesFrom keep otherEnd rowOf rowTo atEntry atEnd addTerm add sub mul le lt eq ofInt ofBits decimal gradeLine forcedLine endLine
     forced forcedLines answerText
 case-g = refl

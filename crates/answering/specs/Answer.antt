@@ -9,7 +9,7 @@ use Rattle.field.specs.declared.Checked.the-variants.{Passed, Failed}
 use Rattle.field.specs.declared.Grade.the-variants.{Exact}
 use Rattle.field.specs.Answers.{numberOf}
 use Rattle.field.specs.Field.{Field, fieldOf, variables, entries}
-use Rattle.field.specs.Grade.{halves, gradeOf}
+use Rattle.field.specs.Grade.{gradeOf, unitOf, Serves}
 use Rattle.field.specs.Reading.{wholeOf}
 use Rattle.field.specs.Table.{tested}
 use Rattle.field.specs.Tests.{standardTests}
@@ -50,10 +50,12 @@ pub record Answered (s text : List ℕ) : Type 0 where
   pub told : (u : Told) → WellFormed s u → text ≡ toldText u
   pub other : ((u : Told) → WellFormed s u → ⊥) → text ≡ refusedText 11
 
--- the text is `grade exact`, an x line for each variable that is free in the start values and has a value in their closure over whole numbers, and `end` with their count
+-- the text is `grade exact`, an x line for each variable that is free in the start values and has a value in their closure over whole numbers, and `end` with their count;
+-- the smallest unit serves, and the closure is the same in every unit that does
 pub record ShowsClosure (F : Field) (start text : List ℕ) : Type 0 where
   pub values : List ℕ
-  pub closes : Closure (Forces (wholeOf halves F)) start values
+  pub unit-serves : Serves (unitOf F) F
+  pub closes : (unit : ℕ) → Serves unit F → Closure (Forces (wholeOf unit F)) start values
   pub shown : text ≡ answerText Exact start values
 
 -- the bytes of 256 weights, 1,024 entries, 256 given values and the end

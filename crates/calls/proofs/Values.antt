@@ -18,9 +18,9 @@ use Rattle.field.specs.declared.Refusal.{Refusal}
 use Rattle.field.specs.declared.Refusal.the-variants.{Room}
 use Rattle.field.specs.Field.{Field, variables, Shaped, StartFor}
 use Rattle.field.specs.Table.{tested, FirstToFail}
-use Rattle.field.specs.Tests.{shapeTests, standardTests, readyTests, Ready}
-use Rattle.field.specs.Grade.{halves, gradeOf, ExactIn}
-use Rattle.field.proofs.Means.{ready-passes}
+use Rattle.field.specs.Tests.{shapeTests, standardTests, readyTests, Loose, Ready}
+use Rattle.field.specs.Grade.{unitOf, gradeOf, Serves}
+use Rattle.field.proofs.Means.{ready-passes, sound-loose}
 use Rattle.field.proofs.Exact.{exact-means}
 use Rattle.field.proofs.Faults.{fault-other}
 use Rattle.calls.specs.Call.{without}
@@ -62,7 +62,7 @@ module _ (values : Values) (F : Field) (s : List ℕ) (f : List Float) (u : List
     values-are = by.values-are grades-tell values F s f u e done-apart
 
   -- what an answer of done with the grade exact says of the field
-  pub exact-field : valuesCall values F s f u .answer ≡ Done Exact → Shaped F × (ExactIn halves F × StartFor (variables F) s)
+  pub exact-field : valuesCall values F s f u .answer ≡ Done Exact → Shaped F × (Serves (unitOf F) F × StartFor (variables F) s)
   exact-field e =
       let r = ready Exact e .sound in
       (r .shaped, (exact-means F (r .shaped .rows-long) .0 (graded Exact e), r .start))
@@ -78,8 +78,8 @@ module _ {F : Field} {s : List ℕ} {floats words : ℕ} where
   pub tests-ready : {k : Checked} → k ≡ tested (readyTests F s floats words) → k ≡ Passed → Ready F s floats words
   tests-ready e p = ready-passes F s floats words .0 (sym e ∙ p)
 
-  pub ends-match : Ready F s floats words → length (F .rows) ≡ length (F .cols)
-  ends-match R = R .sound .shaped .rows-long ∙ sym (R .sound .shaped .cols-long)
+  pub ready-loose : Ready F s floats words → Loose F
+  ready-loose R = sound-loose (R .sound)
 
 module _ (values : Values) (F : Field) (s : List ℕ) (f : List Float) (u : List ℕ) {k : Checked} (e : k ≡ tested (readyTests F s (length f) (length u))) where
   pub refused-call : {r : Refusal} → k ≡ Failed r → left (Refused r) s f u ≡ valuesCall values F s f u

@@ -18,7 +18,7 @@ use Rattle.field.specs.declared.Refusal.{Refusal}
 use Rattle.field.specs.Field.{Field, variables, Shaped, StartFor}
 use Rattle.field.specs.Table.{FirstToFail}
 use Rattle.field.specs.Tests.{readyTests, Ready}
-use Rattle.field.specs.Grade.{halves, gradeOf, ExactIn}
+use Rattle.field.specs.Grade.{gradeOf, unitOf, Serves}
 use Rattle.field.specs.Reading.{wholeOf}
 use Rattle.field.proofs.Exact.{exact-means}
 use Rattle.calls.proofs.Answers.{counts-apart}
@@ -67,7 +67,7 @@ module _ (F : Field) (s : List ℕ) (f : List Float) (u : List ℕ) where
     count-is = let a = answered in let z : k ≡ flat F s = cc in z
 
   -- what an answer with the grade exact says of the field
-  exact-field : (k : ℕ) → closureCall F s f u .answer ≡ Counts Exact k → Shaped F × (ExactIn halves F × StartFor (variables F) s)
+  exact-field : (k : ℕ) → closureCall F s f u .answer ≡ Counts Exact k → Shaped F × (Serves (unitOf F) F × StartFor (variables F) s)
   exact-field k e =
       let r = values.ready (counts-tell flat) closure F s f u e counts-apart .sound in
       let a : Counts (gradeOf F) (flat F s) ≡ Counts Exact k = answered Exact k e in
@@ -75,23 +75,27 @@ module _ (F : Field) (s : List ℕ) (f : List Float) (u : List ℕ) where
       (r .shaped, (exact-means F (r .shaped .rows-long) .0 g, r .start))
 
 module _ (F : Field) (s : List ℕ) (f : List Float) (u : List ℕ) (k : ℕ) (e : closureCall F s f u .answer ≡ Counts Exact k) where
+  -- The grade exact says that a unit serves, and the smallest is named. What follows holds in every unit that serves.
+  pub unit-serves : Serves (unitOf F) F
+  unit-serves = exact-field F s f u k e .1 .0
+
   -- DEMAND 2. On an exact field the values are the gradient closure over whole numbers, no more and no fewer.
-  pub values-close : Closure (Forces (wholeOf halves F)) s (closureCall F s f u .lent .values)
-  values-close = let x = exact-field F s f u k e in rw (values-are F s f u Exact k e) (run.closure-is-closure (x .0) (x .1 .0) (x .1 .1))
+  pub values-close : {unit : ℕ} → Serves unit F → Closure (Forces (wholeOf unit F)) s (closureCall F s f u .lent .values)
+  values-close v = let x = exact-field F s f u k e in rw (values-are F s f u Exact k e) (run.closure-is-closure (x .0) (v .exact) (x .1 .1))
 
   -- The count is the number of free variables with low = high = 0, at the values that the call leaves.
-  pub flat-exact : k ≡ flats (wholeOf halves F) (closureCall F s f u .lent .values)
+  pub flat-exact : {unit : ℕ} → Serves unit F → k ≡ flats (wholeOf unit F) (closureCall F s f u .lent .values)
   unfolding closure
-  flat-exact =
+  flat-exact v =
       let x = exact-field F s f u k e in
-      rw (values-are F s f u Exact k e) (count-is F s f u Exact k e ∙ flat-rows-exact (run.closure-run-closes (x .0) (x .1 .0) (x .1 .1)))
+      rw (values-are F s f u Exact k e) (count-is F s f u Exact k e ∙ flat-rows-exact (run.closure-run-closes (x .0) (v .exact) (x .1 .1)))
 
   -- DEMAND 3. Every best completion of the start values obeys every one of them.
-  pub best-obeys : {x : List ℕ} → Best (wholeOf halves F) s x → Extends (closureCall F s f u .lent .values) x
-  best-obeys b = let x = exact-field F s f u k e in rw (values-are F s f u Exact k e) (run.closure-obeyed (x .0) (x .1 .0) (x .1 .1) b)
+  pub best-obeys : {unit : ℕ} → Serves unit F → {x : List ℕ} → Best (wholeOf unit F) s x → Extends (closureCall F s f u .lent .values) x
+  best-obeys v b = let x = exact-field F s f u k e in rw (values-are F s f u Exact k e) (run.closure-obeyed (x .0) (v .exact) (x .1 .1) b)
 
   -- Further start values that contradict none of them keep each.
   pub further-keep : (s′ : List ℕ) (f′ : List Float) (u′ : List ℕ) (k′ : ℕ) → closureCall F s′ f′ u′ .answer ≡ Counts Exact k′
       → Extends s s′ → Agrees s′ (closureCall F s f u .lent .values) → Extends (closureCall F s f u .lent .values) (closureCall F s′ f′ u′ .lent .values)
   further-keep s′ f′ u′ k′ e′ = let x = exact-field F s f u k e in let y = exact-field F s′ f′ u′ k′ e′ in
-      rw (values-are F s f u Exact k e, values-are F s′ f′ u′ Exact k′ e′) (run.closure-keeps (x .0) (x .1 .0) (x .1 .1) (y .1 .1))
+      rw (values-are F s f u Exact k e, values-are F s′ f′ u′ Exact k′ e′) (run.closure-keeps (x .0) (x .1 .0 .exact) (x .1 .1) (y .1 .1))

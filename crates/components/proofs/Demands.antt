@@ -19,7 +19,7 @@ use Rattle.field.specs.declared.Refusal.{Refusal}
 use Rattle.field.specs.Field.{Field}
 use Rattle.field.specs.Table.{FirstToFail}
 use Rattle.field.specs.Tests.{readyTests, Ready}
-use Rattle.field.specs.Grade.{halves, gradeOf}
+use Rattle.field.specs.Grade.{gradeOf, Serves}
 use Rattle.field.specs.Reading.{wholeOf}
 use Rattle.calls.specs.Values.{Left, left}
 use Rattle.calls.proofs.Values as values
@@ -75,15 +75,16 @@ module _ (F : Field) (s : List ℕ) (f : List Float) (u : List ℕ) where
     lowest-first p h few = let S = values.ready _ F s f u g e .sound in rw values-are (small.lowest-first (S .shaped) s (S .start .long) p h few)
 
 -- DEMAND 3, for values that hold in one best completion. On an exact field some best completion of the start values agrees with all of them.
-pub some-best-agrees : (F : Field) (s : List ℕ) (f : List Float) (u : List ℕ) → componentsCall F s f u .answer ≡ Done Exact → Safe (wholeOf halves F) s (componentsCall F s f u .lent .values)
-some-best-agrees F s f u e =
+pub some-best-agrees : (F : Field) (s : List ℕ) (f : List Float) (u : List ℕ) → componentsCall F s f u .answer ≡ Done Exact
+    → {unit : ℕ} → Serves unit F → Safe (wholeOf unit F) s (componentsCall F s f u .lent .values)
+some-best-agrees F s f u e v =
     let x = values.exact-field _ F s f u e in
-    rw (values-are F s f u Exact e) (parts-safe (x .0) (x .1 .1) (omega arith) (x .1 .0))
+    rw (values-are F s f u Exact e) (parts-safe (x .0) (x .1 .1) (omega (arith, v .to)) (v .exact))
 
 -- Of the masks of a component of at most 10 the values are those of the lowest that is best, whatever completion the values of a mask are put into.
-pub lowest-of-best : (F : Field) (s : List ℕ) (f : List Float) (u : List ℕ) → componentsCall F s f u .answer ≡ Done Exact
+pub lowest-of-best : (F : Field) (s : List ℕ) (f : List Float) (u : List ℕ) → componentsCall F s f u .answer ≡ Done Exact → {unit : ℕ} → Serves unit F
     → (p : ℕ) → p < length (components F true s) → (let K = getD (components F true s) p [] in length K ≤ 10
-    → (mask : ℕ) × (((x : List ℕ) → Completion s x → Won (λ m. twice-f (wholeOf halves F) (putTo x K m (length K))) (2 ^ length K) mask) × HasBits (componentsCall F s f u .lent .values) K mask))
-lowest-of-best F s f u e p h few =
+    → (mask : ℕ) × (((x : List ℕ) → Completion s x → Won (λ m. twice-f (wholeOf unit F) (putTo x K m (length K))) (2 ^ length K) mask) × HasBits (componentsCall F s f u .lent .values) K mask))
+lowest-of-best F s f u e v p h few =
     let x = values.exact-field _ F s f u e in
-    rw (values-are F s f u Exact e) (small.lowest-of-best (x .0) s (x .1 .1 .long) p h few (omega arith) (x .1 .0) (x .1 .1))
+    rw (values-are F s f u Exact e) (small.lowest-of-best (x .0) s (x .1 .1 .long) p h few (omega (arith, v .to)) (v .exact) (x .1 .1))

@@ -3,4 +3,7 @@ pub mod Table
 pub mod Means
 pub mod Faults
 pub mod Exact
+pub mod Units
+pub mod Measure
+pub mod Turned
 pub mod Reading

@@ -52,7 +52,7 @@ pub diagonal-means : (rows cols : List ℕ) → (offDiagonal rows cols ≡ true)
 unfolding offDiagonal
 diagonal-means rows cols = every-is _ (λ k. getD rows k 0 ≢ getD cols k 0) _ (λ k. ne-is _ _)
 
-all-finite-means : (w : List Float) → (allFinite w ≡ true) ↔ ((k : ℕ) → k < length w → T (finite (getD w k nan)))
+pub all-finite-means : (w : List Float) → (allFinite w ≡ true) ↔ ((k : ℕ) → k < length w → T (finite (getD w k nan)))
 unfolding allFinite
 all-finite-means w = every-is _ (λ k. T (finite (getD w k nan))) _ (λ k. true-is _)
 
@@ -152,6 +152,10 @@ standard-passes F s =
           }),
       λ h. t .1 (h .shaped, ((λ k l. h .standard k (omega (arith, h .shaped .rows-long))), ((h .finite-weights .linear, h .finite-weights .quad), h .start))),
     )
+
+-- what passing with start values leaves, without them
+pub sound-loose : {F : Field} {s : List ℕ} → Sound F s → Loose F
+sound-loose S = record { shaped = S .shaped; finite-weights = S .finite-weights }
 
 pub ready-passes : (F : Field) (s : List ℕ) (floats words : ℕ) → (tested (readyTests F s floats words) ≡ Passed) ↔ Ready F s floats words
 unfolding readyTests

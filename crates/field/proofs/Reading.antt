@@ -8,12 +8,12 @@ use Rattle.field.specs.Grade.{ExactIn}
 use Rattle.field.specs.Reading.{wholeOf}
 use Rattle.field.proofs.Exact.{weighs-read, weighs-under}
 
--- each weight is worth what is read of it, and both sides of that are at most 2^32 or 2^31
+-- each weight is worth what is read of it, and both sides of that are at most 2^31
 module _ {u : ℕ} {F : Field} (x : ExactIn u F) where
   pub linear-worth : (i : ℕ) → i < variables F → Worth u (linearOf F i) (wholeOf u F .linear i)
   linear-worth i h = weighs-read (x .linear i h)
 
-  pub linear-under : (i : ℕ) → i < variables F → Under (2 ^ 32) (wholeOf u F .linear i)
+  pub linear-under : (i : ℕ) → i < variables F → Under (2 ^ 31) (wholeOf u F .linear i)
   linear-under i h = weighs-under (x .linear i h)
 
   pub quad-worth : (k : ℕ) → k < entries F → Worth (suc u) (quadOf F k) (wholeOf u F .weight k)

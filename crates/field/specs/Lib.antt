@@ -4,4 +4,6 @@ pub mod Table
 pub mod Tests
 pub mod Faults
 pub mod Grade
+pub mod Measure
+pub mod Turned
 pub mod Reading

@@ -4,7 +4,7 @@ use Rattle.meaning.specs.Field as meaning
 use Rattle.weights.specs.Worth.{read}
 use Rattle.field.specs.Field.{Field, variables, entries, linearOf, rowEnd, columnEnd, quadOf}
 
--- at u = 1073, 2c and q
+-- in units with the half u, 2c and q
 abbrev pub wholeOf : ℕ → Field → meaning.Field
 wholeOf u F = record {
   n = variables F;

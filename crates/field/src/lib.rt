@@ -7,7 +7,7 @@ mod weighs;
 ghost use mathlib.Core.Path.{_≡_};
 ghost use Rattle.field.specs.Answers.{numberOf, positionOf, answerNumber};
 
-// Whether all sums of a field's weights are exact in f64 when counted in halves.
+// Whether all sums of a field's weights are exact in f64, counted in some unit of 2^-20 to 2^20.
 pub enum Grade {
     Exact,
     Inexact,

@@ -1,9 +1,16 @@
 // Tests at every weight of a list.
 ghost use mathlib.Core.Path.{_≡_};
-ghost use Prim.Native.Nat.{_<_, _≤_};
+ghost use mathlib.Core.Bool.{true};
+ghost use lib.ListN.{length};
 ghost use Rattle.scratch.specs.Lent.{before};
 ghost use Rattle.field.specs.Tests.{allFinite};
-ghost use Rattle.field.specs.Grade.{weighs as weighsIn, allWeigh};
+ghost use Rattle.field.specs.Measure.{Lesser, Greater, Measured};
+
+// What the grade reads of a list of weights: all are whole in the units below `beyond`, and the largest has the bits `size`.
+pub struct Measure {
+    pub beyond: u64,
+    pub size: u64,
+}
 
 pub fn all_finite(w: &[f64]) -> bool
     ensures { λ r. ⌜ r ≡ allFinite (before w) ⌝ }
@@ -15,27 +22,40 @@ pub fn all_finite(w: &[f64]) -> bool
     fine
 }
 
-// Whether x is a whole number of the unit, and at most 2^31 either way.
-pub fn weighs(x: f64, unit: u64) -> bool
-    requires { ⌜ (0 < unit) × (unit ≤ 4096) ⌝ }
-    ensures { λ r. ⌜ r ≡ weighsIn unit x ⌝ }
+pub fn lesser(a: u64, b: u64) -> u64
+    ensures { λ r. ⌜ Lesser a b r ⌝ }
 {
-    if weights::grain(x) < unit {
-        return false;
-    }
-    weights::magnitude(x) <= 2147483648.0
+    if b < a { b } else { a }
 }
 
-pub fn all_weigh(w: &[f64], unit: u64) -> bool
-    requires { ⌜ (0 < unit) × (unit ≤ 4096) ⌝ }
-    ensures { λ r. ⌜ r ≡ allWeigh unit (before w) ⌝ }
+pub fn greater(a: u64, b: u64) -> u64
+    ensures { λ r. ⌜ Greater a b r ⌝ }
 {
+    if a < b { b } else { a }
+}
+
+// One pass, with no branch on a weight's sign or on a zero. It stops at a weight that is whole in no unit of the 41.
+pub fn measured(w: &[f64]) -> Measure
+    requires { ⌜ allFinite (now w) ≡ true ⌝ }
+    ensures { λ r. ⌜ Measured (before w) (length (before w)) (r .beyond) (r .size) ⌝ }
+{
+    let mut beyond: u64 = 4096;
+    let mut size: u64 = 0;
     let mut k: usize = 0;
     while k < w.len() {
-        if !weighs(w[k], unit) {
-            return false;
+        let b = weights::pattern(w[k]);
+        beyond = lesser(beyond, weights::beyond(b));
+        size = greater(size, b);
+        if beyond <= 1053 {
+            return Measure {
+                beyond: beyond,
+                size: size,
+            };
         }
         k += 1;
     }
-    true
+    Measure {
+        beyond: beyond,
+        size: size,
+    }
 }

@@ -19,9 +19,8 @@ use Rattle.field.specs.declared.Answer.the-variants.{Done}
 use Rattle.field.specs.declared.Grade.the-variants.{Exact}
 use Rattle.field.specs.Field.{Field, variables, entries, linearOf, StartFor}
 use Rattle.field.specs.Tests.{Sound}
-use Rattle.field.specs.Grade.{halves, gradeOf}
+use Rattle.field.specs.Grade.{gradeOf, Serves}
 use Rattle.field.specs.Reading.{wholeOf}
-use Rattle.field.proofs.Exact.{exact-means}
 use Rattle.run.specs.Run.{closure}
 use Rattle.run.proofs.Theorems.{closure-valid}
 use Rattle.components.proofs.Bridge.{parts-extend}
@@ -122,15 +121,14 @@ module _ {F : Field} {s : List ℕ} (S : Sound F s) where
   round-sound = sound-still S round-start
 
   -- On an exact field some best completion has all that it leaves.
-  pub round-stands : gradeOf F ≡ Exact → Safe (wholeOf halves F) s (round F s)
+  pub round-stands : gradeOf F ≡ Exact → {unit : ℕ} → Serves unit F → Safe (wholeOf unit F) s (round F s)
   unfolding round
-  round-stands g =
-      let exact = exact-means F (S .shaped .rows-long) .0 g in
+  round-stands g {unit} v =
       let t = preprocess F s in
-      safe-trans (rw worked at (preprocessing.some-best-agrees F s floats words (called ∙ ap Done g)))
-      (every-safe (wholeOf halves F) (preprocess-start .small) (laid-extends (probeValues F t) t new-there)
+      safe-trans (rw worked at (preprocessing.some-best-agrees F s floats words (called ∙ ap Done g) v))
+      (every-safe (wholeOf unit F) (preprocess-start .small) (laid-extends (probeValues F t) t new-there)
       (λ x b. laid-among (probeValues F t) t (b .completion .extends)
-      (λ j l. best-has-values (S .shaped) exact preprocess-start b j (omega (arith, preprocess-start .long)))))
+      (λ j l. best-has-values (S .shaped) (v .exact) preprocess-start b j (omega (arith, preprocess-start .long)))))
 
   -- A round that adds none changes nothing.
   pub adds-none : frees (round F s) ≡ frees s → round F s ≡ s
@@ -162,10 +160,10 @@ module _ {F : Field} where
   pub rounds-sound : {s : List ℕ} (k : ℕ) → Sound F s → Sound F (rounds F k s)
   rounds-sound {s} k S = rounds-ind F (Sound F) (λ t T h. round-sound h) k s S S
 
-  pub rounds-stand : {s : List ℕ} (k : ℕ) → Sound F s → gradeOf F ≡ Exact → Safe (wholeOf halves F) s (rounds F k s)
-  rounds-stand {s} k S g =
-      rounds-ind F (Safe (wholeOf halves F) s) (λ t T h. safe-trans h (round-stands T g)) k s S
-      (every-safe (wholeOf halves F) (S .start .small) (extends-refl s) (λ x b. b .completion .extends))
+  pub rounds-stand : {s : List ℕ} (k : ℕ) → Sound F s → gradeOf F ≡ Exact → {unit : ℕ} → Serves unit F → Safe (wholeOf unit F) s (rounds F k s)
+  rounds-stand {s} k S g {unit} v =
+      rounds-ind F (Safe (wholeOf unit F) s) (λ t T h. safe-trans h (round-stands T g v)) k s S
+      (every-safe (wholeOf unit F) (S .start .small) (extends-refl s) (λ x b. b .completion .extends))
 
   -- the stop leaves what all k rounds leave
   pub rounds-are : {s : List ℕ} (k : ℕ) → Sound F s → rounds F k s ≡ allRounds F k s

@@ -20,7 +20,7 @@ use Rattle.field.specs.declared.Refusal.{Refusal}
 use Rattle.field.specs.Field.{Field, variables, linearOf}
 use Rattle.field.specs.Table.{FirstToFail}
 use Rattle.field.specs.Tests.{readyTests, Sound, Ready}
-use Rattle.field.specs.Grade.{halves, gradeOf}
+use Rattle.field.specs.Grade.{gradeOf, Serves}
 use Rattle.field.specs.Reading.{wholeOf}
 use Rattle.calls.specs.Values.{Left, left}
 use Rattle.calls.proofs.Values as values
@@ -46,9 +46,9 @@ module _ {F : Field} {s : List ℕ} (S : Sound F s) where
   unfolding heavy
   heavy-closed = rounds-close (variables F) S (omega (arith, frees-le s, S .start .long))
 
-  heavy-stands : gradeOf F ≡ Exact → Safe (wholeOf halves F) s (heavy F s)
+  heavy-stands : gradeOf F ≡ Exact → {unit : ℕ} → Serves unit F → Safe (wholeOf unit F) s (heavy F s)
   unfolding heavy
-  heavy-stands g = rounds-stand (variables F) S g
+  heavy-stands g v = rounds-stand (variables F) S g v
 
   -- with no variable there is no value
   heavy-preprocess : Extends (preprocess F s) (heavy F s)
@@ -117,5 +117,5 @@ module _ (F : Field) (s : List ℕ) (f : List Float) (u : List ℕ) where
 
 -- DEMAND 3. On an exact field some best completion of the start values agrees with all values.
 pub some-best-agrees : (F : Field) (s : List ℕ) (f : List Float) (u : List ℕ) → heavyCall F s f u .answer ≡ Done Exact
-    → Safe (wholeOf halves F) s (heavyCall F s f u .lent .values)
-some-best-agrees F s f u e = rw (values-are F s f u Exact e) (heavy-stands (sound F s f u Exact e) (values.graded _ F s f u Exact e))
+    → {unit : ℕ} → Serves unit F → Safe (wholeOf unit F) s (heavyCall F s f u .lent .values)
+some-best-agrees F s f u e v = rw (values-are F s f u Exact e) (heavy-stands (sound F s f u Exact e) (values.graded _ F s f u Exact e) v)

@@ -85,7 +85,7 @@ module _ {u : ℕ} {F : Field} (x : Exact u F) where
         go true = law .adds y a b q other h n k s
         go false = as-worth h (omega arith)
 
-    module _ {start : Float} {a : Whole} (w : Worth u start a) (near : Under (2 ^ 32) a) where
+    module _ {start : Float} {a : Whole} (w : Worth u start a) (near : Under (2 ^ 31) a) where
       ends-worth : (k : ℕ) → k ≤ entries F → Worth u (overEnds op F i start k) (a ⊕ sum k (counts u F g i))
       unfolding overEnds sum
       ends-worth zero h = as-worth w (omega arith)

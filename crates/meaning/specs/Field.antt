@@ -1,5 +1,5 @@
 -- A field in whole numbers, its objective, and the completions of a list of start values.
--- All is counted in halves: `linear` is 2c, and `twice-f` is 2f. Assumes nothing.
+-- All is counted in half units: `linear` is 2c in units, and `twice-f` is 2f in units. Assumes nothing.
 use mathlib.Core.Logic.{_≢_}
 use mathlib.Core.List.{List}
 use Prim.Native.Nat.{ℕ, _<_}
@@ -24,7 +24,7 @@ Standard F = (k : ℕ) → k < F .m → F .row k ≢ F .column k
 abbrev pub Within : Field → Type 0
 Within F = (k : ℕ) → k < F .m → (F .row k < F .n) × (F .column k < F .n)
 
--- "f(x) = sum of c_i x_i + half the sum of q_ij x_i x_j": in halves 2c x of a variable, and q x x of an entry
+-- "f(x) = sum of c_i x_i + half the sum of q_ij x_i x_j": in half units 2c x of a variable, and q x x of an entry
 abbrev pub variable-term : Field → List ℕ → ℕ → Whole
 variable-term F x i = F .linear i ⊙ getD x i 0
 

@@ -1,4 +1,4 @@
--- The gradient's bounds in halves, what they force and which are 0, at the values or at what each entry sees of them.
+-- The gradient's bounds in half units, what they force and which are 0, at the values or at what each entry sees of them.
 -- The gradient closure of s is the t with `Closure (Forces F) s t`. Assumes nothing.
 use mathlib.Core.Path.{_≡_}
 use mathlib.Core.Logic.{_⊎_}

@@ -1,5 +1,5 @@
 -- Pair dominance: two free variables i and j, and a pattern (a, b) of their values, where true stands for 1.
--- The margin of a pattern is the least of f at (a, b) less f at the opposite pattern, in halves, over all values of the other free variables:
+-- The margin of a pattern is the least of f at (a, b) less f at the opposite pattern, in half units, over all values of the other free variables:
 -- document 01's four bounds are the margins of 11, 00, 10 and 01. Assumes nothing.
 use mathlib.Core.Bool.{Bool, true, false, not, _&&_}
 use mathlib.Core.List.{List, [], _∷_}
@@ -84,7 +84,7 @@ at a b x i j = set (set x i (bit a)) j (bit b)
 abbrev pub difference : Bool → Bool → Field → List ℕ → ℕ → ℕ → Whole
 difference a b F x i j = twice-f F (at a b x i j) ⊖ twice-f F (at (not a) (not b) x i j)
 
--- what is "above the tolerance", where that is not negative: P z says that z halves are
+-- what is "above the tolerance", where that is not negative: P z says that z half units are
 pub record Tolerance (P : Whole → Type 0) : Type 0 where
   pub rises : {y z : Whole} → y ⊑ z → P y → P z
   pub strict : {z : Whole} → P z → Above0 z

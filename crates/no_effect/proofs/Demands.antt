@@ -21,10 +21,9 @@ use Rattle.field.specs.declared.Refusal.{Refusal}
 use Rattle.field.specs.declared.Refusal.the-variants.{Room}
 use Rattle.field.specs.Field.{Field, variables, linearOf, Shaped}
 use Rattle.field.specs.Table.{FirstToFail}
-use Rattle.field.specs.Grade.{halves, gradeOf}
+use Rattle.field.specs.Grade.{gradeOf, Serves}
 use Rattle.field.specs.Reading.{wholeOf}
 use Rattle.field.proofs.Table.{group-is, last-is}
-use Rattle.field.proofs.Exact.{exact-means}
 use Rattle.calls.specs.Call.{table, no-stage}
 use Rattle.calls.proofs.Answers.{same-refuses, counts-apart}
 use Rattle.calls.proofs.Call as any
@@ -110,15 +109,13 @@ module _ (F : Field) (l u : List ℕ) where
     items-rise t h = rw (item-is t (omega arith), item-is (suc t) h) (chosen-rises (hasNoEffect F) 0 (variables F) t (omega (arith, answer-is .1)))
 
 -- On an exact field they are exactly the variables of no effect over whole numbers.
-module _ (F : Field) (l u : List ℕ) {m : ℕ} (e : noEffectCall F l u .answer ≡ Counts Exact m) where
-  pub exact-items : (t : ℕ) → t < m → NoEffect (wholeOf halves F) (item F l u t)
+module _ (F : Field) (l u : List ℕ) {m : ℕ} (e : noEffectCall F l u .answer ≡ Counts Exact m) {unit : ℕ} (serving : Serves unit F) where
+  pub exact-items : (t : ℕ) → t < m → NoEffect (wholeOf unit F) (item F l u t)
   exact-items t h =
       let i = items-idle F l u e t h in
-      let x = exact-means F (shaped F l u e .rows-long) .0 (sym (answer-is F l u e .0)) in
-      effect-exact _ (shaped F l u e) x (i .0) .0 (effect-means F _ (shaped F l u e .rows-long) .1 (i .1))
+      effect-exact _ (shaped F l u e) (serving .exact) (i .0) .0 (effect-means F _ (shaped F l u e .rows-long) .1 (i .1))
 
-  pub exact-all : (i : ℕ) → i < variables F → NoEffect (wholeOf halves F) i → (t : ℕ) × ((t < m) × (item F l u t ≡ i))
+  pub exact-all : (i : ℕ) → i < variables F → NoEffect (wholeOf unit F) i → (t : ℕ) × ((t < m) × (item F l u t ≡ i))
   exact-all i h n =
-      let x = exact-means F (shaped F l u e .rows-long) .0 (sym (answer-is F l u e .0)) in
-      let w = effect-means F i (shaped F l u e .rows-long) .0 (effect-exact i (shaped F l u e) x h .1 n) in
+      let w = effect-means F i (shaped F l u e .rows-long) .0 (effect-exact i (shaped F l u e) (serving .exact) h .1 n) in
       idle-items F l u e i h (w .0) (w .1)

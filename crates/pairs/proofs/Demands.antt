@@ -25,7 +25,7 @@ use Rattle.field.specs.declared.Refusal.the-variants.{Room}
 use Rattle.field.specs.Field.{Field, variables, StartFor}
 use Rattle.field.specs.Table.{FirstToFail}
 use Rattle.field.specs.Tests.{readyTests, Ready}
-use Rattle.field.specs.Grade.{halves, gradeOf}
+use Rattle.field.specs.Grade.{gradeOf, unitOf, Serves}
 use Rattle.field.specs.Reading.{wholeOf}
 use Rattle.field.proofs.Table.{group-is, last-is}
 use Rattle.field.proofs.Means.{ready-passes}
@@ -225,11 +225,13 @@ longer-list F s limit more h l l′ f f′ u u′ g g′ items items′ pairs pa
 
 module _ (F : Field) (s : List ℕ) (limit : ℕ) (l : List ℕ) (f : List Float) (u : List ℕ) (items pairs : ℕ) (e : pairsCall F s limit l f u .answer ≡ Done ExactGrade items pairs) where
   -- what an answer of done with the grade exact says of the field and the start values
-  exact-field : Exact halves F
+  exact-in : {unit : ℕ} → Serves unit F → Exact unit F
+  exact-in v = record { unit = omega (arith, v .to); exact = v .exact; shaped = done-when F s limit l f u ExactGrade items pairs .0 e .ready .sound .shaped }
+
+  exact-field : Exact (unitOf F) F
   exact-field =
       let d = done-when F s limit l f u ExactGrade items pairs .0 e in
-      let r = d .ready .sound .shaped in
-      record { unit = omega arith; exact = exact-means F (r .rows-long) .0 (sym (d .graded)); shaped = r }
+      exact-in (exact-means F (d .ready .sound .shaped .rows-long) .0 (sym (d .graded)))
 
   start : StartFor (variables F) s
   start = done-when F s limit l f u ExactGrade items pairs .0 e .ready .sound .start
@@ -251,15 +253,15 @@ module _ (F : Field) (s : List ℕ) (limit : ℕ) (l : List ℕ) (f : List Float
     apart : i ≢ j
     apart z = omega (arith, free-pair .order)
 
-    gives-exactly : (a b : Bool) → List·Memᴰ (dominated a b) (pairKinds F s i j) ↔ Dominates halves F s i j a b
-    gives-exactly = kind-means exact-field start i j first-below second-below apart (free-pair .first) (free-pair .second)
+    gives-exactly : {unit : ℕ} → Serves unit F → (a b : Bool) → List·Memᴰ (dominated a b) (pairKinds F s i j) ↔ Dominates unit F s i j a b
+    gives-exactly v = kind-means (exact-in v) start i j first-below second-below apart (free-pair .first) (free-pair .second)
 
     -- each kind that it gives is one of a pattern
     module _ {k : Kind} (h : List·Memᴰ k (pairKinds F s i j)) where
-      best-meets : (x : List ℕ) → Best (wholeOf halves F) s x → Meets x (record { first = i; second = j; kind = k })
-      best-meets =
+      best-meets : {unit : ℕ} → Serves unit F → (x : List ℕ) → Best (wholeOf unit F) s x → Meets x (record { first = i; second = j; kind = k })
+      best-meets v =
           let p = kind-pattern F s i j h in
-          rw (p .2) (kind-sound exact-field start i j first-below second-below apart (free-pair .first) (free-pair .second) (p .0) (p .1) (rw (p .2) at h))
+          rw (p .2) (kind-sound (exact-in v) start i j first-below second-below apart (free-pair .first) (free-pair .second) (p .0) (p .1) (rw (p .2) at h))
 
       still-gives : {s′ : List ℕ} → StartFor (variables F) s′ → Extends s s′ → getD s′ i 0 ≡ 2 → getD s′ j 0 ≡ 2 → List·Memᴰ k (pairKinds F s′ i j)
       still-gives start′ more fi fj =
@@ -268,28 +270,28 @@ module _ (F : Field) (s : List ℕ) (limit : ℕ) (l : List ℕ) (f : List Float
 
   -- DEMAND 2. On an exact field the constraint that forbids a pattern of (i, j) is in the list exactly if the pair is examined and f at the pattern
   -- less f at the opposite is above the tolerance for all values of the other free variables.
-  pub list-exact : (i j : ℕ) (a b : Bool) → List·Memᴰ (tripleFor i j (dominated a b)) (listed items (pairsCall F s limit l f u))
-      ↔ (List·Memᴰ (pair i j) (examined limit s) × Dominates halves F s i j a b)
-  list-exact i j a b = rw holds (
-    λ h. let q = t .0 h in (q .0, gives-exactly (q .0) a b .0 (q .1)),
-    λ h. t .1 (h .0, gives-exactly (h .0) a b .1 (h .1)),
+  pub list-exact : {unit : ℕ} → Serves unit F → (i j : ℕ) (a b : Bool) → List·Memᴰ (tripleFor i j (dominated a b)) (listed items (pairsCall F s limit l f u))
+      ↔ (List·Memᴰ (pair i j) (examined limit s) × Dominates unit F s i j a b)
+  list-exact v i j a b = rw holds (
+    λ h. let q = t .0 h in (q .0, gives-exactly (q .0) v a b .0 (q .1)),
+    λ h. t .1 (h .0, gives-exactly (h .0) v a b .1 (h .1)),
   )
     where
       t : List·Memᴰ (tripleFor i j (dominated a b)) (found F s limit) ↔ (List·Memᴰ (pair i j) (examined limit s) × List·Memᴰ (dominated a b) (pairKinds F s i j))
       t = found-exactly F s limit i j (dominated a b)
 
-  -- The four bounds are the least and the greatest over all values of the other free variables, in halves, and the tolerance is above 0.
-  pub bounds-exact : (i j : ℕ) → List·Memᴰ (pair i j) (examined limit s) → T (positive (tolerance F i j)) × Four halves F s i j (boundsOf F s i j)
-  bounds-exact i j m = (
-    tolerance-positive exact-field i j (first-below m) (second-below m),
-    four exact-field start i j (first-below m) (second-below m) (apart m) (free-pair m .first) (free-pair m .second),
+  -- The four bounds are the least and the greatest over all values of the other free variables, in half units, and the tolerance is above 0.
+  pub bounds-exact : {unit : ℕ} → Serves unit F → (i j : ℕ) → List·Memᴰ (pair i j) (examined limit s) → T (positive (tolerance F i j)) × Four unit F s i j (boundsOf F s i j)
+  bounds-exact v i j m = (
+    tolerance-positive (exact-in v) i j (first-below m) (second-below m),
+    four (exact-in v) start i j (first-below m) (second-below m) (apart m) (free-pair m .first) (free-pair m .second),
   )
 
   -- DEMAND 3. Every best completion of the start values meets every constraint of the list.
-  pub best-meets-all : (x : List ℕ) → Best (wholeOf halves F) s x → (c : Triple) → List·Memᴰ c (listed items (pairsCall F s limit l f u)) → Meets x (constraintOf c)
-  best-meets-all x best c m =
+  pub best-meets-all : {unit : ℕ} → Serves unit F → (x : List ℕ) → Best (wholeOf unit F) s x → (c : Triple) → List·Memᴰ c (listed items (pairsCall F s limit l f u)) → Meets x (constraintOf c)
+  best-meets-all v x best c m =
       let z = given-by F s limit (rw holds at m) in
-      rw (z .is, code-kind (z .kind)) (best-meets (z .is-examined) (z .gives) x best)
+      rw (z .is, code-kind (z .kind)) (best-meets (z .is-examined) (z .gives) v x best)
 
   -- A constraint stays with further start values that fix neither of its variables, in a call with the same limit.
   pub further-keep : (s′ l′ : List ℕ) (f′ : List Float) (u′ : List ℕ) (items′ pairs′ : ℕ) → pairsCall F s′ limit l′ f′ u′ .answer ≡ Done ExactGrade items′ pairs′ → Extends s s′

@@ -20,7 +20,7 @@ use Rattle.field.specs.declared.Refusal.{Refusal}
 use Rattle.field.specs.Field.{Field, variables, linearOf, Shaped, StartFor}
 use Rattle.field.specs.Table.{FirstToFail}
 use Rattle.field.specs.Tests.{readyTests, Sound, Ready}
-use Rattle.field.specs.Grade.{halves, gradeOf, ExactIn}
+use Rattle.field.specs.Grade.{gradeOf, ExactIn, Serves}
 use Rattle.field.specs.Reading.{wholeOf}
 use Rattle.calls.specs.Values.{Left, left}
 use Rattle.calls.proofs.Values as values
@@ -107,7 +107,7 @@ module _ (F : Field) (s : List ℕ) (f : List Float) (u : List ℕ) where
 
 -- DEMAND 3. On an exact field some best completion of the start values agrees with all values.
 pub some-best-agrees : (F : Field) (s : List ℕ) (f : List Float) (u : List ℕ) → preprocessCall F s f u .answer ≡ Done Exact
-    → Safe (wholeOf halves F) s (preprocessCall F s f u .lent .values)
-some-best-agrees F s f u e =
+    → {unit : ℕ} → Serves unit F → Safe (wholeOf unit F) s (preprocessCall F s f u .lent .values)
+some-best-agrees F s f u e v =
     let x = values.exact-field _ F s f u e in
-    rw (values-are F s f u Exact e) (preprocess-stands F (x .0) (x .1 .1) (omega arith) (x .1 .0))
+    rw (values-are F s f u Exact e) (preprocess-stands F (x .0) (x .1 .1) (omega (arith, v .to)) (v .exact))

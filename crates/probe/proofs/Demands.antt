@@ -24,7 +24,7 @@ use Rattle.field.specs.declared.Refusal.{Refusal}
 use Rattle.field.specs.declared.Refusal.the-variants.{Room}
 use Rattle.field.specs.Field.{Field, variables, Shaped, StartFor}
 use Rattle.field.specs.Table.{FirstToFail}
-use Rattle.field.specs.Grade.{halves, gradeOf, ExactIn}
+use Rattle.field.specs.Grade.{gradeOf, unitOf, Serves}
 use Rattle.field.specs.Reading.{wholeOf}
 use Rattle.field.proofs.Table.{group-is, last-is}
 use Rattle.field.proofs.Exact.{exact-means}
@@ -130,32 +130,32 @@ module _ (F : Field) (s : List ℕ) (i v : ℕ) (t : List ℕ) (f : List Float) 
 
 -- ---- DEMAND 2. On an exact field it is the whole-number closure of the start values with the one value added.
 
-pub exact-field : (F : Field) (s : List ℕ) (i v : ℕ) (t : List ℕ) (f : List Float) (u : List ℕ) → probeOneCall F s i v t f u .answer ≡ Done Exact → Shaped F × ExactIn halves F
+pub exact-field : (F : Field) (s : List ℕ) (i v : ℕ) (t : List ℕ) (f : List Float) (u : List ℕ) → probeOneCall F s i v t f u .answer ≡ Done Exact → Shaped F × Serves (unitOf F) F
 exact-field F s i v t f u e =
     let shaped = probable F s i v t f u Exact e .ready .sound .shaped in
     (shaped, exact-means F (shaped .rows-long) .0 (graded F s i v t f u Exact e))
 
 module _ (F : Field) (s : List ℕ) (i v : ℕ) (t : List ℕ) (f : List Float) (u : List ℕ) (e : probeOneCall F s i v t f u .answer ≡ Done Exact) where
   -- the list is the closure over whole numbers, without the start values
-  pub probe-closes : Gives (wholeOf halves F) s i v (probeOneCall F s i v t f u .lent .values)
+  pub probe-closes : {unit : ℕ} → Serves unit F → Gives (wholeOf unit F) s i v (probeOneCall F s i v t f u .lent .values)
   unfolding probeOne
-  probe-closes = let x = exact-field F s i v t f u e in record {
+  probe-closes serving = let x = exact-field F s i v t f u e in record {
     closed = closure F (set s i v);
-    is-closure = run.closure-is-closure (x .0) (x .1) (start-with F s i v t f u Exact e);
+    is-closure = run.closure-is-closure (x .0) (serving .exact) (start-with F s i v t f u Exact e);
     without = values-are F s i v t f u Exact e;
   }
 
   -- DEMAND 3. Every best completion of the start values that has the probed value obeys every value of the list.
-  pub best-obeys : {x : List ℕ} → Best (wholeOf halves F) s x → getD x i 0 ≡ v → (j : ℕ) → j < variables F
+  pub best-obeys : {unit : ℕ} → Serves unit F → {x : List ℕ} → Best (wholeOf unit F) s x → getD x i 0 ≡ v → (j : ℕ) → j < variables F
       → getD (probeOneCall F s i v t f u .lent .values) j 0 < 2 → getD x j 0 ≡ getD (probeOneCall F s i v t f u .lent .values) j 0
-  best-obeys {x} b h j l small = go (ℕ-discrete (getD s j 0) 2)
+  best-obeys serving {x} b h j l small = go (ℕ-discrete (getD s j 0) 2)
     where
       p : Probable F s i v (length f) (length u)
       p = probable F s i v t f u Exact e
 
       obeyed : Extends (closure F (set s i v)) x
       obeyed = let y = exact-field F s i v t f u e in
-          best-has-probe (y .1 .standard) (p .ready .sound .start .long) b i (p .free) v (run.closure-is-closure (y .0) (y .1) (start-with F s i v t f u Exact e)) h
+          best-has-probe (serving .exact .standard) (p .ready .sound .start .long) b i (p .free) v (run.closure-is-closure (y .0) (serving .exact) (start-with F s i v t f u Exact e)) h
 
       go : Dec (getD s j 0 ≡ 2) → getD x j 0 ≡ getD (probeOneCall F s i v t f u .lent .values) j 0
       go (yes free) = let z = found-at F s i v t f u Exact e j l free in fixed (obeyed .kept j) (omega (arith, z)) ∙ sym z

@@ -12,7 +12,7 @@ use Rattle.meaning.specs.Probe.{Probed}
 use Rattle.field.specs.declared.Answer.the-variants.{Done}
 use Rattle.field.specs.declared.Grade.the-variants.{Exact}
 use Rattle.field.specs.Field.{Field, variables}
-use Rattle.field.specs.Grade.{halves}
+use Rattle.field.specs.Grade.{Serves}
 use Rattle.field.specs.Reading.{wholeOf}
 use Rattle.run.specs.Run.{closure}
 use Rattle.run.proofs.Theorems as run
@@ -28,12 +28,12 @@ none-found i j e₀ e₁ = rw (e₀, e₁)
 
 module _ (F : Field) (s : List ℕ) (i : ℕ) (t₀ t₁ : List ℕ) (f₀ f₁ : List Float) (u₀ u₁ : List ℕ)
     (e₀ : probeOneCall F s i 0 t₀ f₀ u₀ .answer ≡ Done Exact) (e₁ : probeOneCall F s i 1 t₁ f₁ u₁ .answer ≡ Done Exact)
-    {x : List ℕ} (best : Best (wholeOf halves F) s x) (j : ℕ) (below : j < variables F) where
-  probed₀ : Probed (wholeOf halves F) s i 0 (closure F (set s i 0))
-  probed₀ = let y = exact-field F s i 0 t₀ f₀ u₀ e₀ in run.closure-is-closure (y .0) (y .1) (start-with F s i 0 t₀ f₀ u₀ Exact e₀)
+    {unit : ℕ} (serving : Serves unit F) {x : List ℕ} (best : Best (wholeOf unit F) s x) (j : ℕ) (below : j < variables F) where
+  probed₀ : Probed (wholeOf unit F) s i 0 (closure F (set s i 0))
+  probed₀ = let y = exact-field F s i 0 t₀ f₀ u₀ e₀ in run.closure-is-closure (y .0) (serving .exact) (start-with F s i 0 t₀ f₀ u₀ Exact e₀)
 
-  probed₁ : Probed (wholeOf halves F) s i 1 (closure F (set s i 1))
-  probed₁ = let y = exact-field F s i 1 t₁ f₁ u₁ e₁ in run.closure-is-closure (y .0) (y .1) (start-with F s i 1 t₁ f₁ u₁ Exact e₁)
+  probed₁ : Probed (wholeOf unit F) s i 1 (closure F (set s i 1))
+  probed₁ = let y = exact-field F s i 1 t₁ f₁ u₁ e₁ in run.closure-is-closure (y .0) (serving .exact) (start-with F s i 1 t₁ f₁ u₁ Exact e₁)
 
   -- the value of a free variable is the closure's
   same-found : getD s j 0 ≡ 2 → found i j (getD (probeOneCall F s i 0 t₀ f₀ u₀ .lent .values) j 0) (getD (probeOneCall F s i 1 t₁ f₁ u₁ .lent .values) j 0)
@@ -50,7 +50,7 @@ module _ (F : Field) (s : List ℕ) (i : ℕ) (t₀ t₁ : List ℕ) (f₀ f₁ 
       go : Dec (getD s j 0 ≡ 2) → getD x j 0 ≡ w
       go (yes h) =
           let p = probable F s i 0 t₀ f₀ u₀ Exact e₀ in
-          value-holds (exact-field F s i 0 t₀ f₀ u₀ e₀ .1 .standard) (p .ready .sound .start .long) best i (p .free) probed₀ probed₁ j w (sym (same-found h) ∙ e)
+          value-holds (serving .exact .standard) (p .ready .sound .start .long) best i (p .free) probed₀ probed₁ j w (sym (same-found h) ∙ e)
       go (no ne) = none-value (sym (no-found ne) ∙ e)
 
   pub best-meets : (c : Constraint) → found i j (getD (probeOneCall F s i 0 t₀ f₀ u₀ .lent .values) j 0) (getD (probeOneCall F s i 1 t₁ f₁ u₁ .lent .values) j 0) ≡ constraint c → Meets x c
@@ -59,6 +59,6 @@ module _ (F : Field) (s : List ℕ) (i : ℕ) (t₀ t₁ : List ℕ) (f₀ f₁ 
       go : Dec (getD s j 0 ≡ 2) → Meets x c
       go (yes h) =
           let p = probable F s i 0 t₀ f₀ u₀ Exact e₀ in
-          constraint-holds (exact-field F s i 0 t₀ f₀ u₀ e₀ .1 .standard) (p .ready .sound .start .long) best i (p .free) probed₀ probed₁ j
+          constraint-holds (serving .exact .standard) (p .ready .sound .start .long) best i (p .free) probed₀ probed₁ j
           (run.closure-valid F (start-with F s i 0 t₀ f₀ u₀ Exact e₀) .small j) (run.closure-valid F (start-with F s i 1 t₁ f₁ u₁ Exact e₁) .small j) c (sym (same-found h) ∙ e)
       go (no ne) = none-constraint (sym (no-found ne) ∙ e)

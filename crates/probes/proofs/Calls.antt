@@ -14,10 +14,9 @@ use Rattle.field.specs.declared.Counted.the-variants.{Counts}
 use Rattle.field.specs.declared.Grade.{Grade}
 use Rattle.field.specs.declared.Grade.the-variants.{Exact}
 use Rattle.field.specs.Field.{Field, variables, Shaped, StartFor}
-use Rattle.field.specs.Grade.{halves, ExactIn}
+use Rattle.field.specs.Grade.{Serves}
 use Rattle.field.specs.Reading.{wholeOf}
 use Rattle.field.specs.Tests.{Finite}
-use Rattle.field.proofs.Exact.{exact-means}
 use Rattle.probes.specs.Call.{allConstraints, allValues, Left, candidatesCall}
 use Rattle.probes.specs.Rule.{FreeCandidates, Given, GivesValue, Finds, FindsValue, LastGives, NoneGives}
 use Rattle.probes.specs.Says.{listed, valueAt, DoneSays}
@@ -68,23 +67,22 @@ module _ (F : Field) (s cands t k : List ℕ) (f : List Float) (u : List ℕ) wh
     pub shaped : Shaped F
     shaped = said e .ready .sound .shaped
 
-    pub is-exact : ExactIn halves F
-    is-exact = exact-means F (shaped .rows-long) .0 (sym (said e .graded))
+    -- in every unit that serves
+    module _ {unit : ℕ} (serving : Serves unit F) where
+      pub list-exact : (x : Triple) → List·Memᴰ x (listed count call) ↔ Given (wholeOf unit F) s (λ i. List·Memᴰ i cands) x
+      list-exact x = rw (list-is e) (exact.list-exact shaped (serving .exact) (start e) cands free x)
 
-    pub list-exact : (x : Triple) → List·Memᴰ x (listed count call) ↔ Given (wholeOf halves F) s (λ i. List·Memᴰ i cands) x
-    list-exact x = rw (list-is e) (exact.list-exact shaped is-exact (start e) cands free x)
+      pub values-exact : (j : ℕ) → j < variables F → (w : ℕ) → w < 2
+          → (valueAt j call ≡ w) ↔ LastGives (λ i v. GivesValue (wholeOf unit F) s i j v) cands (length cands) w
+      values-exact j below w small = rw (value-is e j) (exact.values-exact shaped (serving .exact) (start e) cands free j below w small)
 
-    pub values-exact : (j : ℕ) → j < variables F → (w : ℕ) → w < 2
-        → (valueAt j call ≡ w) ↔ LastGives (λ i v. GivesValue (wholeOf halves F) s i j v) cands (length cands) w
-    values-exact j below w small = rw (value-is e j) (exact.values-exact shaped is-exact (start e) cands free j below w small)
+      pub none-exact : (j : ℕ) → j < variables F → (valueAt j call ≡ 2) ↔ NoneGives (λ i v. GivesValue (wholeOf unit F) s i j v) cands (length cands)
+      none-exact j below = rw (value-is e j) (exact.none-exact shaped (serving .exact) (start e) cands free j below)
 
-    pub none-exact : (j : ℕ) → j < variables F → (valueAt j call ≡ 2) ↔ NoneGives (λ i v. GivesValue (wholeOf halves F) s i j v) cands (length cands)
-    none-exact j below = rw (value-is e j) (exact.none-exact shaped is-exact (start e) cands free j below)
+      module _ {x : List ℕ} (best : meaning.Best (wholeOf unit F) s x) where
+        pub best-has-values : (j : ℕ) → j < variables F → valueAt j call < 2 → getD x j 0 ≡ valueAt j call
+        best-has-values j below small =
+            exact.best-has-values shaped (serving .exact) (start e) cands free best j below (omega (arith, value-is e j)) ∙ sym (value-is e j)
 
-    module _ {x : List ℕ} (best : meaning.Best (wholeOf halves F) s x) where
-      pub best-has-values : (j : ℕ) → j < variables F → valueAt j call < 2 → getD x j 0 ≡ valueAt j call
-      best-has-values j below small =
-          exact.best-has-values shaped is-exact (start e) cands free best j below (omega (arith, value-is e j)) ∙ sym (value-is e j)
-
-      pub best-meets-all : (c : Triple) → List·Memᴰ c (listed count call) → Meets x (constraintOf c)
-      best-meets-all c m = exact.best-meets-all shaped is-exact (start e) cands free best c (rw (list-is e) at m)
+        pub best-meets-all : (c : Triple) → List·Memᴰ c (listed count call) → Meets x (constraintOf c)
+        best-meets-all c m = exact.best-meets-all shaped (serving .exact) (start e) cands free best c (rw (list-is e) at m)

@@ -12,7 +12,7 @@ use Rattle.scratch.proofs.Region.{length-region, region-at}
 use Rattle.meaning.specs.Free.{freeTo}
 use Rattle.meaning.proofs.Free.{free-few, free-at}
 use Rattle.field.specs.Field.{Field, variables}
-use Rattle.field.specs.Tests.{Ready}
+use Rattle.field.specs.Tests.{Finite, Ready}
 use Rattle.rows.specs.Stored.{rowOn}
 use Rattle.run.proofs.Cells.{placed-start}
 use Rattle.probing.specs.Remembered.{Remembers}
@@ -44,9 +44,10 @@ ranked-free F s limit = take-every (Free s) limit (ranks F s) (ordered-every (ah
 
 -- ---- the workspace with them
 
-standing-of : {F : Field} {s : List ℕ} {f : List Float} {u cands : List ℕ} {many count : ℕ} → Remembers F s f u many → count ≤ variables F
+standing-of : {F : Field} {s : List ℕ} {f : List Float} {u cands : List ℕ} {many count : ℕ} → Finite F → Remembers F s f u many → count ≤ variables F
     → gatherAt F + variables F ≤ length u → region (candidatesAt F) count u ≡ cands → Every (Free s) cands → Standing F s f u many count
-standing-of {F} {s} {f} {u} {cands} {many} {count} R within space are free = record {
+standing-of {F} {s} {f} {u} {cands} {many} {count} finite R within space are free = record {
+  finite-weights = finite;
   remembers = R;
   within = within;
   free = λ h l.
@@ -75,7 +76,7 @@ module _ {F : Field} {s : List ℕ} {floats words : ℕ} (A : Ready F s floats w
 
     pub free-standing : {f : List Float} {many : ℕ} → Remembers F s f u many → length u ≡ words → Standing F s f u′ many count
     free-standing R long =
-        standing-of (remembers-front F u u′ (front-first F u u′ (L .front)) (L .long) R) (omega (arith, L .few, A .sound .start .long))
+        standing-of (A .sound .finite-weights) (remembers-front F u u′ (front-first F u u′ (L .front)) (L .long) R) (omega (arith, L .few, A .sound .start .long))
         (omega (arith, space-enough A, long, L .long)) free-are
         (all-free s (variables F))
 
@@ -113,7 +114,7 @@ module _ (F : Field) (s : List ℕ) (limit : ℕ) (f f′ : List Float) (u u′ 
 
   pub chosen-standing : {many floats words : ℕ} → Ready F s floats words → Remembers F s f u many → length u ≡ words → Standing F s f′ u′ many count
   chosen-standing A R long =
-      standing-of (chosen-remembers R) (C .within) (omega (arith, space-enough A, long, C .words-long)) (C .are) (ranked-free F s limit)
+      standing-of (A .sound .finite-weights) (chosen-remembers R) (C .within) (omega (arith, space-enough A, long, C .words-long)) (C .are) (ranked-free F s limit)
 
 -- ---- the ranks in their place
 

@@ -22,7 +22,7 @@ use Rattle.field.specs.declared.Refusal.the-variants.{Room}
 use Rattle.field.specs.Field.{Field, variables}
 use Rattle.field.specs.Table.{FirstToFail}
 use Rattle.field.specs.Tests.{Ready}
-use Rattle.field.specs.Grade.{halves}
+use Rattle.field.specs.Grade.{Serves}
 use Rattle.field.specs.Reading.{wholeOf}
 use Rattle.probes.specs.Call.{allConstraints, allValues, Left, left, candidatesTable, probeCall}
 use Rattle.probes.specs.Rule.{FreeCandidates, Given, GivesValue, Finds, FindsValue, GreatestGives, NoFreeGives}
@@ -138,38 +138,38 @@ module _ (F : Field) (s t k : List ℕ) (f : List Float) (u : List ℕ) where
     unfolding probeCall
     probe-start-left-out = call.start-left-out F s free t k f u e
 
-  -- ---- on an exact field, over whole numbers
+  -- ---- on an exact field, over whole numbers, in every unit that serves
 
-  module _ {count : ℕ} (e : probeCall F s t k f u .answer ≡ Counts Exact count) where
+  module _ {count : ℕ} (e : probeCall F s t k f u .answer ≡ Counts Exact count) {unit : ℕ} (serving : Serves unit F) where
     -- DEMAND 2. A triple is in the list exactly if the probes of a free variable give it.
-    pub probe-list-exact : (x : Triple) → List·Memᴰ x (listed count (probeCall F s t k f u)) ↔ Given (wholeOf halves F) s (λ i. getD s i 0 ≡ 2) x
+    pub probe-list-exact : (x : Triple) → List·Memᴰ x (listed count (probeCall F s t k f u)) ↔ Given (wholeOf unit F) s (λ i. getD s i 0 ≡ 2) x
     unfolding probeCall
     probe-list-exact x =
-        let z = call.list-exact F s free t k f u are-free e x in
+        let z = call.list-exact F s free t k f u are-free e serving x in
         ((λ m. given-as are-free (z .0 m)), λ h. z .1 (given-as (λ i q. in-free s (variables F) i (omega (arith, inside s i q, long e)) q) h))
 
     -- A value below 2 stands at j exactly if the greatest free variable whose two probes give j one value gives it, and 2 exactly if none does.
     pub probe-values-exact : (j : ℕ) → j < variables F → (w : ℕ) → w < 2
-        → (valueAt j (probeCall F s t k f u) ≡ w) ↔ GreatestGives (λ i v. GivesValue (wholeOf halves F) s i j v) s w
+        → (valueAt j (probeCall F s t k f u) ≡ w) ↔ GreatestGives (λ i v. GivesValue (wholeOf unit F) s i j v) s w
     unfolding probeCall
     probe-values-exact j below w small =
-        let z = call.values-exact F s free t k f u are-free e j below w small in
+        let z = call.values-exact F s free t k f u are-free e serving j below w small in
         let y = greatest-gives s (variables F) (long e) w in
         ((λ q. y .0 (z .0 q)), λ h. z .1 (y .1 h))
 
-    pub probe-none-exact : (j : ℕ) → j < variables F → (valueAt j (probeCall F s t k f u) ≡ 2) ↔ NoFreeGives (λ i v. GivesValue (wholeOf halves F) s i j v) s
+    pub probe-none-exact : (j : ℕ) → j < variables F → (valueAt j (probeCall F s t k f u) ≡ 2) ↔ NoFreeGives (λ i v. GivesValue (wholeOf unit F) s i j v) s
     unfolding probeCall
     probe-none-exact j below =
-        let z = call.none-exact F s free t k f u are-free e j below in
+        let z = call.none-exact F s free t k f u are-free e serving j below in
         let y = none-free-gives s (variables F) (long e) in
         ((λ q. y .0 (z .0 q)), λ h. z .1 (y .1 h))
 
     -- DEMAND 3. Every best completion of the start values has every value of the answer, and meets every constraint.
-    module _ {x : List ℕ} (best : meaning.Best (wholeOf halves F) s x) where
+    module _ {x : List ℕ} (best : meaning.Best (wholeOf unit F) s x) where
       pub probe-best-has-values : (j : ℕ) → j < variables F → valueAt j (probeCall F s t k f u) < 2 → getD x j 0 ≡ valueAt j (probeCall F s t k f u)
       unfolding probeCall
-      probe-best-has-values = call.best-has-values F s free t k f u are-free e best
+      probe-best-has-values = call.best-has-values F s free t k f u are-free e serving best
 
       pub probe-best-meets-all : (c : Triple) → List·Memᴰ c (listed count (probeCall F s t k f u)) → Meets x (constraintOf c)
       unfolding probeCall
-      probe-best-meets-all = call.best-meets-all F s free t k f u are-free e best
+      probe-best-meets-all = call.best-meets-all F s free t k f u are-free e serving best

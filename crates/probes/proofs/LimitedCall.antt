@@ -22,7 +22,7 @@ use Rattle.field.specs.declared.Refusal.the-variants.{Room}
 use Rattle.field.specs.Field.{Field, variables}
 use Rattle.field.specs.Table.{FirstToFail}
 use Rattle.field.specs.Tests.{Ready}
-use Rattle.field.specs.Grade.{halves, gradeOf}
+use Rattle.field.specs.Grade.{gradeOf, Serves}
 use Rattle.field.specs.Reading.{wholeOf}
 use Rattle.ranking.specs.Ranking.{ranks}
 use Rattle.ranking.specs.Rightly.{RightlyRanked}
@@ -129,49 +129,49 @@ module _ (F : Field) (s : List ℕ) (limit : ℕ) (t k : List ℕ) (f : List Flo
       unfolding probeLimitedCall
       limited-none-finds j below = rw front-is (call.none-finds F s chosen t k f u e j below)
 
-  -- ---- on an exact field, over whole numbers
+  -- ---- on an exact field, over whole numbers, in every unit that serves
 
-  module _ {count : ℕ} (e : probeLimitedCall F s limit t k f u .answer ≡ Counts Exact count) where
+  module _ {count : ℕ} (e : probeLimitedCall F s limit t k f u .answer ≡ Counts Exact count) {unit : ℕ} (serving : Serves unit F) where
     -- A list is ranked by edge mass exactly if it is the ranks.
-    by-mass : (L : List ℕ) → (L ≡ ranks F s) ↔ RankedByMass (wholeOf halves F) s L
+    by-mass : (L : List ℕ) → (L ≡ ranks F s) ↔ RankedByMass (wholeOf unit F) s L
     unfolding probeLimitedCall
     by-mass =
-        ranks-exact (call.shaped F s chosen t k f u are-free e) (call.finite-weights F s chosen t k f u e) (call.is-exact F s chosen t k f u are-free e) s
+        ranks-exact (call.shaped F s chosen t k f u are-free e) (call.finite-weights F s chosen t k f u e) serving s
 
     -- There is such a list.
-    pub limited-by-mass : RankedByMass (wholeOf halves F) s (ranks F s)
+    pub limited-by-mass : RankedByMass (wholeOf unit F) s (ranks F s)
     limited-by-mass = by-mass (ranks F s) .0 refl
 
     -- For every list in which the free variables go by falling edge mass, then rising index:
-    module _ (L : List ℕ) (ranked : RankedByMass (wholeOf halves F) s L) where
+    module _ (L : List ℕ) (ranked : RankedByMass (wholeOf unit F) s L) where
       first-is : take limit L ≡ chosen
       first-is = ap (take limit) (by-mass L .1 ranked)
 
       -- DEMAND 2. A triple is in the list exactly if the probes of one of the first `limit` of them give it.
-      pub limited-list-exact : (x : Triple) → List·Memᴰ x (listed count (probeLimitedCall F s limit t k f u)) ↔ Given (wholeOf halves F) s (λ i. List·Memᴰ i (take limit L)) x
+      pub limited-list-exact : (x : Triple) → List·Memᴰ x (listed count (probeLimitedCall F s limit t k f u)) ↔ Given (wholeOf unit F) s (λ i. List·Memᴰ i (take limit L)) x
       unfolding probeLimitedCall
-      limited-list-exact x = rw first-is (call.list-exact F s chosen t k f u are-free e x)
+      limited-list-exact x = rw first-is (call.list-exact F s chosen t k f u are-free e serving x)
 
       -- A value below 2 stands at j exactly if the last of these whose two probes give j one value gives it, and 2 exactly if none does.
       pub limited-values-exact : (j : ℕ) → j < variables F → (w : ℕ) → w < 2
-          → (valueAt j (probeLimitedCall F s limit t k f u) ≡ w) ↔ LastGives (λ i v. GivesValue (wholeOf halves F) s i j v) (take limit L) (length (take limit L)) w
+          → (valueAt j (probeLimitedCall F s limit t k f u) ≡ w) ↔ LastGives (λ i v. GivesValue (wholeOf unit F) s i j v) (take limit L) (length (take limit L)) w
       unfolding probeLimitedCall
-      limited-values-exact j below w small = rw first-is (call.values-exact F s chosen t k f u are-free e j below w small)
+      limited-values-exact j below w small = rw first-is (call.values-exact F s chosen t k f u are-free e serving j below w small)
 
       pub limited-none-exact : (j : ℕ) → j < variables F
-          → (valueAt j (probeLimitedCall F s limit t k f u) ≡ 2) ↔ NoneGives (λ i v. GivesValue (wholeOf halves F) s i j v) (take limit L) (length (take limit L))
+          → (valueAt j (probeLimitedCall F s limit t k f u) ≡ 2) ↔ NoneGives (λ i v. GivesValue (wholeOf unit F) s i j v) (take limit L) (length (take limit L))
       unfolding probeLimitedCall
-      limited-none-exact j below = rw first-is (call.none-exact F s chosen t k f u are-free e j below)
+      limited-none-exact j below = rw first-is (call.none-exact F s chosen t k f u are-free e serving j below)
 
     -- DEMAND 3. Every best completion of the start values has every value of the answer, and meets every constraint.
-    module _ {x : List ℕ} (best : meaning.Best (wholeOf halves F) s x) where
+    module _ {x : List ℕ} (best : meaning.Best (wholeOf unit F) s x) where
       pub limited-best-has-values : (j : ℕ) → j < variables F → valueAt j (probeLimitedCall F s limit t k f u) < 2 → getD x j 0 ≡ valueAt j (probeLimitedCall F s limit t k f u)
       unfolding probeLimitedCall
-      limited-best-has-values = call.best-has-values F s chosen t k f u are-free e best
+      limited-best-has-values = call.best-has-values F s chosen t k f u are-free e serving best
 
       pub limited-best-meets-all : (c : Triple) → List·Memᴰ c (listed count (probeLimitedCall F s limit t k f u)) → Meets x (constraintOf c)
       unfolding probeLimitedCall
-      limited-best-meets-all = call.best-meets-all F s chosen t k f u are-free e best
+      limited-best-meets-all = call.best-meets-all F s chosen t k f u are-free e serving best
 
 -- ---- the limit
 

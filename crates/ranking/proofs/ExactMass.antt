@@ -16,7 +16,7 @@ use Rattle.weights.proofs.Worth.{add-worth, as-worth, zero-worth, magnitude-wor
 use Rattle.meaning.specs.Field as meaning
 use Rattle.field.specs.Field.{Field, entries, rowEnd, columnEnd, Shaped}
 use Rattle.field.specs.Tests.{Finite}
-use Rattle.field.specs.Grade.{halves, ExactIn}
+use Rattle.field.specs.Grade.{Serves}
 use Rattle.field.specs.Reading.{wholeOf}
 use Rattle.field.proofs.Reading.{quad-worth, quad-under}
 use Rattle.ranking.specs.Ranking.{bothFree, massAtEnd, massAtEntry, massTo, massOf, ahead, ranks}
@@ -33,12 +33,12 @@ add-once true false true one h k w = add-worth h k w
 add-once true false false one h k w = as-worth h (omega arith)
 add-once false row column one h k w = as-worth h (omega arith)
 
-module _ {F : Field} (S : Shaped F) (x : ExactIn halves F) (s : List ℕ) where
+module _ {u : ℕ} {F : Field} (S : Shaped F) (x : Serves u F) (s : List ℕ) where
   abbrev W : meaning.Field
-  W = wholeOf halves F
+  W = wholeOf u F
 
   size-under : (k : ℕ) → k < entries F → Under (2 ^ 31) (size (W .weight k))
-  size-under k h = omega (arith, quad-under x k h)
+  size-under k h = omega (arith, quad-under (x .exact) k h)
 
   module _ (i : ℕ) where
     edge-under : (k : ℕ) → k < entries F → Under (2 ^ 31) (edge W s i k)
@@ -48,15 +48,15 @@ module _ {F : Field} (S : Shaped F) (x : ExactIn halves F) (s : List ℕ) where
     edges-under : (k : ℕ) → k ≤ entries F → Under (2 ^ 46) (sum k (edge W s i))
     edges-under k h = omega (arith, sum-under (2 ^ 31) k (edge W s i) (λ t l. edge-under t (omega arith)), S .few-entries)
 
-    mass-to-worth : (k : ℕ) → k ≤ entries F → Worth (suc halves) (massTo F s i k) (sum k (edge W s i))
+    mass-to-worth : (k : ℕ) → k ≤ entries F → Worth (suc u) (massTo F s i k) (sum k (edge W s i))
     unfolding massTo massAtEntry massAtEnd sum
-    mass-to-worth zero h = zero-worth (omega arith)
+    mass-to-worth zero h = zero-worth (omega (arith, x .to))
     mass-to-worth (suc k) h =
         add-once (bothFree F s k) (eqb (rowEnd F k) i) (eqb (columnEnd F k) i)
-        (λ r c. x .standard k (omega arith) (eqb-true (rowEnd F k) i r ∙ sym (eqb-true (columnEnd F k) i c)))
-        (mass-to-worth k (omega arith)) (magnitude-worth (quad-worth x k (omega arith))) (omega (arith, edges-under k (omega arith), size-under k (omega arith)))
+        (λ r c. x .exact .standard k (omega arith) (eqb-true (rowEnd F k) i r ∙ sym (eqb-true (columnEnd F k) i c)))
+        (mass-to-worth k (omega arith)) (magnitude-worth (quad-worth (x .exact) k (omega arith))) (omega (arith, edges-under k (omega arith), size-under k (omega arith)))
 
-    pub mass-worth : Worth (suc halves) (massOf F s i) (edge-mass (wholeOf halves F) s i)
+    pub mass-worth : Worth (suc u) (massOf F s i) (edge-mass (wholeOf u F) s i)
     unfolding massOf
     mass-worth = mass-to-worth (entries F) (omega arith)
 
@@ -66,7 +66,7 @@ module _ {F : Field} (S : Shaped F) (x : ExactIn halves F) (s : List ℕ) where
   mass = edge-mass W s
 
   -- a variable goes ahead of another exactly if it does in whole numbers
-  pub ahead-exact : (i j : ℕ) → (ahead (massOf F s) i j ≡ true) ↔ Ahead (wholeOf halves F) s i j
+  pub ahead-exact : (i j : ℕ) → (ahead (massOf F s) i j ≡ true) ↔ Ahead (wholeOf u F) s i j
   unfolding ahead
   ahead-exact i j =
       go (lt (massOf F s j) (massOf F s i)) (lt (massOf F s i) (massOf F s j)) (lt-worth (mass-worth j) (mass-worth i)) (lt-worth (mass-worth i) (mass-worth j))
@@ -110,8 +110,8 @@ module _ {first : ℕ → ℕ → Bool} {P : ℕ → ℕ → Type 0} (same : (i 
 -- ---- the ranks
 
 -- the ranks are a ranking by the edge mass in whole numbers, and the only one
-pub ranks-exact : {F : Field} → Shaped F → Finite F → ExactIn halves F → (s l : List ℕ) → (l ≡ ranks F s) ↔ RankedByMass (wholeOf halves F) s l
-ranks-exact {F} S N x s l = (
+pub ranks-exact : {u : ℕ} {F : Field} → Shaped F → Finite F → Serves u F → (s l : List ℕ) → (l ≡ ranks F s) ↔ RankedByMass (wholeOf u F) s l
+ranks-exact {u} {F} S N x s l = (
   (λ e.
       let R : RightlyRanked F s l = subst (RightlyRanked F s) (sym e) (ranks-right F s N) in
       record { each-once = R .each-once; falling = falling-at (ahead-exact S x s) l (R .falling) }),

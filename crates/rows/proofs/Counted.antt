@@ -33,7 +33,7 @@ module _ {u : ℕ} {F : Field} (exact : ExactIn u F) where
     -- every bound that any view gives is far from where floats round
     pub bound-under : (free : Whole → Whole) → ((q : Whole) → Under (2 ^ 31) q → Under (2 ^ 31) (free q)) → (w : View) (k : ℕ) → k ≤ entries F → Under (2 ^ 49) (boundTo free u F w i k)
     bound-under free f w k l =
-        omega (arith, reach (2 ^ 31) (wholeOf u F) weight-under free f w i (2 ^ 32) (weighs-under (exact .linear i h)) k l, shaped .few-entries)
+        omega (arith, reach (2 ^ 31) (wholeOf u F) weight-under free f w i (2 ^ 31) (weighs-under (exact .linear i h)) k l, shaped .few-entries)
 
     pub low-under : (w : View) (k : ℕ) → k ≤ entries F → Under (2 ^ 49) (boundTo min0 u F w i k)
     low-under = bound-under min0 (min0-under (2 ^ 31))

@@ -4,15 +4,13 @@ use mathlib.Core.Bool.{true, false}
 use mathlib.Core.List.{[], _∷_}
 use lib.IntN.{pos, negsuc}
 use lib.Ieee.{fin, add, mul, le, ofBits}
-use Rattle.weights.specs.Counts.{wholeIn}
-use Rattle.weights.specs.Worth.{magnitude}
 use Rattle.scratch.specs.All.{allBelow}
 use Rattle.scratch.specs.Over.{over}
 use Rattle.field.specs.declared.Counted.the-variants.{Counts}
 use Rattle.field.specs.declared.Grade.the-variants.{Inexact}
 use Rattle.field.specs.Field.{fieldOf}
 use Rattle.field.specs.Tests.{endsBelow, allRise, allFinite, fewVariables, listsMatch, inOrder, offDiagonal, weightsFinite, shapeTests, looseTests}
-use Rattle.field.specs.Grade.{weighs, allWeigh, isExact, gradeOf}
+use Rattle.field.specs.Grade.{isExact, gradeOf}
 use Rattle.calls.specs.Call.{called, run, keeping}
 use Rattle.shift.specs.Closing.{linearTo, keptTo, closedTo, closed}
 use Rattle.shift.specs.Call.{left, shiftCall}
@@ -30,5 +28,5 @@ pub worked : shiftCall
     (0 ∷ 0 ∷ 1 ∷ [])
     (1 ∷ 1 ∷ 1 ∷ [])
     (fin false 1 (pos 1) ∷ fin false 1 (pos 1) ∷ fin false 1 (pos 2) ∷ []))
-unfolding shiftCall called run keeping looseTests shapeTests fewVariables listsMatch inOrder offDiagonal weightsFinite endsBelow allRise allFinite allBelow gradeOf isExact allWeigh weighs wholeIn magnitude closed closedTo linearTo keptTo over add mul le ofBits
+unfolding shiftCall called run keeping looseTests shapeTests fewVariables listsMatch inOrder offDiagonal weightsFinite endsBelow allRise allFinite allBelow gradeOf isExact closed closedTo linearTo keptTo over add mul le ofBits
 worked = refl

@@ -13,8 +13,7 @@ firstEntries m G = fieldOf (G .linear) (take m (G .rows)) (take m (G .cols)) (ta
 abbrev pub shifted : Field → Field
 shifted F = firstEntries (closed F .kept) (closed F .lists)
 
--- c is a whole number of units and q of double units, 2^32 units either way at most; at u = 1073, "every 2c and every q is a whole number,
--- and every |c| and |q| is at most 2^31", with a diagonal or without
+-- 2c and q are whole numbers of the unit whose half is u, at most 2^32 and 2^31 of it either way, with a diagonal or without: the half of every unit that serves is such a u
 pub record WholeIn (u : ℕ) (F : Field) : Type 0 where
   pub linear : (i : ℕ) → i < variables F → Weighs u (2 ^ 32) (linearOf F i)
   pub quad : (k : ℕ) → k < entries F → Weighs (suc u) (2 ^ 31) (quadOf F k)

@@ -1,13 +1,13 @@
 -- The largest unit of which a float is a whole number: what the exponent and the trailing zeros of the significand say. Assumes nothing.
 use mathlib.Core.Path.{_≡_, refl, sym, ap, ap₂, _∙_, subst}
-use mathlib.Core.Bool.{Bool, true, false, not, _&&_, cond, true≢false}
+use mathlib.Core.Bool.{Bool, true, false, not, _&&_, cond}
 use Prim.Native.Nat.{ℕ, zero, suc, _+_, _-_, _*_, _/_, _%_, _^_, _≤_, _<_}
 use native.Mathlib.Nat.{zero-add, add-comm, mod-lt, suc-add, mul-pos, zero-lt-suc, div-add-mod', mul-mod-left}
 use native.Mathlib.Nat.{mul-assoc, mul-comm, mul-one, zero-mul, eq-of-mul-eq-mul-right, pow-suc, lt-of-not-le, not-le-of-lt, le-of-suc-le-suc}
 use native.Mathlib.Omega.{arith}
 use lib.IntN.{ℤ, pos, negsuc}
 use lib.Dec.{T, lit<, leb, ltb, eqb, leb→le, nleb→lt, le→leb, eqb→eq}
-use borrow.Author.Tests.{not-true, not-false}
+use borrow.Author.Tests.{not-false}
 use lib.Count.{trailingZeros, under}
 use native.Mathlib.Numerals.{add-one}
 use lib.Ieee.Bits.{ofBits-toBits}
@@ -155,7 +155,7 @@ abbrev pub digits : Float → ℕ
 digits x = toBits binary64 x % leading
 
 -- the grain of a double with the exponent's field F and the digits t
-unfoldable fromFields : ℕ → ℕ → ℕ
+unfoldable pub fromFields : ℕ → ℕ → ℕ
 fromFields zero zero = 4096
 fromFields zero (suc t) = trailingZeros 64 (suc t)
 fromFields (suc F) t = F + trailingZeros 64 (t + leading)
@@ -175,7 +175,7 @@ grain-fields s (suc F) t h n = go (eqb (suc F) (ones binary64)) (eqb t 0) n
         grain-odd binary64 53 s (hid binary64 + t) F (omega arith)
         ∙ ap (λ (x : ℕ). F + x) (sym (tz-more 53 11 (hid binary64 + t) (omega arith) (omega arith)) ∙ ap (trailingZeros 64) (add-comm (hid binary64) t))
 
-grain-bits : (x : Float) → T (fits binary64 x) → T (finite x) → grain binary64 x ≡ fromFields (exponent x) (digits x)
+pub grain-bits : (x : Float) → T (fits binary64 x) → T (finite x) → grain binary64 x ≡ fromFields (exponent x) (digits x)
 unfolding ofBits
 grain-bits x t n =
     let b = toBits binary64 x in
@@ -194,40 +194,3 @@ unfolding isNan
 finite-not-nan nan h = h
 finite-not-nan (inf s) h = tt
 finite-not-nan (fin s m e) h = tt
-
-pub grain-none : {r : Bool} (x : Float) → r ≡ finite x → not r ≡ true → 0 ≡ grain binary64 x
-unfolding grain
-grain-none {r} x e h = none x (sym e ∙ not-true r h)
-  where
-    none : (x : Float) → finite x ≡ false → 0 ≡ grain binary64 x
-    none nan h = refl
-    none (inf s) h = refl
-    none (fin s m d) h = absurd (true≢false h)
-
-from-zero : (F t : ℕ) → F ≡ 0 → t ≡ 0 → fromFields F t ≡ 4096
-unfolding fromFields
-from-zero F t e h = ap₂ fromFields e h
-
-from-small : (F t : ℕ) → F ≡ 0 → (t ≡ 0 → ⊥) → fromFields F t ≡ trailingZeros 64 t
-unfolding fromFields
-from-small zero zero e h = absurd (h refl)
-from-small zero (suc t) e h = refl
-from-small (suc F) t e h = absurd (omega arith)
-
-from-normal : (F t : ℕ) → (F ≡ 0 → ⊥) → fromFields F t ≡ F - 1 + trailingZeros 64 (t + leading)
-unfolding fromFields
-from-normal zero t h = absurd (h refl)
-from-normal (suc F) t h = ap (λ (x : ℕ). x + trailingZeros 64 (t + leading)) (pred-is F)
-  where
-    pred-is : (F : ℕ) → F ≡ suc F - 1
-    pred-is F = omega arith
-
-module _ (x : Float) (t : T (fits binary64 x)) (n : T (finite x)) where
-  pub grain-zero : exponent x ≡ 0 → digits x ≡ 0 → 4096 ≡ grain binary64 x
-  grain-zero e h = sym (grain-bits x t n ∙ from-zero _ _ e h)
-
-  pub grain-small : exponent x ≡ 0 → (digits x ≡ 0 → ⊥) → trailingZeros 64 (digits x) ≡ grain binary64 x
-  grain-small e h = sym (grain-bits x t n ∙ from-small _ _ e h)
-
-  pub grain-normal : (exponent x ≡ 0 → ⊥) → exponent x - 1 + trailingZeros 64 (digits x + leading) ≡ grain binary64 x
-  grain-normal h = sym (grain-bits x t n ∙ from-normal _ _ h)

@@ -4,3 +4,4 @@ pub mod Same
 pub mod Worth
 pub mod Sign
 pub mod GrainLaws
+pub mod PatternLaws

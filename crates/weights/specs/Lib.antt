@@ -1,3 +1,4 @@
 pub mod Counts
 pub mod Worth
 pub mod Grain
+pub mod Pattern

@@ -1,15 +1,16 @@
-// What is asked of one weight, for every f64: its half, its magnitude, whether it is finite, and the largest unit of which it is a whole number.
+// What is asked of one weight: of every f64 its half, its magnitude and whether it is finite; of a finite one its bits without the sign, and from them the units of which it is a whole number.
 ghost use mathlib.Core.Path.{_≡_};
+ghost use lib.Dec.{T};
 ghost use lib.Ieee.{binary64, mul};
 ghost use lib.Ieee.Scale.{finite};
 ghost use Rattle.weights.specs.Worth.{half64, magnitude as magnitudeOf};
-ghost use Rattle.weights.specs.Grain.{grain as grainOf};
+ghost use Rattle.weights.specs.Pattern.{pattern as patternOf, beyond as beyondOf, atZero};
 
 // 2^52, the weight of a significand's leading digit and of the exponent's field
 const LEADING: u64 = 4503599627370496;
 
-// how many values the exponent's field has
-const FIELDS: u64 = 2048;
+// 2^63, the weight of the sign
+const SIGN: u64 = 9223372036854775808;
 
 pub fn half(q: f64) -> f64
     ensures { λ r. ⌜ r ≡ mul binary64 half64 q ⌝ }
@@ -37,23 +38,24 @@ pub fn is_finite(x: f64) -> bool
     (bottom < x) & (x < top)
 }
 
-// The largest unit of which x is a whole number, and 0 where x is not finite.
-pub fn grain(x: f64) -> u64
-    ensures { λ r. ⌜ r ≡ grainOf binary64 x ⌝ }
+// The bits of |x|.
+pub fn pattern(x: f64) -> u64
+    requires { ⌜ T (finite x) ⌝ }
+    ensures { λ r. ⌜ r ≡ patternOf x ⌝ }
 {
-    if !is_finite(x) {
-        return 0;
-    }
-    let b = f64::to_bits(x);
-    let field = b / LEADING % FIELDS;
-    let digits = b % LEADING;
-    if field == 0 {
-        if digits == 0 {
-            4096
-        } else {
-            u64::trailing_zeros(digits) as u64
-        }
-    } else {
-        field - 1 + (u64::trailing_zeros(digits + LEADING) as u64)
-    }
+    f64::to_bits(x) % SIGN
+}
+
+// 4096 at a zero, which is whole in every unit; a sum with it, in place of a return, leaves no branch.
+fn at_zero(b: u64) -> u64
+    ensures { λ r. ⌜ r ≡ atZero b ⌝ }
+{
+    if b == 0 { 4096 } else { 0 }
+}
+
+// The weight with these bits is whole in the units below this number: one more than its grain, where it is not too small for the grade to care.
+pub fn beyond(b: u64) -> u64
+    ensures { λ r. ⌜ r ≡ beyondOf b ⌝ }
+{
+    b / LEADING + (u64::trailing_zeros(b % LEADING + LEADING) as u64) + at_zero(b)
 }

@@ -3,3 +3,4 @@ pub mod Held
 pub mod AtZero
 pub mod OneResult
 pub mod Swallowed
+pub mod Units

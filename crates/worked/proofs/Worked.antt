@@ -2,7 +2,7 @@
 use mathlib.Core.Path.{_≡_, refl}
 use mathlib.Core.List.{map}
 use lib.Ieee.{add, sub, mul, neg, le, lt, eq, ne, ofInt, ofBits}
-use Rattle.weights.specs.Counts.{wholeIn}
+use Rattle.weights.specs.Counts.{wholeIn, plus, minus}
 use Rattle.weights.specs.Worth.{magnitude}
 use Rattle.scratch.specs.All.{allBelow}
 use Rattle.scratch.specs.Over.{over}
@@ -13,7 +13,7 @@ use Rattle.expansion.specs.Sum as expansion
 use Rattle.constraints.specs.Triple.{flat, filled, triples}
 use Rattle.constraints.specs.Sorted as sorted
 use Rattle.field.specs.Tests.{endsBelow, allRise, allFinite, bytesSmall, fewVariables, listsMatch, inOrder, isFine, firstFrom, wrongAt, faultOf, offDiagonal, weightsFinite, startFits, floatsFit, wordsFit, shapeTests, looseTests, standardTests, readyTests}
-use Rattle.field.specs.Grade.{weighs, allWeigh, isExact, gradeOf}
+use Rattle.field.specs.Grade.{weighs, allWeigh, serves, firstOf, unitOf, isExact, gradeOf}
 use Rattle.calls.specs.Call.{called, run as staged, keeping}
 use Rattle.calls.specs.Values as values
 use Rattle.rows.specs.Row.{addTerm}
@@ -52,7 +52,7 @@ unfolding given expected
     pairs.pairsCall anchors.anchorsCall anchors.anchorTests
     propagation.propagateCall literals.propagationTests literals.constraintsFit literals.allFit
     readyTests standardTests looseTests shapeTests fewVariables listsMatch inOrder isFine firstFrom wrongAt faultOf offDiagonal weightsFinite startFits floatsFit wordsFit
-    endsBelow allRise allFinite bytesSmall allBelow gradeOf isExact allWeigh weighs wholeIn magnitude
+    endsBelow allRise allFinite bytesSmall allBelow gradeOf isExact unitOf firstOf serves allWeigh weighs wholeIn plus minus magnitude
     run.closure run.closureRun run.propagate run.work run.serve run.serveAll run.serveAt run.moveRow run.scanTo run.scanAt run.judged run.settle run.force run.flatTo
     upTo places placesFrom keep otherEnd rows.rowOf rows.rowTo rows.atEntry rows.atEnd addTerm
     small.smallParts small.solvedParts small.solvedPart

@@ -26,7 +26,7 @@ use Rattle.pairs.specs.declared.Paired.the-variants as paired
 use Rattle.pairs.specs.Call as pairs
 use Rattle.anchors.specs.Call as anchors
 use Rattle.propagation.specs.Call as propagation
-use Rattle.worked.specs.Fields.{nought, half, minus-half, minus-one, two, minus-two, four, minus-five, six, alone, joined, apart, opposed, swallowing, unbalanced, two-parts, overflowing, on-diagonal, with-zero, parted, popped, one-term, two-pairs, linked, at-tolerance, placed, cancelling}
+use Rattle.worked.specs.Fields.{nought, half, sixteenth, above-limit, minus-half, minus-one, two, minus-two, four, minus-five, six, alone, joined, apart, opposed, swallowing, unbalanced, two-parts, overflowing, on-diagonal, with-zero, parted, popped, one-term, two-pairs, linked, at-tolerance, placed, cancelling}
 
 -- a call, the field with its grade, the start values, what else it is given, and what it answers
 pub data Case : Type 0 where
@@ -66,6 +66,9 @@ cases =
     -- "c. c=0.5: 0. d. c=-0.5: 1."
     ∷ closes (alone (half ∷ [])) Exact (2 ∷ []) (0 ∷ []) 0
     ∷ closes (alone (minus-half ∷ [])) Exact (2 ∷ []) (1 ∷ []) 0
+    -- C-15: c=1/16 is exact, c=2^30+0.5 no longer
+    ∷ closes (alone (sixteenth ∷ [])) Exact (2 ∷ []) (0 ∷ []) 0
+    ∷ closes (alone (above-limit ∷ [])) Inexact (2 ∷ []) (0 ∷ []) 0
     -- "e. c=(0,0), (0,1) 2: lower exactly 0, nothing. f. (0,1) -2: upper exactly 0, nothing."
     ∷ closes (joined (nought ∷ nought ∷ []) two) Exact (2 ∷ 2 ∷ []) (2 ∷ 2 ∷ []) 0
     ∷ closes (joined (nought ∷ nought ∷ []) minus-two) Exact (2 ∷ 2 ∷ []) (2 ∷ 2 ∷ []) 0

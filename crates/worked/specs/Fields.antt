@@ -43,6 +43,13 @@ six = fin false 3 (pos 1)
 abbrev pub minus-quarter : Float
 minus-quarter = fin true 1 (negsuc 1)
 
+abbrev pub sixteenth : Float
+sixteenth = fin false 1 (negsuc 3)
+
+-- 2^30 + 0.5
+abbrev pub above-limit : Float
+above-limit = fin false 2147483649 (negsuc 0)
+
 -- ---- fields
 
 -- no entry

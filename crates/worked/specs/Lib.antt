@@ -3,3 +3,4 @@ pub mod Cases
 pub mod Held
 pub mod One
 pub mod Swallowed
+pub mod Units

@@ -115,18 +115,21 @@ fn scratch_short(case: &Case) -> bool {
     case.floats < floats || case.words < words
 }
 
-/// Exact: standard form, every 2c and q whole, every |c| and |q| at most 2^31.
+/// The smallest unit of 2^-20 to 2^20 of which every 2c and q is a whole multiple, at most 2^31 of it: each is tried.
+pub fn unit(case: &Case) -> Option<f64> {
+    let serves = |weight: f64, unit: f64| {
+        let count = weight / unit;
+        count.fract() == 0.0 && count.abs() <= 2f64.powi(31) && count * unit == weight
+    };
+    (-20..=20).map(|k| 2f64.powi(k)).find(|&unit| {
+        case.linear.iter().all(|&c| serves(c, unit / 2.0))
+            && case.weights.iter().all(|&q| serves(q, unit))
+    })
+}
+
+/// Exact: standard form, and some unit serves.
 pub fn exact(case: &Case) -> bool {
-    let limit = 2f64.powi(31);
-    !diagonal(case)
-        && case
-            .linear
-            .iter()
-            .all(|c| (2.0 * c).fract() == 0.0 && c.abs() <= limit)
-        && case
-            .weights
-            .iter()
-            .all(|q| q.fract() == 0.0 && q.abs() <= limit)
+    !diagonal(case) && unit(case).is_some()
 }
 
 pub fn grade(case: &Case) -> &'static str {

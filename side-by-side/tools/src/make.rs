@@ -63,6 +63,14 @@ pub fn put_field(case: &mut Case, field: Field) {
     case.weights = field.entries.iter().map(|e| e.2).collect();
 }
 
+/// Every weight times one power of two, 2^-23 to 2^28: some units and sizes are within the grade's limits, some beyond.
+pub fn scale(random: &mut Random, case: &mut Case) {
+    let factor = 2f64.powi(random.within(-23, 28) as i32);
+    for weight in case.linear.iter_mut().chain(&mut case.weights) {
+        *weight *= factor;
+    }
+}
+
 fn size(random: &mut Random, call: Call, small: bool) -> usize {
     use Call::{Heavy, LimitedProbe, Pairs, Probe};
     let slow = matches!(call, Heavy | LimitedProbe | Pairs | Probe);

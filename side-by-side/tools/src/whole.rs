@@ -1,26 +1,38 @@
-//! Document 01's whole-number definitions, counted in halves, for exact fields.
+//! Document 01's whole-number definitions, counted in the smallest unit that serves, for exact fields.
 
-use stream::Case;
+use stream::{table, Case};
 
-/// An exact field: 2c, and the entries with q.
+/// An exact field: its unit, and in units 2c, and the entries with q.
 pub struct Whole {
+    pub unit: f64,
     pub linear: Vec<i64>,
     pub entries: Vec<(usize, usize, i64)>,
 }
 
 impl Whole {
     pub fn of(case: &Case) -> Self {
-        Self::new(&case.linear, case.entries())
+        let unit = table::unit(case).expect("a unit serves an exact field");
+        Self::new(unit, &case.linear, case.entries())
     }
 
-    pub fn new(linear: &[f64], entries: impl Iterator<Item = (usize, usize, f64)>) -> Self {
+    pub fn new(
+        unit: f64,
+        linear: &[f64],
+        entries: impl Iterator<Item = (usize, usize, f64)>,
+    ) -> Self {
         Self {
-            linear: linear.iter().map(|&c| (2.0 * c) as i64).collect(),
-            entries: entries.map(|(i, j, q)| (i, j, q as i64)).collect(),
+            unit,
+            linear: linear.iter().map(|&c| (c / (unit / 2.0)) as i64).collect(),
+            entries: entries.map(|(i, j, q)| (i, j, (q / unit) as i64)).collect(),
         }
     }
 
-    /// 2f at the assignment whose bits are given.
+    /// So many half units, as a weight.
+    fn weight(&self, count: i64) -> f64 {
+        count as f64 * (self.unit / 2.0)
+    }
+
+    /// 2f, in units, at the assignment whose bits are given.
     pub fn twice_f(&self, x: usize) -> i64 {
         let bit = |i: usize| (x >> i) & 1 == 1;
         let linear = self.linear.iter().enumerate().filter(|(i, _)| bit(*i));
@@ -165,15 +177,15 @@ impl Whole {
                     return (count, found);
                 }
                 count += 1;
-                // Halves on both sides, so that the tolerance is the only rounding.
-                let tolerance = 1e-10 * ((mass[i] + mass[j]) as f64 / 2.0).max(1.0);
+                // Half units on both sides, so that the tolerance is the only rounding.
+                let tolerance = 1e-10 * self.weight(mass[i] + mass[j]).max(1.0);
                 let mut others = start.to_vec();
                 others[i] = 0;
                 others[j] = 0;
                 let both: Vec<_> = Self::completions(&others)
                     .into_iter()
                     .map(|z| {
-                        let at = |x: usize| self.twice_f(z | x) as f64 / 2.0;
+                        let at = |x: usize| self.weight(self.twice_f(z | x));
                         (at(1 << i | 1 << j) - at(0), at(1 << i) - at(1 << j))
                     })
                     .collect();

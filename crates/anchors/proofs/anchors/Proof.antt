@@ -20,7 +20,8 @@ enum-told : tie.Need-enum-told
 enum-told c = search needs
 
 graded-requires : tie.Need-graded-requires
-graded-requires c κs = let shaped = admitted-passes _ _ _ _ .0 (sym (c .before .before .admitted .ensures) ∙ c .enum-told .given .1) .shaped in shaped .rows-long ∙ sym (shaped .cols-long)
+graded-requires c κs =
+    let a = admitted-passes _ _ _ _ .0 (sym (c .before .before .admitted .ensures) ∙ c .enum-told .given .1) in record { shaped = a .shaped; finite-weights = a .finite-weights }
 
 work-requires : tie.Need-work-requires
 work-requires c κs = (admitted-passes _ _ _ _ .0 (sym (c .before .before .before .before .before .before .admitted .ensures) ∙ c .before .before .before .before .enum-told .given .1), c .before .before .before .graded .ensures)

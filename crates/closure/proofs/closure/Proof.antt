@@ -2,7 +2,7 @@
 use mathlib.Core.Path.{ap₂}
 use Rattle.field.specs.declared.Counted.the-variants.{Counts}
 use Rattle.calls.specs.Values.{counts}
-use Rattle.calls.proofs.Values.{tests-ready, ends-match}
+use Rattle.calls.proofs.Values.{tests-ready, ready-loose}
 use Rattle.calls.proofs.ValuesBy.{refused-call, done-call}
 use Rattle.run.specs.Run.{closure}
 use Rattle.closure.specs.Call.{flat}
@@ -26,7 +26,7 @@ enum-told : tie.Need-enum-told
 enum-told c = search needs
 
 graded-requires : tie.Need-graded-requires
-graded-requires c κs = ends-match (tests-ready (c .before .before .ready .ensures) (c .enum-told .given .1))
+graded-requires c κs = ready-loose (tests-ready (c .before .before .ready .ensures) (c .enum-told .given .1))
 
 work-requires : tie.Need-work-requires
 work-requires c κs = tests-ready (c .before .before .before .before .before .before .ready .ensures) (c .before .before .before .before .enum-told .given .1)

@@ -1,6 +1,6 @@
 -- `components` tests, grades, works and clears. Assumes nothing.
 use mathlib.Core.Path.{refl}
-use Rattle.calls.proofs.Values.{tests-ready, ends-match, refused-call, done-call}
+use Rattle.calls.proofs.Values.{tests-ready, ready-loose, refused-call, done-call}
 use borrow.Author.Needs.{needs}
 use Rattle.components.proofs.components.Statement.{statement}
 use Rattle.components.proofs.components.Tie as tie
@@ -21,7 +21,7 @@ enum-told : tie.Need-enum-told
 enum-told c = search needs
 
 graded-requires : tie.Need-graded-requires
-graded-requires c κs = ends-match (tests-ready (c .before .before .ready .ensures) (c .enum-told .given .1))
+graded-requires c κs = ready-loose (tests-ready (c .before .before .ready .ensures) (c .enum-told .given .1))
 
 work-requires : tie.Need-work-requires
 work-requires c κs = tests-ready (c .before .before .before .before .before .before .ready .ensures) (c .before .before .before .before .enum-told .given .1)

@@ -21,9 +21,7 @@ enum-told : tie.Need-enum-told
 enum-told c = search needs
 
 graded-requires : tie.Need-graded-requires
-graded-requires c κs =
-    let shaped = word-passes _ _ .0 (sym (c .before .before .tests .ensures) ∙ c .enum-told .given .1) .loose .shaped in
-    shaped .rows-long ∙ sym (shaped .cols-long)
+graded-requires c κs = word-passes _ _ .0 (sym (c .before .before .tests .ensures) ∙ c .enum-told .given .1) .loose
 
 find-requires : tie.Need-find-requires
 find-requires c κs =

@@ -1,7 +1,7 @@
 -- `pairs` tests, grades, works and clears, and refuses a list without room. Assumes nothing.
 use mathlib.Core.Path.{sym, _∙_}
 use lib.ListN.{length}
-use Rattle.field.proofs.Means.{ready-passes}
+use Rattle.field.proofs.Means.{ready-passes, sound-loose}
 use Rattle.pairs.proofs.CallLaws.{refused-call, done-call, full-call}
 use borrow.Author.Needs.{needs}
 use Rattle.pairs.proofs.pairs.Statement.{statement}
@@ -20,7 +20,7 @@ enum-told : tie.Need-enum-told
 enum-told c = search needs
 
 graded-requires : tie.Need-graded-requires
-graded-requires c κs = let shaped = ready-passes _ _ _ _ .0 (sym (c .before .before .ready .ensures) ∙ c .enum-told .given .1) .sound .shaped in shaped .rows-long ∙ sym (shaped .cols-long)
+graded-requires c κs = sound-loose (ready-passes _ _ _ _ .0 (sym (c .before .before .ready .ensures) ∙ c .enum-told .given .1) .sound)
 
 work-requires : tie.Need-work-requires
 work-requires c κs = ready-passes _ _ _ _ .0 (sym (c .before .before .before .before .before .before .ready .ensures) ∙ c .before .before .before .before .enum-told .given .1)

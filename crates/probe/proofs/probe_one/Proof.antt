@@ -2,6 +2,7 @@
 use mathlib.Core.Path.{refl, sym, ap, _∙_}
 use native.Mathlib.Omega.{arith}
 use lib.ListN.{length}
+use Rattle.field.proofs.Means.{sound-loose}
 use Rattle.probe.specs.Call.{newOnly, probeOne}
 use Rattle.probe.proofs.Laws.{probe-passes, refused-call, room-call, done-call}
 use borrow.Author.Needs.{needs}
@@ -51,8 +52,7 @@ returns-2 c =
 
 graded-requires : tie.Need-graded-requires
 graded-requires c κs =
-    let shaped = probe-passes _ _ _ _ _ _ .0 (sym (c .before .before .before .ready-to-probe .ensures) ∙ c .before .enum-told .given .1) .ready .sound .shaped in
-    shaped .rows-long ∙ sym (shaped .cols-long)
+    sound-loose (probe-passes _ _ _ _ _ _ .0 (sym (c .before .before .before .ready-to-probe .ensures) ∙ c .before .enum-told .given .1) .ready .sound)
 
 work-requires : tie.Need-work-requires
 work-requires c κs =

@@ -34,8 +34,7 @@ graded-requires : tie.Need-graded-requires
 graded-requires c κs =
     let at-enum-told = c .before .before .before .before in
     let at-loose = at-enum-told .before .before in
-    let shaped = loose-passes _ .0 (sym (at-loose .loose .ensures) ∙ at-enum-told .enum-told .given .1) .shaped in
-    shaped .rows-long ∙ sym (shaped .cols-long)
+    loose-passes _ .0 (sym (at-loose .loose .ensures) ∙ at-enum-told .enum-told .given .1)
 
 close-up-requires : tie.Need-close-up-requires
 close-up-requires c κs =

@@ -1,5 +1,6 @@
 //! Writes a stream of cases to standard output.
 //! Usage: `cases SEED COUNT [CALLS]` for random ones, `cases entries SEED COUNT [CALLS]` for random ones whose entries are broken,
+//! `cases units SEED COUNT [CALLS]` for random ones whose weights are scaled by one power of two, 2^-23 to 2^28,
 //! `cases recorded [CALLS]` for the recorded set; CALLS is a list of names with commas.
 
 use std::io::{self, BufWriter, Write};
@@ -16,12 +17,13 @@ fn main() -> io::Result<()> {
         return output.flush();
     }
     let broken = words.first().is_some_and(|word| word == "entries");
-    if broken {
+    let scaled = words.first().is_some_and(|word| word == "units");
+    if broken || scaled {
         words.remove(0);
     }
     let number = |at: usize, name: &str| -> u64 {
         let word = words.get(at).and_then(|word| word.parse().ok());
-        word.unwrap_or_else(|| panic!("{name} is a number: cases [entries] SEED COUNT [CALLS]"))
+        word.unwrap_or_else(|| panic!("{name} is a number: cases [entries|units] SEED COUNT [CALLS]"))
     };
     let (seed, count) = (number(0, "SEED"), number(1, "COUNT"));
     let calls = calls_named(words.get(2).map(String::as_str));
@@ -32,6 +34,9 @@ fn main() -> io::Result<()> {
         let mut case = make::random_case(&mut random, call, broken);
         if broken && call.has_field() {
             breaks::break_entries(&mut random, &mut case);
+        }
+        if scaled {
+            make::scale(&mut random, &mut case);
         }
         case.write(&mut output)?;
     }

@@ -183,8 +183,8 @@ fn reduced(case: &Case, whole: &Whole, line: &str) -> Result<(), String> {
             weight(parts[2]),
         )
     });
-    let smaller = Whole::new(&linear, entries);
-    let constant = part(line, "constant").map_or(0, |c| (2.0 * weight(c)) as i64);
+    let smaller = Whole::new(whole.unit, &linear, entries);
+    let constant = part(line, "constant").map_or(0, |c| (weight(c) / (whole.unit / 2.0)) as i64);
     let places: Vec<usize> = if case.call == Call::SubProblem {
         variables(line)
     } else {

@@ -32,7 +32,7 @@ add-at-5 c = search needs
 graded-requires : tie.Need-graded-requires
 graded-requires c κs =
     let start = c .before .before .before .before .before .before .before .before .before in
-    let shaped = start .pre .0 .remembers .placed .shaped in shaped .rows-long ∙ sym (shaped .cols-long)
+    record { shaped = start .pre .0 .remembers .placed .shaped; finite-weights = start .pre .0 .finite-weights }
 
 gather-requires : tie.Need-gather-requires
 gather-requires c κs = c .before .before .before .before .before .before .before .before .before .before .before .before .before .before .pre
