@@ -23,7 +23,7 @@ static void print(const char *call, ombradiec_answer answer, const char *list, s
 
 int main(void)
 {
-    double c[2] = {-5, -1}, q[1] = {4};
+    double c[2] = {-5, -1}, q[1] = {4}, bound = 0;
     uint8_t start[2] = {2, 2}, free_both[2] = {2, 2}, values[2] = {9, 9};
     uint16_t list[2] = {7, 7}, constraints[3] = {7, 7, 7};
     ombradiec_answer answer;
@@ -55,7 +55,14 @@ int main(void)
     print("pairs", answer, "ends", constraints[0], constraints[1]);
     printf("  kind %d\n", constraints[2]);
 
-    q[0] = 4;
+    c[0] = -5, q[0] = 4;
+    for (size_t variable = 0; variable < 3; variable++) {
+        answer = ombradiec_reason(FIELD, SLICE(free_both), variable, SLICE(list), &bound, SCRATCH);
+        printf("reason: refusal %d, count %zu, list %d %d, ground %d, unit %d, bound %.0f\n", OMBRADIEC_REFUSAL(answer),
+               OMBRADIEC_COUNT(answer), list[0], list[1], OMBRADIEC_GROUND(answer), OMBRADIEC_UNIT(answer), bound);
+    }
+
+    c[0] = -1;
     answer = ombradiec_probe_one(FIELD, SLICE(free_both), 0, 1, SLICE(values), SCRATCH);
     print("probe_one", answer, "values", values[0], values[1]);
     answer = ombradiec_probe_one(FIELD, SLICE(free_both), 0, 2, SLICE(values), SCRATCH);

@@ -26,7 +26,7 @@ extern "C" {
 #endif
 
 /* What a call answers, in one number: bits 0 to 7 the refusal, 8 to 15 the grade, 16 to 43 the count, 44 to 63 the
- * pairs examined. A refusal has neither a grade nor counts; of ROW, COLUMN, REPEAT and ORDER the count's bits hold the
+ * pairs examined, or of reason 4 times the unit and the ground. A refusal has neither a grade nor counts; of ROW, COLUMN, REPEAT and ORDER the count's bits hold the
  * position of the first entry at fault. */
 typedef uint64_t ombradiec_answer;
 
@@ -40,8 +40,12 @@ typedef uint64_t ombradiec_answer;
 #define OMBRADIEC_POSITION(answer) OMBRADIEC_COUNT(answer)
 /* of pairs: the pairs examined */
 #define OMBRADIEC_PAIRS(answer) ((size_t)((answer) >> 44))
+/* of reason: the ground, and k of the unit 2^(k - 20), from 0 to 40 */
+#define OMBRADIEC_GROUND(answer) ((int)((answer) >> 44 & 3))
+#define OMBRADIEC_UNIT(answer) ((int)((answer) >> 46))
 
 /* The refusals, tested in this order. Those up to SCRATCH change nothing lent; past it all of the scratch ends as zeros.
+ * INEXACT and UNFORCED are reason's, and leave its list and its bound.
  * ROW to ORDER are one test: at the first entry at fault the row is tested before the column, and both before its place.
  * 3, which stood for the four, is not given any more. */
 #define OMBRADIEC_DONE 0
@@ -56,6 +60,8 @@ typedef uint64_t ombradiec_answer;
 #define OMBRADIEC_START 6     /* the start values are not n long, or a byte is above 2 */
 #define OMBRADIEC_ARGUMENT 7  /* a probed variable, a probed value or a constraint is not as the call asks */
 #define OMBRADIEC_SCRATCH 8   /* a scratch is too short */
+#define OMBRADIEC_INEXACT 12  /* the field is inexact */
+#define OMBRADIEC_UNFORCED 13 /* the variable is not below n, or is free at the end */
 #define OMBRADIEC_ROOM 9      /* an answer list does not fit; each is all zeros then, so both lists of a probe */
 #define OMBRADIEC_CLASH 10    /* the constraints clash */
 
@@ -140,6 +146,21 @@ ombradiec_answer ombradiec_probe_one(const double *c, size_t c_len, const uint16
                                      const uint8_t *start, size_t start_len, size_t variable, uint8_t value,
                                      uint8_t *values, size_t values_len, double *f, size_t f_len, uint32_t *u,
                                      size_t u_len);
+
+/* The grounds of a value: given with the start values; a lower bound above 0, so that 1 would cost more, which makes it 0;
+ * an upper bound below 0, which makes it 1. */
+#define OMBRADIEC_GIVEN 0
+#define OMBRADIEC_LOWER 1
+#define OMBRADIEC_UPPER 2
+
+/* Says why `variable` has its value in the closure, which is not written: the ground; in `bound` the bound, a whole number of
+ * half units, 0 for a given variable; and at the front of `list` the neighbours whose values it counts as fixed, rising,
+ * and their count. With these values alone, and all else free, the bound is strict; each of them is given, or was forced
+ * earlier. The list may hold neighbours that the bound could do without. Only exact fields have reasons. */
+ombradiec_answer ombradiec_reason(const double *c, size_t c_len, const uint16_t *rows, size_t rows_len,
+                                  const uint16_t *cols, size_t cols_len, const double *q, size_t q_len,
+                                  const uint8_t *start, size_t start_len, size_t variable, uint16_t *list,
+                                  size_t list_len, double *bound, double *f, size_t f_len, uint32_t *u, size_t u_len);
 
 /* Puts what both probes of every free variable find into `values`, which is n long, and at the front of `constraints`,
  * sorted and without repeats, and counts the constraints; on an exact field every best completion obeys both. */

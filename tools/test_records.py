@@ -185,6 +185,87 @@ class Answer(unittest.TestCase):
         self.assertLessEqual(printed, set(numbers))
 
 
+CHAIN = "group bill-1 -5\ngroup bill-2 -1\ngroup index-7 1\ngroup log 0\npair bill-1 bill-2 4\npair bill-2 index-7 9\npair log index-7 -11\ngiven log 1\n"
+
+
+def recorded_reasons():
+    """The cases of `reason` that docs/CASES.md's stream records, each with its line: the field as text, the variable and the words."""
+    data, at = contents("crates", "replay", "stdin"), 0
+    for line in contents("crates", "replay", "stdout").decode("ascii").splitlines():
+        code, linear, rows, columns, weights, start, constraints = struct.unpack_from("<B6I", data, at)
+        variable, = struct.unpack_from("<Q", data, at + 45)
+        at += 77
+        c, at = struct.unpack_from(f"<{linear}d", data, at), at + 8 * linear
+        i, at = struct.unpack_from(f"<{rows}H", data, at), at + 2 * rows
+        j, at = struct.unpack_from(f"<{columns}H", data, at), at + 2 * columns
+        q, at = struct.unpack_from(f"<{weights}d", data, at), at + 8 * weights
+        values, at = data[at:at + start], at + start + 2 * constraints
+        if code == 16 and line.split()[0] in ("0", "12", "13"):
+            f = records.Field()
+            f.names, f.linear = [f"g{k}" for k in range(linear)], list(c)
+            f.entries = {(column, row): weight for row, column, weight in zip(i, j, q)}
+            f.given = {k: value for k, value in enumerate(values) if value < 2}
+            yield f, variable, line
+
+
+class Why(unittest.TestCase):
+    def test_down_to_given_groups(self):
+        answer = "grade exact\nx 0 1\nx 1 0\nx 2 1\nend 3\n"
+        lines = [
+            "index-7 goes into the second window: with bill-2 in the first and log in the second, moving it costs at least 4.5",
+            "bill-2 goes into the first window: with bill-1 in the second, moving it costs at least 1",
+            "bill-1 goes into the second window: wherever the others go, moving it costs at least 3",
+            "log is given in the second window",
+        ]
+        told = lambda *words: run("answer", "f", "--why", *words, given=answer, files={"f": CHAIN.encode()})
+        self.assertEqual(told("index-7"), (0, "".join(line + "\n" for line in lines).encode(), ""))
+        self.assertEqual(told("bill-2"), (0, "".join(line + "\n" for line in lines[1:3]).encode(), ""))
+        self.assertEqual(told("log"), (0, (lines[3] + "\n").encode(), ""))
+        self.assertEqual(told(), (0, "".join(lines[k] + "\n" for k in (2, 1, 0, 3)).encode(), ""))
+        self.assertEqual(told("menu"), (1, b"", "records: there is no group `menu` above\n"))
+        self.assertEqual(told("log", "bill-1")[0], 2)
+
+    def test_names_are_joined(self):
+        f = field("".join(f"group {name} -1\n" for name in "abcd") + "group t 1\n" + "".join(f"pair {name} t -1\n" for name in "abcd") + "given d 0\n")
+        self.assertEqual(
+            records.why(f, "grade exact\nx 0 1\nx 1 1\nx 2 1\nx 4 1\nend 4\n", "t").splitlines()[0],
+            "t goes into the second window: with d in the first and a, b and c in the second, moving it costs at least 0.5",
+        )
+
+    def test_no_reason(self):
+        for text, answer, name, words in (
+            ("group a 0.1\ngroup b 1e300\n", "grade inexact\nx 0 0\nx 1 0\nend 2\n", "a", "refused 12: the field is inexact"),
+            ("group a 0\n", "grade exact\nend 0\n", "a", "refused 13: the variable is none of the field, or is free at the end"),
+            ("group a 1\n", "grade exact\nend 0\n", "a", "the answer on standard input is not of this field"),
+            ("group a 1\n", "refused 5\n", "a", "refused 5: a weight is not finite"),
+        ):
+            with self.assertRaises(records.Fault) as caught:
+                records.why(field(text), answer, name)
+            self.assertEqual(str(caught.exception), words)
+
+    def test_as_the_call_has_it(self):
+        count = 0
+        for f, variable, line in recorded_reasons():
+            count += 1
+            parts = dict(word.split("=") for word in line.split() if "=" in word)
+            try:
+                told = records.Run(f)
+            except records.Fault:
+                self.assertEqual(line.split()[0], "12")
+                continue
+            if variable >= len(f.names) or told.values[variable] == 2:
+                self.assertEqual(line.split()[0], "13")
+                continue
+            ground = "given" if variable in f.given else ("lower", "upper")[told.values[variable]]
+            half_units = 0 if ground == "given" else told.bound(variable) / (told.unit / 2)
+            listed = [] if ground == "given" else sorted(told.listed[variable])
+            self.assertEqual(
+                (parts["ground"], records.Fraction(2) ** (int(parts["unit"]) - 20), struct.unpack(">d", bytes.fromhex(parts["bound"]))[0], parts["variables"]),
+                (ground, told.unit, half_units, ",".join(map(str, listed)) or "-"),
+            )
+        self.assertGreater(count, 100)
+
+
 class Shipped(unittest.TestCase):
     def test_example(self):
         text = contents("example", "plan.txt").decode()

@@ -24,11 +24,44 @@ pub struct Done {
     pub pairs: usize,
 }
 
+/// The ground of a value in the closure. A bound is a whole number of half units; see [`Reason::unit`].
+#[derive(Clone, Copy, Debug, PartialEq)]
+pub enum Ground {
+    /// It is given with the start values.
+    Given,
+    /// It is 0: the lower bound is above 0.
+    Lower(f64),
+    /// It is 1: the upper bound is below 0.
+    Upper(f64),
+}
+
+/// Why a variable has its value in the closure.
+#[derive(Clone, Copy, Debug, PartialEq)]
+pub struct Reason {
+    /// The ground, with its bound.
+    pub ground: Ground,
+    /// The smallest power of two from 2^-20 to 2^20 in which the field is exact.
+    pub unit: f64,
+    /// How many neighbours stand at the front of the list.
+    pub count: usize,
+}
+
+impl Reason {
+    /// The bound as the weights count it, 0 for a given variable: no rounding, since half a unit is a power of two.
+    pub fn bound(&self) -> f64 {
+        match self.ground {
+            Ground::Given => 0.0,
+            Ground::Lower(bound) | Ground::Upper(bound) => bound * (self.unit / 2.0),
+        }
+    }
+}
+
 /// Why a call gave no answer; tested in this order. The four that have a position are one test: they say what is wrong with
 /// the first entry at fault, its row before its column and both before its place; `at` counts
 /// [`Field::entries`](crate::Field::entries) from 0.
 ///
 /// No refusal changes a field or start values. The others up to [`Scratch`](Refusal::Scratch) change no answer list either;
+/// [`Inexact`](Refusal::Inexact) and [`Unforced`](Refusal::Unforced), which are [`reason`](crate::reason)'s, leave its list too.
 /// [`Room`](Refusal::Room) and [`Clash`](Refusal::Clash) are found only when the work is done.
 #[derive(Clone, Copy, Debug, PartialEq, Eq, PartialOrd, Ord, Hash)]
 pub enum Refusal {
@@ -66,6 +99,10 @@ pub enum Refusal {
     Argument,
     /// A scratch is too short; [`Scratch`](crate::Scratch) never is.
     Scratch,
+    /// The field is inexact, so that no value of it has a reason.
+    Inexact,
+    /// The variable is not below n, or is free at the end of the closure.
+    Unforced,
     /// An answer list does not fit. Then each answer list has lost what it held: [`Values`](crate::Values) are all free, and
     /// other lists all zeros.
     Room,
@@ -86,6 +123,8 @@ impl Refusal {
             8 => Refusal::Scratch,
             9 => Refusal::Room,
             10 => Refusal::Clash,
+            12 => Refusal::Inexact,
+            13 => Refusal::Unforced,
             14 => Refusal::Row { at },
             15 => Refusal::Column { at },
             16 => Refusal::Repeat { at },
@@ -115,6 +154,8 @@ impl Refusal {
             Refusal::Scratch => 8,
             Refusal::Room => 9,
             Refusal::Clash => 10,
+            Refusal::Inexact => 12,
+            Refusal::Unforced => 13,
         }
     }
 
@@ -154,6 +195,8 @@ impl fmt::Display for Refusal {
             Refusal::Start => "the start values are not one 0, 1 or 2 for each variable",
             Refusal::Argument => "a probed variable, a probed value or a constraint is not as the call asks",
             Refusal::Scratch => "a scratch is too short",
+            Refusal::Inexact => "the field is inexact",
+            Refusal::Unforced => "the variable is none of the field, or is free at the end",
             Refusal::Room => "an answer list does not fit",
             Refusal::Clash => "the constraints clash",
         })
@@ -176,6 +219,17 @@ pub(crate) fn read(answer: u64) -> Result<Done, Refusal> {
     }
 }
 
+/// Reads the number of a reason, where the ground and the unit stand in place of the pairs.
+pub(crate) fn read_reason(answer: u64, bound: f64) -> Result<Reason, Refusal> {
+    let done = read(answer)?;
+    let ground = match done.pairs % 4 {
+        0 => Ground::Given,
+        1 => Ground::Lower(bound),
+        _ => Ground::Upper(bound),
+    };
+    Ok(Reason { ground, unit: f64::powi(2.0, (done.pairs / 4) as i32 - 20), count: done.count })
+}
+
 #[cfg(test)]
 mod tests {
     use super::*;
@@ -187,9 +241,17 @@ mod tests {
     }
 
     #[test]
+    fn every_part_of_a_reason_is_read() {
+        let read_back = read_reason((4 * 30 + 2) << 44 | 7 << 16 | 1 << 8, -3.0);
+        assert_eq!(read_back, Ok(Reason { ground: Ground::Upper(-3.0), unit: 1024.0, count: 7 }));
+        assert_eq!(read_back.map(|reason| reason.bound()), Ok(-1536.0));
+        assert_eq!(read_reason(13, 5.0), Err(Refusal::Unforced));
+    }
+
+    #[test]
     fn every_refusal_is_read() {
         let read_back: Vec<_> = (1..=255).filter_map(|number| Refusal::of(number, 32_767)).collect();
-        assert_eq!(read_back.len(), 13);
+        assert_eq!(read_back.len(), 15);
         for refusal in read_back {
             let at = refusal.position().unwrap_or(0);
             assert_eq!(at, if refusal.number() < 14 { 0 } else { 32_767 });

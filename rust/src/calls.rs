@@ -1,6 +1,6 @@
 //! Each call, safe. In every `unsafe` block each pointer and length are those of one slice or vector that is borrowed for the
 //! call, so the memory is there, and what the library writes to overlaps nothing else. The library asks no more.
-use crate::answer::{read, Done, Refusal};
+use crate::answer::{read, read_reason, Done, Reason, Refusal};
 use crate::field::{Constraint, Field, Scratch, Values};
 use crate::library::*;
 
@@ -257,6 +257,58 @@ pub fn probe_one(
         u.len()
     );
     freed(answer, values)
+}
+
+/// Says why a variable has its value in the closure, which is not written: its ground with the bound, and at the front of
+/// `list` the neighbours whose values the bound counts as fixed, rising. With these values alone, and all else free, the bound
+/// is strict; each of them is given, or was forced earlier in the run. The list may hold neighbours that the bound could do
+/// without. Only exact fields have reasons.
+///
+/// ```
+/// use ombradiec::{reason, Field, Ground, Refusal, Scratch, Values};
+/// let (mut list, mut scratch, start) = ([9; 2], Scratch::new(), Values::free(2));
+/// let field = Field::new(&[-5.0, -1.0], &[(0, 1, 4.0)]);
+/// let why = reason(&field, &start, 1, &mut list, &mut scratch)?;
+/// assert_eq!((why.bound(), &list[..why.count]), (1.0, &[0][..]));
+/// assert!(matches!(why.ground, Ground::Lower(_)));
+///
+/// let undecided = Field::new(&[0.0, 0.0], &[(0, 1, 2.0)]);
+/// assert_eq!(reason(&undecided, &start, 0, &mut list, &mut scratch), Err(Refusal::Unforced));
+/// # Ok::<(), Refusal>(())
+/// ```
+pub fn reason(
+    field: &Field,
+    start: &Values,
+    variable: usize,
+    list: &mut [u16],
+    scratch: &mut Scratch,
+) -> Result<Reason, Refusal> {
+    let (f, u) = scratch.lend(field.variables(), field.quad.len());
+    let Field { linear: c, rows, cols, quad: q } = field;
+    let mut bound = 0.0;
+    let answer = unsafe {
+        ombradiec_reason(
+            c.as_ptr(),
+            c.len(),
+            rows.as_ptr(),
+            rows.len(),
+            cols.as_ptr(),
+            cols.len(),
+            q.as_ptr(),
+            q.len(),
+            start.0.as_ptr(),
+            start.0.len(),
+            variable,
+            list.as_mut_ptr(),
+            list.len(),
+            &mut bound,
+            f.as_mut_ptr(),
+            f.len(),
+            u.as_mut_ptr(),
+            u.len(),
+        )
+    };
+    read_reason(answer, bound)
 }
 
 /// Puts what both probes of every free variable find into `values`, and at the front of `constraints`, sorted and without

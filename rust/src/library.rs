@@ -132,6 +132,26 @@ extern "C" {
         u: *mut u32,
         u_len: usize,
     ) -> u64;
+    pub fn ombradiec_reason(
+        c: *const f64,
+        c_len: usize,
+        rows: *const u16,
+        rows_len: usize,
+        cols: *const u16,
+        cols_len: usize,
+        q: *const f64,
+        q_len: usize,
+        start: *const u8,
+        start_len: usize,
+        variable: usize,
+        list: *mut u16,
+        list_len: usize,
+        bound: *mut f64,
+        f: *mut f64,
+        f_len: usize,
+        u: *mut u32,
+        u_len: usize,
+    ) -> u64;
     pub fn ombradiec_heavy(
         c: *const f64,
         c_len: usize,

@@ -100,6 +100,39 @@ fn a_list_without_room_ends_as_zeros() {
 }
 
 #[test]
+fn a_reason_is_of_an_exact_field_and_a_forced_variable() {
+    let (mut list, mut scratch) = ([7; 2], Scratch::new());
+    let exact = Field::new(&[-5.0, -1.0, 0.0], &[(0, 1, 4.0)]);
+    let inexact = Field::new(&[0.1, 1e300], &[]);
+    assert_eq!(reason(&inexact, &Values::free(2), 9, &mut list, &mut scratch), Err(Refusal::Inexact));
+    assert_eq!(reason(&exact, &Values::free(3), 3, &mut list, &mut scratch), Err(Refusal::Unforced));
+    assert_eq!(reason(&exact, &Values::free(3), 2, &mut list, &mut scratch), Err(Refusal::Unforced));
+    assert_eq!(list, [7, 7]);
+    let mut none = [];
+    assert_eq!(reason(&exact, &Values::free(3), 1, &mut none, &mut scratch), Err(Refusal::Room));
+    let why = reason(&exact, &Values::free(3), 0, &mut none, &mut scratch).unwrap();
+    assert_eq!((why.ground, why.unit, why.count), (Ground::Upper(-6_291_456.0), f64::powi(2.0, -20), 0));
+    assert_eq!(why.bound(), -3.0);
+    let mut start = Values::free(3);
+    start.set(2, Some(true));
+    let why = reason(&exact, &start, 2, &mut list, &mut scratch).unwrap();
+    assert_eq!((why.ground, why.bound(), why.count), (Ground::Given, 0.0, 0));
+}
+
+#[test]
+fn following_reasons_ends_at_given_values() {
+    // each of a chain forces the next
+    let entries: Vec<_> = (1..40).map(|i| (i - 1, i, -4.0)).collect();
+    let field = Field::new(&[1.0; 40], &entries);
+    let (mut start, mut scratch, mut list) = (Values::free(40), Scratch::new(), [0; 2]);
+    start.set(0, Some(true));
+    for i in 1..40 {
+        let why = reason(&field, &start, i, &mut list, &mut scratch).unwrap();
+        assert_eq!(list[..why.count], [(i - 1) as u16]);
+    }
+}
+
+#[test]
 fn many_counts_are_read_back() {
     // 708 free variables have 250,278 pairs, of which 250,000 are examined; each gives two constraints.
     let linear: Vec<f64> = (0..708).map(|i| f64::from(i + 1)).collect();

@@ -9,6 +9,7 @@ use lines::Outcome;
 use lines::PAIRS;
 use lines::PREPROCESS;
 use lines::PROPAGATION;
+use lines::REASON;
 use lines::outcomes::answered;
 use lines::outcomes::checked;
 use lines::outcomes::counted;
@@ -16,6 +17,8 @@ use lines::outcomes::is_exact;
 use lines::outcomes::refused;
 use lines::outcomes::refusing;
 use pairs::Paired;
+use reason::Ground;
+use reason::Reasoned;
 use stream::head::Head;
 ghost use Prim.Native.Nat.{_≤_};
 
@@ -29,9 +32,46 @@ fn paired(answer: Paired) -> Outcome
                 is_exact: is_exact(grade),
                 count: count,
                 pairs: examined,
+                ground: 0,
+                unit: 0,
+                bound: 0.0,
             }
         }
         Paired::Refused(refusal) => refusing(refusal),
+    }
+}
+
+// A reason's ground, with its unit, bound and count.
+fn grounded(ground: u8, unit: u8, bound: f64, count: usize) -> Outcome
+    ensures { λ r. ⌜ r .number ≤ 17 ⌝ }
+{
+    Outcome {
+        number: 0,
+        is_exact: true,
+        count: count,
+        pairs: 0,
+        ground: ground,
+        unit: unit,
+        bound: bound,
+    }
+}
+
+fn because(ground: Ground, unit: u8, count: usize) -> Outcome
+    ensures { λ r. ⌜ r .number ≤ 17 ⌝ }
+{
+    match ground {
+        Ground::Given => grounded(0, unit, 0.0, count),
+        Ground::Lower(bound) => grounded(1, unit, bound, count),
+        Ground::Upper(bound) => grounded(2, unit, bound, count),
+    }
+}
+
+fn reasoned(answer: Reasoned) -> Outcome
+    ensures { λ r. ⌜ r .number ≤ 17 ⌝ }
+{
+    match answer {
+        Reasoned::Because(ground, unit, count) => because(ground, unit, count),
+        Reasoned::Refuses(refusal) => refusing(refusal),
     }
 }
 
@@ -98,6 +138,9 @@ fn in_list(
     }
     if head.code == NO_EFFECT {
         return counted(no_effect::no_effect(c, rows, cols, q, list, u));
+    }
+    if head.code == REASON {
+        return reasoned(reason::reason(c, rows, cols, q, start, head.variable, list, f, u));
     }
     refused(ABSENT)
 }

@@ -6,12 +6,12 @@ use mathlib.Core.List.{List, [], _∷_}
 use native.Mathlib.Omega.{arith}
 use lib.ListN.{getD}
 use Rattle.field.specs.declared.Refusal.{Refusal}
-use Rattle.field.specs.declared.Refusal.the-variants.{Variables, Lists, Row, Column, Repeat, Order, Diagonal, Weights, Start, Argument, Scratch, Room, Clash}
+use Rattle.field.specs.declared.Refusal.the-variants.{Variables, Lists, Row, Column, Repeat, Order, Diagonal, Weights, Start, Argument, Scratch, Room, Clash, Inexact, Unforced}
 use Rattle.field.specs.Answers.{numberOf, positionOf}
 
--- 3, 11, 12 and 13 are no refusal's
+-- 3 and 11 are no refusal's
 named : ℕ → ℕ → Refusal
-named number k = getD (Variables ∷ Lists ∷ Clash ∷ Diagonal ∷ Weights ∷ Start ∷ Argument ∷ Scratch ∷ Room ∷ Clash ∷ Clash ∷ Clash ∷ Clash ∷ Row k ∷ Column k ∷ Repeat k ∷ Order k ∷ []) (number - 1) Clash
+named number k = getD (Variables ∷ Lists ∷ Clash ∷ Diagonal ∷ Weights ∷ Start ∷ Argument ∷ Scratch ∷ Room ∷ Clash ∷ Clash ∷ Inexact ∷ Unforced ∷ Row k ∷ Column k ∷ Repeat k ∷ Order k ∷ []) (number - 1) Clash
 
 named-number : (r : Refusal) → named (numberOf r) (positionOf r) ≡ r
 unfolding named
@@ -28,6 +28,8 @@ named-number Argument = refl
 named-number Scratch = refl
 named-number Room = refl
 named-number Clash = refl
+named-number Inexact = refl
+named-number Unforced = refl
 
 -- equal numbers and equal positions name one refusal
 pub number-names : (r s : Refusal) → numberOf r ≡ numberOf s → positionOf r ≡ positionOf s → r ≡ s
@@ -48,6 +50,8 @@ number-most Argument = omega arith
 number-most Scratch = omega arith
 number-most Room = omega arith
 number-most Clash = omega arith
+number-most Inexact = omega arith
+number-most Unforced = omega arith
 
 pub number-other : (r : Refusal) → (numberOf r ≢ 3) × (numberOf r ≢ 11)
 number-other Variables = ((λ e. omega arith), λ e. omega arith)
@@ -63,3 +67,5 @@ number-other Argument = ((λ e. omega arith), λ e. omega arith)
 number-other Scratch = ((λ e. omega arith), λ e. omega arith)
 number-other Room = ((λ e. omega arith), λ e. omega arith)
 number-other Clash = ((λ e. omega arith), λ e. omega arith)
+number-other Inexact = ((λ e. omega arith), λ e. omega arith)
+number-other Unforced = ((λ e. omega arith), λ e. omega arith)

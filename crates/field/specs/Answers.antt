@@ -1,7 +1,7 @@
--- The table's number of each answer (document 01, "Answers, tested in this order"; document 02, C-12), and the position that a refusal names. Assumes nothing.
+-- The table's number of each answer (document 01, "Answers, tested in this order"; document 02, C-11 and C-12), and the position that a refusal names. Assumes nothing.
 use Prim.Native.Nat.{ℕ}
 use Rattle.field.specs.declared.Refusal.{Refusal}
-use Rattle.field.specs.declared.Refusal.the-variants.{Variables, Lists, Row, Column, Repeat, Order, Diagonal, Weights, Start, Argument, Scratch, Room, Clash}
+use Rattle.field.specs.declared.Refusal.the-variants.{Variables, Lists, Row, Column, Repeat, Order, Diagonal, Weights, Start, Argument, Scratch, Room, Clash, Inexact, Unforced}
 use Rattle.field.specs.declared.Checked.{Checked}
 use Rattle.field.specs.declared.Checked.the-variants.{Passed, Failed}
 use Rattle.field.specs.declared.Answer.{Answer}
@@ -23,6 +23,8 @@ numberOf Argument = 7
 numberOf Scratch = 8
 numberOf Room = 9
 numberOf Clash = 10
+numberOf Inexact = 12
+numberOf Unforced = 13
 
 -- "the position of the first entry at fault", from 0; 0 for a refusal that names none
 abbrev pub positionOf : Refusal → ℕ
@@ -39,6 +41,8 @@ positionOf Argument = 0
 positionOf Scratch = 0
 positionOf Room = 0
 positionOf Clash = 0
+positionOf Inexact = 0
+positionOf Unforced = 0
 
 abbrev pub checkedNumber : Checked → ℕ
 checkedNumber Passed = 0

@@ -28,6 +28,8 @@ pub enum Refusal {
     Scratch,
     Room,
     Clash,
+    Inexact,
+    Unforced,
 }
 
 impl Refusal {
@@ -48,6 +50,8 @@ impl Refusal {
             Refusal::Scratch => 8,
             Refusal::Room => 9,
             Refusal::Clash => 10,
+            Refusal::Inexact => 12,
+            Refusal::Unforced => 13,
         }
     }
 
@@ -69,6 +73,8 @@ impl Refusal {
             Refusal::Scratch => 0,
             Refusal::Room => 0,
             Refusal::Clash => 0,
+            Refusal::Inexact => 0,
+            Refusal::Unforced => 0,
         }
     }
 }

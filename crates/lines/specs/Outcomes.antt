@@ -2,6 +2,7 @@
 use Prim.Native.Nat.{ℕ}
 use mathlib.Core.Bool.{Bool, true, false, _&&_}
 use lib.Dec.{leb}
+use Rattle.weights.specs.Worth.{zero64}
 use Rattle.field.specs.declared.Grade.{Grade}
 use Rattle.field.specs.declared.Grade.the-variants.{Exact, Inexact}
 use Rattle.field.specs.declared.Refusal.{Refusal}
@@ -15,7 +16,7 @@ use Rattle.field.specs.Answers.{numberOf, positionOf}
 use Rattle.lines.specs.declared.Outcome.{Outcome}
 
 abbrev pub outcome : ℕ → Bool → ℕ → ℕ → Outcome
-outcome number exact count pairs = record { number = number; «is_exact» = exact; count = count; pairs = pairs }
+outcome number exact count pairs = record { number = number; «is_exact» = exact; count = count; pairs = pairs; ground = 0; unit = 0; bound = zero64 }
 
 abbrev pub isExact : Grade → Bool
 isExact Exact = true

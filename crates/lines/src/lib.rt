@@ -1,7 +1,9 @@
 // The words of an answer's line, in the order of docs/CASES.md, and which call has which.
 pub mod outcomes;
+mod reasoned;
 pub mod shifted;
 
+use crate::reasoned::put_reason;
 use stream::lists::all_bytes;
 use stream::lists::all_floats;
 use stream::lists::all_shorts;
@@ -47,6 +49,8 @@ pub const NO_EFFECT: u8 = 12;
 
 pub const SHIFT: u8 = 13;
 
+pub const REASON: u8 = 16;
+
 // The number of a call that is not here.
 pub const ABSENT: u32 = 11;
 
@@ -54,6 +58,11 @@ pub const ABSENT: u32 = 11;
 const ROW: u32 = 14;
 
 const ORDER: u32 = 17;
+
+// The first and the last number of a refusal that leaves the answer list as it was, and the scratch as zeros.
+const INEXACT: u32 = 12;
+
+const UNFORCED: u32 = 13;
 
 // What lent slices hold before a call; none can be part of an answer.
 pub const FLOAT: f64 = 165.5;
@@ -64,12 +73,16 @@ pub const BYTE: u8 = 165;
 
 pub const SHORT: u16 = 42_405;
 
-// What a call answered: the number, and on 0 the grade, the count of items and the count of pairs; on 14 to 17 the count is a position.
+// What a call answered: the number, and on 0 the grade, the count of items, the count of pairs, and a reason's ground, unit and bound; on 14 to 17 the
+// count is a position. A ground is 0 given, 1 lower, 2 upper.
 pub struct Outcome {
     pub number: u32,
     pub is_exact: bool,
     pub count: usize,
     pub pairs: usize,
+    pub ground: u8,
+    pub unit: u8,
+    pub bound: f64,
 }
 
 // Whether a refusal names the position of an entry.
@@ -202,11 +215,22 @@ fn end_of(count: usize, in_triples: bool, long: usize) -> usize
     3 * count
 }
 
+// 12 and 13 leave the answer list too.
+fn leaves_list(number: u32) -> bool {
+    if is_early(number) {
+        return true;
+    }
+    if number < INEXACT {
+        return false;
+    }
+    number <= UNFORCED
+}
+
 // An answer list that a refusal left.
 fn put_left(out: &mut [u8], used: usize, number: u32, list: &[u16]) -> usize
     ensures { λ r. ⌜ r ≤ length (after out) ⌝ }
 {
-    if is_early(number) {
+    if leaves_list(number) {
         let is_kept = all_shorts(list, SHORT);
         return put_promise(out, used, b"kept", is_kept);
     }
@@ -255,10 +279,17 @@ fn put_constraints(out: &mut [u8], used: usize, code: u8, outcome: Outcome, list
     put_answer_list(out, used, b" constraints=", outcome, list, true)
 }
 
+fn has_variables(code: u8) -> bool {
+    if code == REASON {
+        return true;
+    }
+    is_among(code, ANCHORS, NO_EFFECT)
+}
+
 fn put_variables(out: &mut [u8], used: usize, code: u8, outcome: Outcome, list: &[u16]) -> usize
     ensures { λ r. ⌜ r ≤ length (after out) ⌝ }
 {
-    if !is_among(code, ANCHORS, NO_EFFECT) {
+    if !has_variables(code) {
         return least(used, out.len());
     }
     put_answer_list(out, used, b" variables=", outcome, list, false)
@@ -286,6 +317,9 @@ fn put_found(out: &mut [u8], used: usize, code: u8, number: u32, found: &[u8]) -
 fn has_floats(code: u8) -> bool {
     if code == PROPAGATION {
         return false;
+    }
+    if code == REASON {
+        return true;
     }
     code < NO_EFFECT
 }
@@ -341,7 +375,8 @@ fn put_answers(
     let pairs = put_pairs(out, flat, code, outcome);
     let constraints = put_constraints(out, pairs, code, outcome, list);
     let values = put_found(out, constraints, code, outcome.number, found);
-    put_variables(out, values, code, outcome, list)
+    let ground = put_reason(out, values, code, outcome);
+    put_variables(out, ground, code, outcome, list)
 }
 
 // The whole line of a call that keeps the field; the start values stood in the contents from `at` on.

@@ -27,6 +27,9 @@ pub fn refused(number: u32) -> Outcome
         is_exact: false,
         count: 0,
         pairs: 0,
+        ground: 0,
+        unit: 0,
+        bound: 0.0,
     }
 }
 
@@ -39,6 +42,9 @@ pub fn refusing(refusal: Refusal) -> Outcome
         is_exact: false,
         count: refusal.position(),
         pairs: 0,
+        ground: 0,
+        unit: 0,
+        bound: 0.0,
     }
 }
 
@@ -52,6 +58,9 @@ pub fn answered(answer: Answer) -> Outcome
             is_exact: is_exact(grade),
             count: 0,
             pairs: 0,
+            ground: 0,
+            unit: 0,
+            bound: 0.0,
         },
         Answer::Refused(refusal) => refusing(refusal),
     }
@@ -78,6 +87,9 @@ pub fn counted(answer: Counted) -> Outcome
                 is_exact: is_exact(grade),
                 count: count,
                 pairs: 0,
+                ground: 0,
+                unit: 0,
+                bound: 0.0,
             }
         }
         Counted::Refuses(refusal) => refusing(refusal),

@@ -1,6 +1,6 @@
 -- Every count that a call answers has room in its number; a refusal's count is its position. Assumes nothing.
 use Prim.Native.Nat.{ℕ, zero, suc, _≤_, _<_}
-use mathlib.Core.Path.{_≡_, ap}
+use mathlib.Core.Path.{_≡_, ap, _∙_}
 use mathlib.Core.Bool.{Bool, true, false, cond}
 use mathlib.Core.List.{List, [], _∷_}
 use native.Mathlib.Omega.{arith}
@@ -32,8 +32,12 @@ use Rattle.pairs.specs.declared.Paired.the-variants.{Refused}
 use Rattle.pairs.specs.Listing.{examined, freePairs, allowed, found}
 use Rattle.pairs.specs.Call as pairing
 use Rattle.pairs.proofs.ListLaws.{few-found}
-use Rattle.packing.specs.Layout.{countOf, pairedCount, pairsExamined}
-use Rattle.ombradiec.specs.Reading.{Few}
+use Rattle.reason.specs.declared.Reasoned.{Reasoned}
+use Rattle.reason.specs.declared.Reasoned.the-variants as reasoned
+use Rattle.reason.specs.Call as reasoning
+use Rattle.reason.proofs.Laws.{list-few, unit-few}
+use Rattle.packing.specs.Layout.{countOf, pairedCount, pairsExamined, reasonedCount, reasonedUnit, boundAfter}
+use Rattle.ombradiec.specs.Reading.{Few, FewListed}
 use Rattle.ombradiec.proofs.Positions.{word-near, anchor-near}
 
 -- ---- closure: at most n
@@ -121,3 +125,25 @@ module _ (F : Field) (s : List ℕ) (limit : ℕ) (l : List ℕ) (f : List Float
     count = omega (arith, pairs-fit .count, ap (λ (x : pairing.Left). pairedCount (x .answer)) e);
     pairs = omega (arith, pairs-fit .pairs, ap (λ (x : pairing.Left). pairsExamined (x .answer)) e);
   }
+
+-- ---- reason: at most n, and a unit of the 41
+
+module _ (F : Field) (s : List ℕ) (i : ℕ) (l : List ℕ) (f : List Float) (u : List ℕ) where
+  pub reason-fits : FewListed (reasoning.reasonCall F s i l f u .answer)
+  unfolding reasoning.reasonCall
+  reason-fits =
+      answer-has reasoned.Refuses _ (readyTests F s (length f) (length u)) _ _ FewListed
+      (λ r e. record { count = omega (arith, ready-near F s (length f) (length u) r e); unit = omega arith })
+      (record { count = omega arith; unit = omega arith }, (record { count = omega arith; unit = omega arith }, (record { count = omega arith; unit = omega arith }, tt))) (λ e.
+      record { count = omega (arith, ready-passes F s (length f) (length u) .0 e .sound .shaped .few-variables, list-few F s i); unit = omega (arith, unit-few F) })
+
+  pub reason-few : {a : Reasoned} {l′ : List ℕ} {f′ : List Float} {u′ : List ℕ} → reasoning.left a l′ f′ u′ ≡ reasoning.reasonCall F s i l f u → FewListed a
+  reason-few e = record {
+    count = omega (arith, reason-fits .count, ap (λ (x : reasoning.Left). reasonedCount (x .answer)) e);
+    unit = omega (arith, reason-fits .unit, ap (λ (x : reasoning.Left). reasonedUnit (x .answer)) e);
+  }
+
+  -- the bound that is given beside the number
+  pub bound-is : {a : Reasoned} {l′ : List ℕ} {f′ : List Float} {u′ : List ℕ} (x : Float) {y : Float} → reasoning.left a l′ f′ u′ ≡ reasoning.reasonCall F s i l f u → y ≡ boundAfter a x
+      → y ≡ boundAfter (reasoning.reasonCall F s i l f u .answer) x
+  bound-is x e p = p ∙ ap (λ (z : reasoning.Left). boundAfter (z .answer) x) e

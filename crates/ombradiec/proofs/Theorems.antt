@@ -18,14 +18,15 @@ use Rattle.shift.specs.Call as shifting
 use Rattle.anchors.specs.Call as anchoring
 use Rattle.pairs.specs.Call as pairing
 use Rattle.probe.specs.Call as probing
+use Rattle.reason.specs.Call as reasoning
 use Rattle.probes.specs.Call as searching
 use Rattle.propagation.specs.Call as propagating
-use Rattle.packing.specs.Layout.{Reads, packedChecked, checkedCount, packedAnswer, packedCounted, packedPaired, pairedGrade, pairedCount, pairsExamined}
+use Rattle.packing.specs.Layout.{Reads, packedChecked, checkedCount, packedAnswer, packedCounted, packedPaired, pairedGrade, pairedCount, pairsExamined, packedReasoned}
 use Rattle.ombradiec.specs.Exported.{Exported}
-use Rattle.ombradiec.specs.Reading.{AnswerRead, CountRead}
-use Rattle.packing.proofs.Reading.{checked-reads, answer-reads, counted-reads, paired-reads}
+use Rattle.ombradiec.specs.Reading.{AnswerRead, CountRead, ReasonRead}
+use Rattle.packing.proofs.Reading.{checked-reads, answer-reads, counted-reads, paired-reads, reasoned-reads}
 use Rattle.ombradiec.proofs.Positions.{values-fit, probe-one-fits, propagate-fits}
-use Rattle.ombradiec.proofs.Counts.{closure-fits, no-effect-fits, shift-fits, anchors-fit, pairs-fit}
+use Rattle.ombradiec.proofs.Counts.{closure-fits, no-effect-fits, shift-fits, anchors-fit, pairs-fit, reason-fits}
 use Rattle.ombradiec.proofs.Probed.{probe-fits, probe-limited-fits}
 
 -- ---- any call: `answerIn` takes the answer from the record of what a call leaves
@@ -86,6 +87,11 @@ module _ (F : Field) (s : List ℕ) (f : List Float) (u : List ℕ) {s′ : List
       → let a = pairing.pairsCall F s limit l f u .answer in Reads r (pairing.pairedNumber a) (pairedGrade a) (pairedCount a) (pairsExamined a)
   pairs-reads limit l e =
       rw (number-is (λ (x : pairing.Left). x .answer) (λ a. refl) e) (paired-reads (pairing.pairsCall F s limit l f u .answer) (pairs-fit F s limit l f u .count))
+
+-- of a reason, with the unit and the ground in one part
+pub reason-reads : (F : Field) (s : List ℕ) (i : ℕ) (l : List ℕ) (f : List Float) (u : List ℕ) {l′ : List ℕ} {f′ : List Float} {u′ : List ℕ} {r : ℕ}
+    → Exported packedReasoned (λ a. reasoning.left a l′ f′ u′) r (reasoning.reasonCall F s i l f u) → ReasonRead (reasoning.reasonCall F s i l f u .answer) r
+reason-reads F s i l f u e = rw (number-is (λ (x : reasoning.Left). x .answer) (λ a. refl) e) (reasoned-reads (reasoning.reasonCall F s i l f u .answer) (reason-fits F s i l f u .count))
 
 pub no-effect-reads : (F : Field) (l u : List ℕ) {l′ u′ : List ℕ} {r : ℕ} → Exported packedCounted (λ a. effectless.left a l′ u′) r (effectless.noEffectCall F l u)
     → CountRead (effectless.noEffectCall F l u .answer) r

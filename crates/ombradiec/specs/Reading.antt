@@ -4,7 +4,9 @@ use Rattle.field.specs.declared.Answer.{Answer}
 use Rattle.field.specs.declared.Counted.{Counted}
 use Rattle.field.specs.Answers.{answerNumber, countedNumber}
 use Rattle.pairs.specs.declared.Paired.{Paired}
-use Rattle.packing.specs.Layout.{Reads, answerGrade, answerCount, countedGrade, countOf, pairedCount, pairsExamined}
+use Rattle.packing.specs.Layout.{Reads, answerGrade, answerCount, countedGrade, countOf, pairedCount, pairsExamined, reasonedGrade, reasonedCount, reasonedUnit, reasonedParts}
+use Rattle.reason.specs.declared.Reasoned.{Reasoned}
+use Rattle.reason.specs.Call.{reasonedNumber}
 
 -- the refusal and the grade of the answer, and no count but the position that a refusal names
 abbrev pub AnswerRead : Answer → ℕ → Type 0
@@ -18,3 +20,12 @@ CountRead a r = Reads r (countedNumber a) (countedGrade a) (countOf a) 0
 pub record Few (a : Paired) : Type 0 where
   pub count : pairedCount a < 0x1000_0000
   pub pairs : pairsExamined a < 0x10_0000
+
+-- of a reason: no grade but exact, the items listed, and 4 times the unit with the ground
+abbrev pub ReasonRead : Reasoned → ℕ → Type 0
+ReasonRead a r = Reads r (reasonedNumber a) (reasonedGrade a) (reasonedCount a) (reasonedParts a)
+
+-- the count and the unit of a reason have room
+pub record FewListed (a : Reasoned) : Type 0 where
+  pub count : reasonedCount a < 0x1000_0000
+  pub unit : reasonedUnit a < 256

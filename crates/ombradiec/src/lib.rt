@@ -1,8 +1,11 @@
 // The public calls for programs in C and Rust: each exported function is the call of its crate, and answers with one number.
+use packing::bound_after;
 use packing::pack_answer;
 use packing::pack_checked;
 use packing::pack_counted;
 use packing::pack_paired;
+use packing::pack_reasoned;
+ghost use mathlib.Core.Path.{_≡_};
 ghost use Rattle.scratch.specs.Lent.{before, after};
 ghost use Rattle.field.specs.Field.{given};
 ghost use Rattle.calls.specs.Values.{left};
@@ -16,9 +19,10 @@ ghost use Rattle.shift.specs.Call as shifting;
 ghost use Rattle.anchors.specs.Call as anchoring;
 ghost use Rattle.pairs.specs.Call as pairing;
 ghost use Rattle.probe.specs.Call as probing;
+ghost use Rattle.reason.specs.Call as reasoning;
 ghost use Rattle.probes.specs.Call as searching;
 ghost use Rattle.propagation.specs.Call as propagating;
-ghost use Rattle.packing.specs.Layout.{packedChecked, packedAnswer, packedCounted, packedPaired};
+ghost use Rattle.packing.specs.Layout.{packedChecked, packedAnswer, packedCounted, packedPaired, packedReasoned, boundAfter};
 ghost use Rattle.ombradiec.specs.Exported.{Exported};
 
 // The gradient closure, and how many free variables have a flat row at its end.
@@ -166,6 +170,28 @@ pub extern "C" fn ombradiec_probe_one(
     ensures { λ r. ⌜ Exported packedAnswer (λ a. probing.left a (after values) (after f) (after u)) r (probing.probeOneCall (given c rows cols q) (before start) variable value (before values) (before f) (before u)) ⌝ }
 {
     pack_answer(probe::probe_one(c, rows, cols, q, start, variable, value, values, f, u))
+}
+
+// Why a variable has its value in the closure; the bound goes into `bound`, which a refusal leaves.
+#[no_mangle]
+pub extern "C" fn ombradiec_reason(
+    c: &[f64],
+    rows: &[u16],
+    cols: &[u16],
+    q: &[f64],
+    start: &[u8],
+    variable: usize,
+    list: &mut [u16],
+    bound: &mut f64,
+    f: &mut [f64],
+    u: &mut [u32],
+) -> u64
+    ensures { λ r. ⌜ Exported packedReasoned (λ a. reasoning.left a (after list) (after f) (after u)) r (reasoning.reasonCall (given c rows cols q) (before start) variable (before list) (before f) (before u)) ⌝ }
+    ensures { λ _. ⌜ after bound ≡ boundAfter (reasoning.reasonCall (given c rows cols q) (before start) variable (before list) (before f) (before u) .answer) (before bound) ⌝ }
+{
+    let answer = reason::reason(c, rows, cols, q, start, variable, list, f, u);
+    *bound = bound_after(answer, *bound);
+    pack_reasoned(answer)
 }
 
 // What both probes of every free variable find.

@@ -1,5 +1,6 @@
 -- Refusal, position, grade and counts are read back from the number of an answer. Assumes nothing.
-use Prim.Native.Nat.{ℕ, _≤_, _<_}
+use Prim.Native.Nat.{ℕ, _+_, _*_, _/_, _%_, _≤_, _<_}
+use mathlib.Core.Path.{_≡_, sym, ap, _∙_}
 use native.Mathlib.Omega.{arith}
 use Rattle.field.specs.declared.Grade.{Grade}
 use Rattle.field.specs.declared.Grade.the-variants.{Exact, Inexact}
@@ -13,9 +14,14 @@ use Rattle.field.specs.declared.Counted.the-variants.{Counts, Refuses}
 use Rattle.pairs.specs.declared.Paired.{Paired}
 use Rattle.pairs.specs.declared.Paired.the-variants as pairs
 use Rattle.pairs.specs.Call.{pairedNumber}
+use Rattle.reason.specs.declared.Ground.{Ground}
+use Rattle.reason.specs.declared.Ground.the-variants.{Given, Lower, Upper}
+use Rattle.reason.specs.declared.Reasoned.{Reasoned}
+use Rattle.reason.specs.declared.Reasoned.the-variants as reason
+use Rattle.reason.specs.Call.{reasonedNumber}
 use Rattle.field.specs.Answers.{numberOf, positionOf, checkedNumber, answerNumber, countedNumber}
 use Rattle.field.proofs.Answers.{number-most}
-use Rattle.packing.specs.Layout.{packed, Reads, gradeNumber, packedChecked, checkedCount, packedAnswer, packedCounted, answerGrade, answerCount, countedGrade, countOf, packedPaired, pairedGrade, pairedCount, pairsExamined}
+use Rattle.packing.specs.Layout.{packed, Reads, gradeNumber, packedChecked, checkedCount, packedAnswer, packedCounted, answerGrade, answerCount, countedGrade, countOf, packedPaired, pairedGrade, pairedCount, pairsExamined, groundNumber, reasonedGrade, reasonedCount, reasonedUnit, reasonedParts, packedReasoned}
 
 pub layout-reads : (refusal grade count pairs : ℕ) → refusal < 0x100 → grade < 0x100 → count < 0x1000_0000
     → Reads (packed refusal grade count pairs) refusal grade count pairs
@@ -52,3 +58,24 @@ counted-reads (Refuses r) few = refusal-reads r few
 pub paired-reads : (a : Paired) → pairedCount a < 0x1000_0000 → Reads (packedPaired a) (pairedNumber a) (pairedGrade a) (pairedCount a) (pairsExamined a)
 paired-reads (pairs.Done g k p) few = done-reads g k p few
 paired-reads (pairs.Refused r) few = refusal-reads r few
+
+pub reasoned-reads : (a : Reasoned) → reasonedCount a < 0x1000_0000 → Reads (packedReasoned a) (reasonedNumber a) (reasonedGrade a) (reasonedCount a) (reasonedParts a)
+reasoned-reads (reason.Because g k m) few = layout-reads 0 1 m (4 * k + groundNumber g) (omega arith) (omega arith) few
+reasoned-reads (reason.Refuses r) few = refusal-reads r few
+
+pub ground-small : (g : Ground) → groundNumber g ≤ 2
+ground-small Given = omega arith
+ground-small (Lower b) = omega arith
+ground-small (Upper b) = omega arith
+
+-- the unit and the ground are read from what they stand in
+pub parts-read : (g : Ground) (k m : ℕ) → (reasonedParts (reason.Because g k m) / 4 ≡ k) × (reasonedParts (reason.Because g k m) % 4 ≡ groundNumber g)
+parts-read g k m = (omega (arith, ground-small g), omega (arith, ground-small g))
+
+-- how the code packs a reason
+module _ {a : Reasoned} (g : Ground) (k m : ℕ) (e : a ≡ reason.Because g k m) {x : ℕ} (n : x ≡ groundNumber g) where
+  pub parts-few : reasonedUnit a < 256 → 4 * k + x < 0x10_0000
+  parts-few few = omega (arith, ap reasonedUnit e, ground-small g)
+
+  pub because-packed : {r : ℕ} → r ≡ packed 0 1 m (4 * k + x) → r ≡ packedReasoned a
+  because-packed p = p ∙ ap (λ (y : ℕ). packed 0 1 m (4 * k + y)) n ∙ ap packedReasoned (sym e)

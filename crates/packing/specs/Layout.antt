@@ -1,6 +1,7 @@
 -- The one number that an exported call answers, and how each part of the answer is read from it. Assumes nothing.
 use Prim.Native.Nat.{ℕ, _+_, _*_, _/_, _%_}
 use mathlib.Core.Path.{_≡_}
+use lib.Ieee.{Float}
 use Rattle.field.specs.declared.Grade.{Grade}
 use Rattle.field.specs.declared.Grade.the-variants.{Exact, Inexact}
 use Rattle.field.specs.declared.Checked.{Checked}
@@ -12,11 +13,17 @@ use Rattle.field.specs.declared.Counted.the-variants.{Counts, Refuses}
 use Rattle.pairs.specs.declared.Paired.{Paired}
 use Rattle.pairs.specs.declared.Paired.the-variants as pairs
 use Rattle.pairs.specs.Call.{pairedNumber}
+use Rattle.weights.specs.Worth.{zero64}
+use Rattle.reason.specs.declared.Ground.{Ground}
+use Rattle.reason.specs.declared.Ground.the-variants.{Given, Lower, Upper}
+use Rattle.reason.specs.declared.Reasoned.{Reasoned}
+use Rattle.reason.specs.declared.Reasoned.the-variants as reason
+use Rattle.reason.specs.Call.{reasonedNumber}
 use Rattle.field.specs.Answers.{positionOf, checkedNumber, answerNumber, countedNumber}
 
 -- ---- the layout
 
--- the refusal in bits 0 to 7, the grade in 8 to 15, the count in 16 to 43, the pairs examined in 44 to 63
+-- the refusal in bits 0 to 7, the grade in 8 to 15, the count in 16 to 43, the pairs examined in 44 to 63, where a reason has 4 times its unit and its ground
 abbrev pub packed : ℕ → ℕ → ℕ → ℕ → ℕ
 packed refusal grade count pairs = refusal + 0x100 * grade + 0x1_0000 * count + 0x1000_0000_0000 * pairs
 
@@ -66,6 +73,40 @@ abbrev pub pairsExamined : Paired → ℕ
 pairsExamined (pairs.Done g k p) = p
 pairsExamined (pairs.Refused r) = 0
 
+-- 0 given, 1 lower, 2 upper
+abbrev pub groundNumber : Ground → ℕ
+groundNumber Given = 0
+groundNumber (Lower b) = 1
+groundNumber (Upper b) = 2
+
+-- a reason is of an exact field
+abbrev pub reasonedGrade : Reasoned → ℕ
+reasonedGrade (reason.Because g k m) = 1
+reasonedGrade (reason.Refuses r) = 0
+
+abbrev pub reasonedCount : Reasoned → ℕ
+reasonedCount (reason.Because g k m) = m
+reasonedCount (reason.Refuses r) = positionOf r
+
+abbrev pub reasonedUnit : Reasoned → ℕ
+reasonedUnit (reason.Because g k m) = k
+reasonedUnit (reason.Refuses r) = 0
+
+-- the unit and the ground
+abbrev pub reasonedParts : Reasoned → ℕ
+reasonedParts (reason.Because g k m) = 4 * k + groundNumber g
+reasonedParts (reason.Refuses r) = 0
+
+-- the bound of an answer, which is given beside its number; a refusal leaves what was there
+abbrev pub boundOf : Ground → Float
+boundOf Given = zero64
+boundOf (Lower b) = b
+boundOf (Upper b) = b
+
+abbrev pub boundAfter : Reasoned → Float → Float
+boundAfter (reason.Because g k m) x = boundOf g
+boundAfter (reason.Refuses r) x = x
+
 -- ---- the number of each answer
 
 abbrev pub packedChecked : Checked → ℕ
@@ -79,3 +120,6 @@ packedCounted a = packed (countedNumber a) (countedGrade a) (countOf a) 0
 
 abbrev pub packedPaired : Paired → ℕ
 packedPaired a = packed (pairedNumber a) (pairedGrade a) (pairedCount a) (pairsExamined a)
+
+abbrev pub packedReasoned : Reasoned → ℕ
+packedReasoned a = packed (reasonedNumber a) (reasonedGrade a) (reasonedCount a) (reasonedParts a)

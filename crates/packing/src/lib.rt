@@ -5,10 +5,12 @@ use field::Counted;
 use field::Grade;
 use field::Refusal;
 use pairs::Paired;
+use reason::Ground;
+use reason::Reasoned;
 ghost use mathlib.Core.Path.{_≡_};
 ghost use Prim.Native.Nat.{_<_};
 ghost use Rattle.field.specs.Answers.{numberOf, positionOf};
-ghost use Rattle.packing.specs.Layout.{packed, gradeNumber, packedChecked, checkedCount, packedAnswer, answerCount, packedCounted, countOf, packedPaired, pairedCount, pairsExamined};
+ghost use Rattle.packing.specs.Layout.{packed, gradeNumber, packedChecked, checkedCount, packedAnswer, answerCount, packedCounted, countOf, packedPaired, pairedCount, pairsExamined, groundNumber, packedReasoned, reasonedCount, reasonedUnit, boundOf, boundAfter};
 
 fn grade_number(grade: Grade) -> u64
     ensures { λ r. ⌜ r ≡ gradeNumber grade ⌝ }
@@ -74,5 +76,53 @@ pub fn pack_paired(answer: Paired) -> u64
     match answer {
         Paired::Done(grade, count, pairs) => pack_done(grade, count, pairs),
         Paired::Refused(refusal) => pack_refusal(refusal),
+    }
+}
+
+fn ground_number(ground: Ground) -> usize
+    ensures { λ r. ⌜ r ≡ groundNumber ground ⌝ }
+{
+    match ground {
+        Ground::Given => 0,
+        Ground::Lower(_) => 1,
+        Ground::Upper(_) => 2,
+    }
+}
+
+// The ground and the unit stand where pairs has the pairs examined.
+pub fn pack_reasoned(answer: Reasoned) -> u64
+    requires { ⌜ reasonedCount answer < 0x1000_0000 ⌝ }
+    requires { ⌜ reasonedUnit answer < 256 ⌝ }
+    ensures { λ r. ⌜ r ≡ packedReasoned answer ⌝ }
+{
+    match answer {
+        Reasoned::Because(ground, unit, count) => {
+            pack_done(
+                Grade::Exact,
+                count,
+                4 * (unit as usize) + ground_number(ground),
+            )
+        }
+        Reasoned::Refuses(refusal) => pack_refusal(refusal),
+    }
+}
+
+fn bound_of(ground: Ground) -> f64
+    ensures { λ r. ⌜ r ≡ boundOf ground ⌝ }
+{
+    match ground {
+        Ground::Given => 0.0,
+        Ground::Lower(bound) => bound,
+        Ground::Upper(bound) => bound,
+    }
+}
+
+// The bound of an answer; a refusal leaves what was there.
+pub fn bound_after(answer: Reasoned, bound: f64) -> f64
+    ensures { λ r. ⌜ r ≡ boundAfter answer bound ⌝ }
+{
+    match answer {
+        Reasoned::Because(ground, _, _) => bound_of(ground),
+        Reasoned::Refuses(_) => bound,
     }
 }

@@ -26,6 +26,7 @@ use Rattle.rows.proofs.Upto.{getD-upTo}
 use Rattle.run.specs.Run.{Run, noRow, isFree, judged, scanAt, scanTo, serve, work, propagate}
 use Rattle.run.specs.Ended.{RowsWorth, Ended}
 use Rattle.run.proofs.Room.{room-start}
+use Rattle.run.proofs.Rests.{grounded-start}
 use Rattle.run.proofs.Invariant.{still-same, judged-holds}
 use Rattle.run.proofs.Serve.{Rest, serve-rest}
 
@@ -52,10 +53,11 @@ module _ {u : ℕ} {F : Field} {s : List ℕ} (start : StartFor (variables F) s)
         ahead = λ k a b. absurd (omega arith);
         caught = λ j f. inl (λ k a b. refl);
       };
+      grounded = grounded-start s;
     };
   }
 
-  scanned : (i : ℕ) → Rest u F s i 0 (scanTo (record { values = s; rows = rows; queue = [] }) i)
+  pub scanned : (i : ℕ) → Rest u F s i 0 (scanTo (record { values = s; rows = rows; queue = [] }) i)
   unfolding scanTo scanAt
   scanned zero = unscanned
   scanned (suc i) = go (scanned i) (isFree run i) refl
@@ -67,7 +69,7 @@ module _ {u : ℕ} {F : Field} {s : List ℕ} (start : StartFor (variables F) s)
       go a true e = record {
         seen = a .seen;
         last = a .last;
-        holds = judged-holds i (a .holds .room) (a .holds .counted) (λ t b n. a .holds .quiet t (omega arith)) (a .holds .queued) (eqb-true _ _ e);
+        holds = judged-holds i (a .holds .room) (a .holds .counted) (λ t b n. a .holds .quiet t (omega arith)) (a .holds .queued) (a .holds .grounded) (eqb-true _ _ e);
       }
       go a false e = record {
         seen = a .seen;
@@ -77,6 +79,7 @@ module _ {u : ℕ} {F : Field} {s : List ℕ} (start : StartFor (variables F) s)
           counted = a .holds .counted;
           quiet = λ t b f. a .holds .quiet t (omega (arith, other t f)) f;
           queued = a .holds .queued;
+          grounded = a .holds .grounded;
         };
       }
         where

@@ -25,10 +25,12 @@ use Rattle.rows.specs.Counted.{RowWorth}
 use Rattle.rows.proofs.Terms.{judge-worth}
 use Rattle.run.specs.Run.{Run, rowFor, force, settle, judged}
 use Rattle.run.specs.Room.{Room}
+use Rattle.run.specs.Rests.{Grounded}
 use Rattle.run.proofs.Keeps.{ByForce, by-judged}
 use Rattle.run.proofs.Room.{free-after, fixed-after, old-or-new, room-after}
+use Rattle.run.proofs.Rests.{grounded-force}
 
--- ---- the invariant: the room of every run, and three parts more
+-- ---- the invariant: the room of every run, what its values rest on, and three parts more
 
 -- ROWS: the values are reached by steps, each entry sees a variable as free or as it is, and a free variable's row is worth what the entries see
 pub record Counted (u : ℕ) (F : Field) (s : List ℕ) (run : Run) (w : View) : Type 0 where
@@ -63,6 +65,7 @@ pub record Holds (u : ℕ) (F : Field) (s : List ℕ) (run : Run) (w : View) (b 
   pub counted : Counted u F s run w
   pub quiet : Quiet (wholeOf u F) (run .values) w b
   pub queued : Queued (run .values) (run .queue) w (entries F) h e c
+  pub grounded : Grounded (wholeOf u F) s (run .values) (run .queue) h
 
 -- views with equal bounds at t force the same on it
 pub still-same : {G : meaning.Field} {w w′ : View} {t : ℕ} → gradient min0 G w′ t ≈ gradient min0 G w t → gradient max0 G w′ t ≈ gradient max0 G w t → Still G w t → Still G w′ t
@@ -111,7 +114,8 @@ module _ {u : ℕ} {F : Field} {s : List ℕ} {run : Run} {w : View} (c : Counte
 -- ---- a free variable is judged by its row
 
 module _ {u : ℕ} {F : Field} {s : List ℕ} {run : Run} {w : View} {b h e k : ℕ} (t : ℕ) (room : Room (variables F) s (run .values) (run .queue)) (c : Counted u F s run w)
-    (q : QuietBut (wholeOf u F) (run .values) w b t) (d : Queued (run .values) (run .queue) w (entries F) h e k) (free : getD (run .values) t 0 ≡ 2) where
+    (q : QuietBut (wholeOf u F) (run .values) w b t) (d : Queued (run .values) (run .queue) w (entries F) h e k)
+    (g : Grounded (wholeOf u F) s (run .values) (run .queue) h) (free : getD (run .values) t 0 ≡ 2) where
   forced : {v : ℕ} → v < 2 → Forced (wholeOf u F) w t v → Holds u F s (force run t v) w b h e k
   unfolding force
   forced {v} l f = record {
@@ -119,6 +123,7 @@ module _ {u : ℕ} {F : Field} {s : List ℕ} {run : Run} {w : View} {b h e k : 
     counted = force-counted c t v free l (lagging-forces (wholeOf u F) w (run .values) (c .lag) f);
     quiet = λ j a z. let o = free-after (run .values) t v free l j z in q j a (o .0) (o .1);
     queued = force-queued c t v free l d;
+    grounded = grounded-force room t v free l w h (d .cursor) g (c .lag) (d .waiting) f;
   }
 
   pub judged-holds : Holds u F s (judged run t) w b h e k
@@ -141,6 +146,7 @@ module _ {u : ℕ} {F : Field} {s : List ℕ} {run : Run} {w : View} {b h e k : 
         counted = c;
         quiet = λ j a f. elim (ℕ-discrete j t) [ yes i ↦ rw i n | no i ↦ q j a i f ];
         queued = d;
+        grounded = g;
       }
 
       go : (x y o : Bool) → ltb (lo .less) (lo .plus) ≡ x → ltb (hi .plus) (hi .less) ≡ y

@@ -1,5 +1,6 @@
 pub mod Keeps
 pub mod Room
+pub mod Rests
 pub mod Alike
 pub mod Invariant
 pub mod Sight

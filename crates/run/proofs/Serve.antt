@@ -18,6 +18,7 @@ use Rattle.rows.specs.Model.{coeffOf}
 use Rattle.places.specs.Places.{keep, placesFrom, places, otherEnd}
 use Rattle.run.specs.Run.{Run, isFree, judged, moveRow, serveAt, serveAll, serve}
 use Rattle.run.proofs.Invariant.{Queued, Waits, Holds, Serving, judged-serving}
+use Rattle.run.proofs.Rests.{grounded-more}
 use Rattle.run.proofs.Sight.{meets, Joins, joins-other, parts-other, neither, sees-none, sees-one}
 
 -- where the run stands before entry k, while i is served
@@ -103,6 +104,7 @@ module _ {u : ℕ} {F : Field} (shaped : Shaped F) (exact : ExactIn u F) {s : Li
         ahead = λ k b m. q .waiting h (le-refl h) l k;
         caught = λ j f. ⊎-elim (λ g. inl (λ k m e. g k m (λ y. m))) (λ g. go j g (ℕ-discrete (g .0) h)) (q .caught j f);
       };
+      grounded = grounded-more (a .holds .room) h l (a .holds .grounded);
     };
     serving = record { before = l; at = refl; value = refl; small = a .holds .room .fixed h l };
   }

@@ -109,6 +109,7 @@ module _ {u : ℕ} {F : Field} (shaped : Shaped F) (exact : ExactIn u F) {s : Li
     };
     quiet = λ t b f. still-apart t (p t f) (a .quiet t b f);
     queued = queued-see;
+    grounded = a .grounded;
   }
 
   -- where it joins a free t to i, the row of t changes
@@ -147,4 +148,4 @@ module _ {u : ℕ} {F : Field} (shaped : Shaped F) (exact : ExactIn u F) {s : Li
 
     pub sees-one : Holds u F s (judged (moveRow run t (coeffOf F k) v) t) (see w k i v) (variables F) (suc h) i (suc k)
     unfolding moveRow
-    sees-one = judged-holds t (a .room) moved-counted (λ j b n f. still-apart j (others j n) (a .quiet j b f)) queued-see free
+    sees-one = judged-holds t (a .room) moved-counted (λ j b n f. still-apart j (others j n) (a .quiet j b f)) queued-see (a .grounded) free

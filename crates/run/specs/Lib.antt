@@ -1,4 +1,5 @@
 pub mod Run
 pub mod Room
+pub mod Rests
 pub mod Ended
 pub mod Cells

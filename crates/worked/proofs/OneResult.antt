@@ -15,6 +15,7 @@ use Rattle.pairs.specs.Call as pairs
 use Rattle.probe.specs.Call as probe
 use Rattle.probes.specs.Call as probes
 use Rattle.propagation.specs.Call as propagation
+use Rattle.reason.specs.Call as reason
 use Rattle.worked.specs.One.{One}
 
 -- a promise that is one equation
@@ -48,6 +49,9 @@ module _ (F : Field) (s : List ℕ) (f : List Float) (u : List ℕ) where
 
   pub probe-limited-one : (limit : ℕ) (values list : List ℕ) → One (probes.probeLimitedCall F s limit values list f u)
   probe-limited-one limit values list = one
+
+  pub reason-one : (i : ℕ) (list : List ℕ) → One (reason.reasonCall F s i list f u)
+  reason-one i list = one
 
   pub no-effect-one : (list : List ℕ) → One (no-effect.noEffectCall F list u)
   no-effect-one list = one

@@ -41,6 +41,11 @@ use Rattle.anchors.specs.Model as anchored
 use Rattle.anchors.specs.Call as anchors
 use Rattle.propagation.specs.Tests as literals
 use Rattle.propagation.specs.Call as propagation
+use Rattle.run.specs.Rests as rests
+use Rattle.reason.specs.Until as until
+use Rattle.reason.specs.Listed as listed
+use Rattle.reason.specs.Ground as ground
+use Rattle.reason.specs.Call as reason
 use Rattle.worked.specs.Cases.{cases, given, expected}
 
 -- each call's promise gives exactly the answer of the list, and leaves exactly what it says in all that was lent
@@ -73,5 +78,7 @@ unfolding given expected
     anchored.against anchored.leadOver anchored.leads anchored.turnable anchored.allTurnable anchored.anchorIn anchored.marksAt anchored.newAt
     anchored.anchorAt anchored.anchorsTo anchored.anchorsOf
     passes.visit passes.pass passes.passes passes.closure literal.implications literal.implied literal.stands literal.propagate
+    reason.reasonCall reason.hasValue reason.fits ground.reasonOf ground.reasonList ground.groundOf ground.inHalfUnits ground.times
+    until.basis until.stopOf until.scanned until.until rests.rests listed.listedOf listed.listedTo listed.isListed listed.joinsTo
     add sub mul neg le lt eq ne ofInt ofBits
 worked = refl

@@ -1,7 +1,9 @@
--- Document 01's values worked by hand, cases a to n, those of document 02's C-12, and others beside them: each names its call, what it is given, and its answer. Assumes nothing.
+-- Document 01's values worked by hand, cases a to n, those of document 02's C-11 and C-12, and others beside them: each names its call, what it is given, and its answer. Assumes nothing.
 use Prim.Native.Nat.{ℕ, _+_, _*_}
+use mathlib.Core.Bool.{true, false}
 use mathlib.Core.List.{List, [], _∷_, _++_}
-use lib.Ieee.{Float}
+use lib.IntN.{pos}
+use lib.Ieee.{Float, fin}
 use lib.ListN.{length, replicate}
 use Rattle.weights.specs.Worth.{zero64}
 use Rattle.scratch.specs.Cleared.{cleared}
@@ -9,7 +11,7 @@ use Rattle.constraints.specs.Triple.{room}
 use Rattle.field.specs.declared.Grade.{Grade}
 use Rattle.field.specs.declared.Grade.the-variants.{Exact, Inexact}
 use Rattle.field.specs.declared.Refusal.{Refusal}
-use Rattle.field.specs.declared.Refusal.the-variants.{Row, Column, Repeat, Order, Clash}
+use Rattle.field.specs.declared.Refusal.the-variants.{Row, Column, Repeat, Order, Clash, Inexact as NotExact, Unforced}
 use Rattle.field.specs.declared.Checked.{Checked}
 use Rattle.field.specs.declared.Checked.the-variants.{Passed, Failed}
 use Rattle.field.specs.declared.Answer.the-variants.{Done}
@@ -26,7 +28,11 @@ use Rattle.pairs.specs.declared.Paired.the-variants as paired
 use Rattle.pairs.specs.Call as pairs
 use Rattle.anchors.specs.Call as anchors
 use Rattle.propagation.specs.Call as propagation
-use Rattle.worked.specs.Fields.{nought, half, sixteenth, above-limit, minus-half, minus-one, two, minus-two, four, minus-five, six, alone, joined, apart, opposed, swallowing, unbalanced, two-parts, overflowing, on-diagonal, with-zero, parted, popped, one-term, two-pairs, linked, at-tolerance, placed, cancelling}
+use Rattle.reason.specs.declared.Ground.{Ground}
+use Rattle.reason.specs.declared.Ground.the-variants.{Given, Lower, Upper}
+use Rattle.reason.specs.declared.Reasoned.the-variants as reasoned
+use Rattle.reason.specs.Call as reason
+use Rattle.worked.specs.Fields.{nought, half, sixteenth, above-limit, minus-half, minus-one, two, minus-two, four, minus-five, six, alone, joined, apart, opposed, swallowing, unbalanced, two-parts, overflowing, on-diagonal, with-zero, parted, popped, one-term, two-pairs, linked, at-tolerance, placed, cancelling, both-ways, waiting, heavy-rate}
 
 -- a call, the field with its grade, the start values, what else it is given, and what it answers
 pub data Case : Type 0 where
@@ -49,6 +55,10 @@ pub data Case : Type 0 where
   propagates : List ℕ → List ℕ → Checked → List ℕ → Case
   -- the closure is refused, and all that was lent stays
   refuses : Field → Refusal → Case
+  -- the variable, its ground, the unit k, which is 2^(k - 20), and the neighbours listed
+  explains : Field → List ℕ → ℕ → Ground → ℕ → List ℕ → Case
+  -- the variable has no reason: the list stays, and scratch is all zeros
+  explains-none : Field → List ℕ → ℕ → Refusal → Case
 
 -- ---- the list
 
@@ -144,6 +154,23 @@ cases =
     ∷ closes (joined (minus-five ∷ minus-one ∷ []) two) Exact (2 ∷ 2 ∷ []) (1 ∷ 2 ∷ []) 1
     ∷ closes (alone (nought ∷ [])) Exact (0 ∷ []) (0 ∷ []) 0
     ∷ closes cancelling Inexact (2 ∷ 2 ∷ []) (2 ∷ 0 ∷ []) 1
+    -- C-11, bounds in half units of 2^-20, which are halves times 2^20. Case g: x0 upper, none, -6; x1 lower, x0, 2
+    ∷ explains (joined (minus-five ∷ minus-one ∷ []) four) (2 ∷ 2 ∷ []) 0 (Upper (fin true 3 (pos 21))) 0 []
+    ∷ explains (joined (minus-five ∷ minus-one ∷ []) four) (2 ∷ 2 ∷ []) 1 (Lower (fin false 1 (pos 21))) 0 (0 ∷ [])
+    -- case h: x1 upper, x0, -2; x0 given
+    ∷ explains (joined (minus-five ∷ minus-one ∷ []) four) (0 ∷ 2 ∷ []) 1 (Upper (fin true 1 (pos 21))) 0 (0 ∷ [])
+    ∷ explains (joined (minus-five ∷ minus-one ∷ []) four) (0 ∷ 2 ∷ []) 0 Given 0 []
+    -- "with all entries to them so counted": 3, where the run had 2; "forced earlier in the run", but not while it waits: x0 alone, 2
+    ∷ explains both-ways (2 ∷ 2 ∷ []) 1 (Lower (fin false 3 (pos 20))) 0 (0 ∷ [])
+    ∷ explains waiting (2 ∷ 2 ∷ 2 ∷ []) 2 (Lower (fin false 1 (pos 21))) 0 (0 ∷ [])
+    -- "at any entry", a stored zero too: x0 upper, x1, -2
+    ∷ explains (joined (minus-one ∷ nought ∷ []) nought) (2 ∷ 1 ∷ []) 0 (Upper (fin true 1 (pos 21))) 0 (1 ∷ [])
+    -- in a coarse unit, 2^10: -2^40 is -2^31 half units
+    ∷ explains (alone (heavy-rate ∷ [])) (2 ∷ []) 0 (Upper (fin true 1 (pos 31))) 30 []
+    -- case e, free at the end; no such variable; the swallowed rate
+    ∷ explains-none (joined (nought ∷ nought ∷ []) two) (2 ∷ 2 ∷ []) 0 Unforced
+    ∷ explains-none (alone []) [] 0 Unforced
+    ∷ explains-none swallowing (2 ∷ 2 ∷ 2 ∷ 2 ∷ []) 0 NotExact
     ∷ []
 
 -- ---- what each call leaves, and what the list says
@@ -157,6 +184,7 @@ pub data Outcome : Type 0 where
   in-pairs : pairs.Left → Outcome
   in-anchors : anchors.Left → Outcome
   in-literals : propagation.Left → Outcome
+  in-reason : reason.Left → Outcome
 
 -- scratch of the least length, with numbers in it
 abbrev pub floats : Field → List Float
@@ -192,6 +220,8 @@ given (compares F g s k items examined) = in-pairs (pairs.pairsCall F s 250000 (
 given (anchors-at F g s least l) = in-anchors (anchors.anchorsCall F s least (lent l) (floats F) (words F))
 given (propagates s k r t) = in-literals (propagation.propagateCall s k (constraint-words s k))
 given (refuses F r) = in-closing (closure.closureCall F (free F) (floats F) (words F))
+given (explains F s i g k l) = in-reason (reason.reasonCall F s i (lent l) (floats F) (words F))
+given (explains-none F s i r) = in-reason (reason.reasonCall F s i (lent []) (floats F) (words F))
 
 -- what the list says: the answer, the values or the list with what is past it, and scratch that is all zeros
 unfoldable pub expected : Case → Outcome
@@ -206,3 +236,5 @@ expected (compares F g s k items examined) = in-pairs (pairs.left (paired.Done g
 expected (anchors-at F g s least l) = in-anchors (anchors.left (Counts g (length l)) (front l) (cleared zero64 (floats F)) (cleared 0 (words F)))
 expected (propagates s k r t) = in-literals (propagation.left r t (cleared 0 (constraint-words s k)))
 expected (refuses F r) = in-closing (closure.left (Refuses r) (free F) (floats F) (words F))
+expected (explains F s i g k l) = in-reason (reason.left (reasoned.Because g k (length l)) (front l) (cleared zero64 (floats F)) (cleared 0 (words F)))
+expected (explains-none F s i r) = in-reason (reason.left (reasoned.Refuses r) (lent []) (cleared zero64 (floats F)) (cleared 0 (words F)))

@@ -153,3 +153,15 @@ placed n rows cols = fieldOf (replicate n nought) rows cols (replicate (length r
 -- c=(1,2^61), (1,0) 2^61, (0,1) -2^61: the bounds of row 0 swallow its weight while variable 1 is free, and end at 0
 abbrev pub cancelling : Field
 cancelling = fieldOf (one ∷ fin false 1 (pos 61) ∷ []) (1 ∷ 0 ∷ []) (0 ∷ 1 ∷ []) (fin false 1 (pos 61) ∷ fin true 1 (pos 61) ∷ [])
+
+-- c=(-5,-1), (1,0) 4, (0,1) 1: the run forces variable 1 at the first of the two entries that join it to 0
+abbrev pub both-ways : Field
+both-ways = fieldOf (minus-five ∷ minus-one ∷ []) (1 ∷ 0 ∷ []) (0 ∷ 1 ∷ []) (four ∷ one ∷ [])
+
+-- c=(-5,-5,-1), (0,2) 4, (1,2) 4: variable 1 waits in the queue where 0 forces 2
+abbrev pub waiting : Field
+waiting = fieldOf (minus-five ∷ minus-five ∷ minus-one ∷ []) (0 ∷ 1 ∷ []) (2 ∷ 2 ∷ []) (four ∷ four ∷ [])
+
+-- -2^40: no unit below 2^10 serves
+abbrev pub heavy-rate : Float
+heavy-rate = fin true 1 (pos 40)

@@ -1,6 +1,7 @@
 //! Answers a stream of cases with the Rust text: cases on standard input, one line a case on standard output.
 
 mod flat;
+mod reason;
 
 use hercules::constraint::{Constraint, ConstraintType};
 use hercules::qubo::Qubo;
@@ -20,7 +21,7 @@ fn main() -> io::Result<()> {
     output.flush()
 }
 
-/// The refusals are worked out here from document 01's table, and the flat rows by the run once more; all else is the text's.
+/// The refusals are worked out here from document 01's table, the flat rows by the run once more, and reasons from document 02's words; all else is the text's.
 fn answer(case: &Case) -> Answer {
     if let Some(refusal) = table::refusal(case) {
         return Answer::Refused(refusal);
@@ -28,6 +29,13 @@ fn answer(case: &Case) -> Answer {
     let given = map_of(&case.start);
     let mut done = Done::default();
     match case.call {
+        Call::Reason => match reason::reason(case) {
+            Ok(reason) => {
+                done.variables = Some(reason.listed.clone());
+                done.reason = Some(reason);
+            }
+            Err(number) => return Answer::NoReason(number),
+        },
         Call::Propagation => match propagation(case, given) {
             Some(values) => done.values = Some(list_of(case.n(), &values)),
             None => return Answer::Clash,
@@ -97,7 +105,7 @@ fn work(case: &Case, qubo: &Qubo, given: FixedVarMap, done: &mut Done) {
             assert!(kept.iter().enumerate().all(|(at, pair)| at == pair.0));
             done.variables = Some(kept.into_iter().map(|pair| pair.1).collect());
         }
-        Call::Propagation => unreachable!("propagation has no field"),
+        Call::Propagation | Call::Reason => unreachable!("these are worked elsewhere"),
     }
 }
 

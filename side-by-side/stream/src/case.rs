@@ -4,7 +4,7 @@ use std::io::{self, Read, Write};
 
 #[derive(Clone, Copy, Debug, PartialEq, Eq, PartialOrd, Ord)]
 pub enum Call {
-    Closure,
+    Closure = 1,
     Components,
     Preprocess,
     Heavy,
@@ -18,10 +18,11 @@ pub enum Call {
     NoEffect,
     Shift,
     SubProblem,
+    Reason = 16,
 }
 
-/// The calls with their names; a call's code is its place here, from 1.
-pub const CALLS: [(Call, &str); 14] = [
+/// The calls with their names, in the order of their codes.
+pub const CALLS: [(Call, &str); 15] = [
     (Call::Closure, "closure"),
     (Call::Components, "components"),
     (Call::Preprocess, "preprocess"),
@@ -36,19 +37,20 @@ pub const CALLS: [(Call, &str); 14] = [
     (Call::NoEffect, "no-effect"),
     (Call::Shift, "shift"),
     (Call::SubProblem, "sub-problem"),
+    (Call::Reason, "reason"),
 ];
 
 impl Call {
     pub fn code(self) -> u8 {
-        self as u8 + 1
+        self as u8
     }
 
     pub fn from_code(code: u8) -> Option<Self> {
-        CALLS.get(usize::from(code).wrapping_sub(1)).map(|c| c.0)
+        CALLS.iter().find(|c| c.0.code() == code).map(|c| c.0)
     }
 
     pub fn name(self) -> &'static str {
-        CALLS[self as usize].1
+        CALLS.iter().find(|c| c.0 == self).map_or("", |c| c.1)
     }
 
     pub fn from_name(name: &str) -> Option<Self> {
@@ -97,7 +99,10 @@ impl Call {
 
     /// Answers in a list of variables.
     pub fn finds_variables(self) -> bool {
-        matches!(self, Self::Anchors | Self::NoEffect | Self::SubProblem)
+        matches!(
+            self,
+            Self::Anchors | Self::NoEffect | Self::SubProblem | Self::Reason
+        )
     }
 
     /// Closes the field up in place.

@@ -8,10 +8,38 @@ use std::fmt::Display;
 pub enum Answer {
     /// The refusals that change nothing lent.
     Refused(Refusal),
+    /// Document 02's 12 and 13, which leave the answer list.
+    NoReason(u8),
     /// An answer list does not fit.
     NoRoom,
     Clash,
     Done(Done),
+}
+
+/// The ground of a value.
+#[derive(Clone, Copy, Debug, PartialEq, Eq)]
+pub enum Ground {
+    Given,
+    Lower,
+    Upper,
+}
+
+impl Ground {
+    pub fn name(self) -> &'static str {
+        match self {
+            Self::Given => "given",
+            Self::Lower => "lower",
+            Self::Upper => "upper",
+        }
+    }
+}
+
+/// A value's reason: the unit is 2^(unit - 20), and the bound is in half units.
+pub struct Reason {
+    pub ground: Ground,
+    pub unit: u8,
+    pub bound: f64,
+    pub listed: Vec<usize>,
 }
 
 /// What a call answers on 0; a part that the call does not have is nothing.
@@ -22,6 +50,7 @@ pub struct Done {
     pub pairs: Option<u64>,
     pub constraints: Option<Vec<(usize, usize, usize)>>,
     pub found: Option<Vec<u8>>,
+    pub reason: Option<Reason>,
     pub variables: Option<Vec<usize>>,
     pub linear: Option<Vec<f64>>,
     pub entries: Option<Vec<(usize, usize, f64)>>,
@@ -35,6 +64,7 @@ pub fn line(case: &Case, answer: &Answer) -> String {
     // The word for start values, answer lists, the field and scratch.
     let (number, start, lists, scratch) = match answer {
         Answer::Refused(refusal) => (refusal.number, "kept", "kept", "kept"),
+        Answer::NoReason(number) => (*number, "kept", "kept", "zeros"),
         Answer::NoRoom => (9, "kept", "zeros", "zeros"),
         Answer::Clash => (10, "kept", "zeros", "zeros"),
         Answer::Done(_) => (0, "", "", "zeros"),
@@ -92,6 +122,11 @@ fn done_words(case: &Case, done: &Done, words: &mut Vec<String>) {
     }
     if let Some(found) = &done.found {
         words.push(format!("found={}", digits(found)));
+    }
+    if let Some(reason) = &done.reason {
+        words.push(format!("ground={}", reason.ground.name()));
+        words.push(format!("unit={}", reason.unit));
+        words.push(format!("bound={}", hex(reason.bound)));
     }
     if let Some(variables) = &done.variables {
         words.push(format!("count={}", variables.len()));

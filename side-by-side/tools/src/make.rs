@@ -3,7 +3,8 @@
 use crate::breaks;
 use crate::fields::{self, Field, EXACT, INEXACT};
 use crate::random::Random;
-use stream::{Call, Case};
+use crate::whole::Whole;
+use stream::{table, Call, Case};
 
 /// The greatest length of a list of constraint elements that a case asks for.
 pub const MOST_ROOM: usize = 1_500_000;
@@ -31,7 +32,8 @@ fn whole_case(random: &mut Random, call: Call, small: bool) -> Case {
     let n = size(random, call, small);
     if call.has_field() {
         let diagonal = !call.needs_standard() && random.often(700);
-        let tone = if random.often(550) {
+        let exactly = if call == Call::Reason { 900 } else { 550 };
+        let tone = if random.often(exactly) {
             random.pick(&EXACT)
         } else {
             random.pick(&INEXACT)
@@ -190,6 +192,9 @@ pub fn arguments(random: &mut Random, case: &mut Case) {
         }
         case.value = random.below(2) as u64;
     }
+    if call == Call::Reason {
+        case.variable = asked(random, case) as u64;
+    }
     if call == Call::LimitedProbe {
         let any = random.below(n + 2) as u64;
         case.limit = random.pick(&[0, 1, 2, 3, any, any, any, n as u64, u64::MAX]);
@@ -217,4 +222,21 @@ pub fn arguments(random: &mut Random, case: &mut Case) {
     if call == Call::Anchors {
         case.least_size = random.pick(&[0, 0, 1, 2, 2, 3, 4, n as u64, n as u64 + 1, u64::MAX]);
     }
+}
+
+/// A variable to be explained: most often one that is forced, and now and then one that is not there.
+fn asked(random: &mut Random, case: &Case) -> usize {
+    let n = case.n();
+    if random.often(30) {
+        return random.pick(&[n, n + 1, 65_535]);
+    }
+    if n <= 500 && random.often(900) && table::exact(case) {
+        let values = Whole::of(case).closure(&case.start);
+        let forced = |i: &usize| values[*i] != 2 && case.start[*i] == 2;
+        let forced: Vec<_> = (0..n).filter(forced).collect();
+        if !forced.is_empty() {
+            return random.pick(&forced);
+        }
+    }
+    random.below(n.max(1))
 }

@@ -8,7 +8,7 @@ use stream::{table, Call, Case, CALLS};
 const TWO_61: f64 = 2_305_843_009_213_693_952.0;
 
 /// One worked value: a name, the linear weights, the entries and the start values.
-type Worked = (
+pub type Worked = (
     &'static str,
     &'static [f64],
     &'static [(u16, u16, f64)],
@@ -52,6 +52,24 @@ pub const FLAT: [Worked; 4] = [
         &[(1, 0, TWO_61), (0, 1, -TWO_61)],
         &[2, 2],
     ),
+];
+
+/// Document 02's reasons under C-11: both entries counted, a neighbour that waits left out, a stored zero listed, and a coarse unit.
+pub const REASONS: [Worked; 4] = [
+    (
+        "both ways",
+        &[-5.0, -1.0],
+        &[(1, 0, 4.0), (0, 1, 1.0)],
+        &[2, 2],
+    ),
+    (
+        "waiting",
+        &[-5.0, -5.0, -1.0],
+        &[(0, 2, 4.0), (1, 2, 4.0)],
+        &[2, 2, 2],
+    ),
+    ("zero listed", &[-1.0, 0.0], &[(0, 1, 0.0)], &[2, 1]),
+    ("coarse", &[-1_099_511_627_776.0], &[], &[2]),
 ];
 
 /// The worked value as a case of the call, with room for every answer.
@@ -225,6 +243,14 @@ fn worked(call: Call, cases: &mut Vec<Case>) {
         }
         return;
     }
+    if call == Call::Reason {
+        for worked in WORKED.iter().chain(&REASONS) {
+            for i in 0..=worked.1.len() {
+                cases.push(reason_case(worked, i as u64));
+            }
+        }
+        return;
+    }
     for worked in &WORKED {
         let case = worked_case(call, worked);
         if call.probes_one() {
@@ -240,6 +266,13 @@ fn worked(call: Call, cases: &mut Vec<Case>) {
             cases.push(case);
         }
     }
+}
+
+/// The reason of one variable of a worked value.
+pub fn reason_case(worked: &Worked, variable: u64) -> Case {
+    let mut case = worked_case(Call::Reason, worked);
+    case.variable = variable;
+    case
 }
 
 fn propagation(start: &[u8], constraints: &[u16]) -> Case {

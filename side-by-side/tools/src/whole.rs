@@ -62,7 +62,7 @@ impl Whole {
     }
 
     /// Low and high of each variable at the values.
-    fn bounds(&self, values: &[u8]) -> Vec<(i64, i64)> {
+    pub fn bounds(&self, values: &[u8]) -> Vec<(i64, i64)> {
         let mut bounds: Vec<_> = self.linear.iter().map(|&c| (c, c)).collect();
         for &(row, column, q) in &self.entries {
             for (i, other) in [(row, column), (column, row)] {
@@ -88,10 +88,18 @@ impl Whole {
 
     /// The closure: steps taken until none is left, all at once in each round.
     pub fn closure(&self, values: &[u8]) -> Vec<u8> {
+        self.closure_without(values, usize::MAX)
+    }
+
+    /// The closure in which one variable takes no step.
+    pub fn closure_without(&self, values: &[u8], left_out: usize) -> Vec<u8> {
         let mut values = values.to_vec();
         loop {
             let before = values.clone();
             for (i, (low, high)) in self.bounds(&before).into_iter().enumerate() {
+                if i == left_out {
+                    continue;
+                }
                 if before[i] == 2 && low > 0 {
                     values[i] = 0;
                 } else if before[i] == 2 && high < 0 {

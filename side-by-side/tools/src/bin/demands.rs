@@ -92,6 +92,10 @@ fn field_call(case: &Case, line: &str) -> Checked {
             same("found values", &found, &given)?;
             defined = 1;
         }
+        Call::Reason => {
+            reason(case, &whole, line)?;
+            defined = 1;
+        }
         Call::Pairs if small => {
             let (count, all) = whole.pairs(&case.start, case.limit.min(MOST_PAIRS));
             same("pair constraints", &constraints, &all)?;
@@ -167,9 +171,69 @@ fn field_call(case: &Case, line: &str) -> Checked {
             }
         }
         Call::Shift | Call::SubProblem => reduced(case, &whole, line)?,
+        Call::Reason => {
+            let closed = whole.closure(&case.start);
+            let asked = case.variable as usize;
+            let best = whole.best(&case.start);
+            every(
+                &best,
+                |x| (x >> asked) & 1 == usize::from(closed[asked]),
+                "a best completion breaks the value",
+            )?;
+        }
         Call::Propagation => {}
     }
     Ok((defined, 1))
+}
+
+/// The bound, worked out afresh from the listed values alone; each listed value is reached without the variable.
+fn reason(case: &Case, whole: &Whole, line: &str) -> Result<(), String> {
+    let asked = case.variable as usize;
+    let listed = variables(line);
+    let value = whole.closure(&case.start)[asked];
+    let unit = part(line, "unit").and_then(|k| k.parse::<i32>().ok());
+    same("unit", &unit.map(|k| 2f64.powi(k - 20)), &Some(whole.unit))?;
+    let bound = part(line, "bound").map(weight);
+    let ground = part(line, "ground").unwrap_or("");
+    if case.start[asked] != 2 {
+        same("ground", &ground, &"given")?;
+        return same("bound and list", &(bound, listed), &(Some(0.0), Vec::new()));
+    }
+    let joined = |j: usize| {
+        let joins = |e: &(usize, usize, i64)| (e.0, e.1) == (asked, j) || (e.1, e.0) == (asked, j);
+        whole.entries.iter().any(joins)
+    };
+    let reached = whole.closure_without(&case.start, asked);
+    let mut alone = vec![2; case.n()];
+    for &j in &listed {
+        if !joined(j) {
+            return Err(format!("{j} is listed and is no neighbour"));
+        }
+        if reached[j] == 2 {
+            return Err(format!("{j} is listed, and is reached by the variable alone"));
+        }
+        alone[j] = reached[j];
+    }
+    if !listed.windows(2).all(|pair| pair[0] < pair[1]) {
+        return Err("the list does not rise".to_string());
+    }
+    let given = (0..case.n()).filter(|&j| case.start[j] != 2);
+    if let Some(j) = given.into_iter().find(|&j| joined(j) && !listed.contains(&j)) {
+        return Err(format!("{j} is given and is not listed"));
+    }
+    let (low, high) = whole.bounds(&alone)[asked];
+    let (name, strict, count) = match value {
+        0 => ("lower", low > 0, low),
+        1 => ("upper", high < 0, high),
+        _ => return Err("the variable is free at the end".to_string()),
+    };
+    same("ground", &ground, &name)?;
+    same("bound", &bound, &Some(count as f64))?;
+    if strict {
+        Ok(())
+    } else {
+        Err("the bound is not strict with the listed values alone".to_string())
+    }
 }
 
 /// f of a completion is the reduced f plus the constant.

@@ -1,15 +1,15 @@
-//! Document 01's values worked by hand, its two that were run, and document 02's examples under C-13 and C-14.
+//! Document 01's values worked by hand, its two that were run, and document 02's examples under C-11, C-13 and C-14.
 //! Usage: `worked` writes them as a stream of cases, `worked ANSWERS` checks the answers to it.
 
 use std::io::{self, BufWriter, Write};
 use stream::line::part;
 use stream::{Call, Case};
-use tools::recorded::{ample, worked_case, FLAT, WORKED};
+use tools::recorded::{ample, reason_case, worked_case, Worked, FLAT, REASONS, WORKED};
 
 /// A value's name, the call, and what stands in the answer: its first words, a part's name and content.
 type Expected = (&'static str, Call, &'static str, &'static str, &'static str);
 
-const EXPECTED: [Expected; 44] = [
+const EXPECTED: [Expected; 63] = [
     ("a", Call::Closure, "0 exact ", "values", ""),
     ("b", Call::Closure, "0 exact ", "values", "2"),
     ("b", Call::Preprocess, "0 exact ", "values", "0"),
@@ -90,7 +90,89 @@ const EXPECTED: [Expected; 44] = [
     ("given", Call::Closure, "0 exact ", "count", "0"),
     ("cancelling", Call::Closure, "0 inexact ", "values", "20"),
     ("cancelling", Call::Closure, "0 inexact ", "count", "1"),
+    (
+        "g: x0",
+        Call::Reason,
+        "0 exact ground=upper unit=0 ",
+        "bound",
+        "c158000000000000",
+    ),
+    ("g: x0", Call::Reason, "0 exact ", "variables", ""),
+    (
+        "g: x1",
+        Call::Reason,
+        "0 exact ground=lower unit=0 ",
+        "bound",
+        "4140000000000000",
+    ),
+    ("g: x1", Call::Reason, "0 exact ", "variables", "0"),
+    (
+        "h: x1",
+        Call::Reason,
+        "0 exact ground=upper unit=0 ",
+        "bound",
+        "c140000000000000",
+    ),
+    ("h: x1", Call::Reason, "0 exact ", "variables", "0"),
+    (
+        "h: x0",
+        Call::Reason,
+        "0 exact ground=given unit=0 ",
+        "bound",
+        "0000000000000000",
+    ),
+    ("h: x0", Call::Reason, "0 exact ", "variables", ""),
+    (
+        "both ways: x1",
+        Call::Reason,
+        "0 exact ground=lower unit=0 ",
+        "bound",
+        "4148000000000000",
+    ),
+    ("both ways: x1", Call::Reason, "0 exact ", "variables", "0"),
+    (
+        "waiting: x2",
+        Call::Reason,
+        "0 exact ground=lower unit=0 ",
+        "bound",
+        "4140000000000000",
+    ),
+    ("waiting: x2", Call::Reason, "0 exact ", "variables", "0"),
+    (
+        "zero listed: x0",
+        Call::Reason,
+        "0 exact ground=upper unit=0 ",
+        "bound",
+        "c140000000000000",
+    ),
+    (
+        "zero listed: x0",
+        Call::Reason,
+        "0 exact ",
+        "variables",
+        "1",
+    ),
+    (
+        "coarse: x0",
+        Call::Reason,
+        "0 exact ground=upper unit=30 ",
+        "bound",
+        "c1e0000000000000",
+    ),
+    ("e: x0", Call::Reason, "13 ", "variables", "kept"),
+    ("e: x2", Call::Reason, "13 ", "variables", "kept"),
+    ("swallowed: x0", Call::Reason, "12 ", "variables", "kept"),
+    ("swallowed: x9", Call::Reason, "12 ", "floats", "zeros"),
 ];
+
+fn worked_field(name: &str) -> &'static Worked {
+    WORKED
+        .iter()
+        .chain(&FLAT)
+        .chain(&REASONS)
+        .find(|w| w.0 == name)
+        .expect("a worked field")
+}
 
 fn case_of(&(name, call, ..): &Expected) -> Case {
     if call == Call::Propagation {
@@ -100,13 +182,13 @@ fn case_of(&(name, call, ..): &Expected) -> Case {
         ample(&mut case);
         return case;
     }
+    if call == Call::Reason {
+        let (field, variable) = name.split_once(": x").expect("a variable");
+        let variable = variable.parse().expect("its number");
+        return reason_case(worked_field(field), variable);
+    }
     let field = name.split(", x1").next().unwrap_or(name);
-    let worked = WORKED
-        .iter()
-        .chain(&FLAT)
-        .find(|w| w.0 == field)
-        .expect("a worked field");
-    let mut case = worked_case(call, worked);
+    let mut case = worked_case(call, worked_field(field));
     if call.probes_one() {
         case.variable = 1;
         case.value = u64::from(name.ends_with('1'));

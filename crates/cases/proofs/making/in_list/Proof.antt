@@ -55,11 +55,29 @@ same-length-8 c = search needs
 returns-3 : tie.Need-returns-3
 returns-3 c = counted-few (c .before .before .before .before .before .no-effect .result) (c .counted2 .ensures)
 
+reason-requires : tie.Need-reason-requires
+reason-requires c κs = search needs
+
+reasoned-requires : tie.Need-reasoned-requires
+reasoned-requires c κs = search needs
+
+same-length-9 : tie.Need-same-length-9
+same-length-9 c = search needs
+
+same-length-10 : tie.Need-same-length-10
+same-length-10 c = search needs
+
+same-length-11 : tie.Need-same-length-11
+same-length-11 c = search needs
+
+returns-4 : tie.Need-returns-4
+returns-4 c = search needs
+
 refused-requires : tie.Need-refused-requires
 refused-requires c κs = search needs
 
-returns-4 : tie.Need-returns-4
-returns-4 c = absent-few (c .refused .ensures)
+returns-5 : tie.Need-returns-5
+returns-5 c = absent-few (c .refused .ensures)
 
 pub in-list-spec : {M : Type 1} → statement M
 in-list-spec =
@@ -82,5 +100,11 @@ in-list-spec =
     same-length-7
     same-length-8
     returns-3
+    reason-requires
+    reasoned-requires
+    same-length-9
+    same-length-10
+    same-length-11
+    returns-4
     refused-requires
-    returns-4)
+    returns-5)

@@ -1,0 +1,16 @@
+pub mod Local
+pub mod Scaled
+pub mod Until
+pub mod Listed
+pub mod Explained
+pub mod Theorems
+pub mod Unforced
+pub mod Halting
+pub mod Resting
+pub mod Marks
+pub mod MarkTurns
+pub mod Traces
+pub mod Calls
+pub mod Ranks
+pub mod Laws
+pub mod Demands

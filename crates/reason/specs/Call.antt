@@ -1,0 +1,88 @@
+-- What the call `reason` answers and leaves, as one function of what it is given, for every input. Assumes nothing.
+use Prim.Native.Nat.{ℕ, _<_}
+use mathlib.Core.Path.{_≡_}
+use mathlib.Core.Logic.{_≢_}
+use mathlib.Core.Bool.{Bool, not, _&&_}
+use mathlib.Core.List.{List, [], _∷_, _++_}
+use lib.Dec.{leb, ltb}
+use lib.ListN.{length, getD}
+use lib.Ieee.{Float}
+use Rattle.weights.specs.Worth.{zero64}
+use Rattle.scratch.specs.Cleared.{cleared}
+use Rattle.scratch.specs.Over.{over}
+use Rattle.meaning.specs.Free.{isFree}
+use Rattle.field.specs.declared.Refusal.the-variants.{Inexact, Unforced, Room}
+use Rattle.field.specs.Answers.{numberOf}
+use Rattle.field.specs.Field.{Field, variables}
+use Rattle.field.specs.Table.{Test, test}
+use Rattle.field.specs.declared.Grade.the-variants.{Exact}
+use Rattle.field.specs.Tests.{readyTests, Ready}
+use Rattle.field.specs.Grade.{isExact, gradeOf}
+use Rattle.calls.specs.Call as any
+use Rattle.calls.specs.Call.{Stage, called, stage, usual}
+use Rattle.run.specs.Run.{closure}
+use Rattle.reason.specs.declared.Reasoned.{Reasoned}
+use Rattle.reason.specs.declared.Reasoned.the-variants.{Because, Refuses}
+use Rattle.reason.specs.Ground.{leastUnit, reasonOf, reasonList}
+
+-- the three lent lists
+pub record Lent : Type 0 where
+  pub list : List ℕ
+  pub floats : List Float
+  pub words : List ℕ
+
+abbrev pub lent : List ℕ → List Float → List ℕ → Lent
+lent l f u = record { list = l; floats = f; words = u }
+
+-- the answer, and the three lent lists afterwards
+abbrev pub Left : Type 0
+Left = any.Left Reasoned Lent
+
+abbrev pub left : Reasoned → List ℕ → List Float → List ℕ → Left
+left r l f u = any.left r (lent l f u)
+
+-- 13: "the variable isn't below n or is free at the end"
+unfoldable pub hasValue : Field → List ℕ → ℕ → Bool
+hasValue F s i = ltb i (variables F) && not (isFree (closure F s) i)
+
+-- what passing all but 9 leaves
+pub record Reasonable (F : Field) (s : List ℕ) (i floats words : ℕ) : Type 0 where
+  pub ready : Ready F s floats words
+  pub exact : gradeOf F ≡ Exact
+  pub below : i < variables F
+  pub fixed : getD (closure F s) i 0 ≢ 2
+
+-- 9: "a full answer has more items than its list has room for"
+unfoldable pub fits : Field → List ℕ → ℕ → List ℕ → Bool
+fits F s i l = leb (length (reasonList F s i)) (length l)
+
+-- the closure's tests, then "12, the field is inexact", 13 and 9
+unfoldable pub reasonTests : Field → List ℕ → ℕ → List ℕ → ℕ → ℕ → List Test
+reasonTests F s i l floats words = readyTests F s floats words ++ test Inexact (isExact F) ∷ test Unforced (hasValue F s i) ∷ test Room (fits F s i l) ∷ []
+
+-- "both after 8 and before 9, in this order, with lists unchanged"; on 9 "each answer list is all zeros"; "After passing 8, scratch ends as all zeros"
+abbrev pub laterStages : Field → List ℕ → ℕ → List ℕ → List Float → List ℕ → List (Stage Lent)
+laterStages F s i l f u =
+    stage Inexact (isExact F) (lent l (cleared zero64 f) (cleared 0 u))
+    ∷ stage Unforced (hasValue F s i) (lent l (cleared zero64 f) (cleared 0 u))
+    ∷ stage Room (fits F s i l) (lent (cleared 0 l) (cleared zero64 f) (cleared 0 u))
+    ∷ []
+
+-- the ground, the unit, and the neighbours at the front of the list: "elements past an answer list's last item are unchanged"
+abbrev pub because : Field → List ℕ → ℕ → Reasoned
+because F s i = Because (reasonOf F s i) (leastUnit F) (length (reasonList F s i))
+
+unfoldable pub reasonCall : Field → List ℕ → ℕ → List ℕ → List Float → List ℕ → Left
+reasonCall F s i l f u =
+    called
+    (usual Refuses (lent l f u) (readyTests F s (length f) (length u)) (laterStages F s i l f u)
+    (left (because F s i) (over (reasonList F s i) l) (cleared zero64 f) (cleared 0 u)))
+
+-- the table's number of an answer
+abbrev pub reasonedNumber : Reasoned → ℕ
+reasonedNumber (Because g k m) = 0
+reasonedNumber (Refuses r) = numberOf r
+
+-- item t of the list that is left
+abbrev pub item : Field → List ℕ → ℕ → List ℕ → List Float → List ℕ → ℕ → ℕ
+item F s i l f u t = getD (reasonCall F s i l f u .lent .list) t 0
