@@ -1,9 +1,8 @@
 -- What the enumeration asks of lent memory. Assumes nothing.
-use Prim.Native.Nat.{ℕ, _+_, _^_, _<_, _≤_}
+use Prim.Native.Nat.{ℕ, _+_, _<_, _≤_}
 use mathlib.Core.Path.{_≡_}
 use mathlib.Core.List.{List}
 use lib.ListN.{length, getD}
-use lib.Ieee.{Float}
 use Rattle.field.specs.Field.{Field, variables, Shaped}
 use Rattle.places.specs.Places.{Adjacent}
 
@@ -26,8 +25,3 @@ pub record Small (n : ℕ) (u : List ℕ) (at count : ℕ) : Type 0 where
   pub few : count ≤ 10
   pub room : at + count ≤ length u
   pub below : (b : ℕ) → b < count → getD u (at + b) 0 < n
-
--- a table of the sums of all masks of count bits
-pub record Sized (count : ℕ) (table : List Float) : Type 0 where
-  pub few : count ≤ 10
-  pub size : length table ≡ 2 ^ count

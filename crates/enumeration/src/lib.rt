@@ -3,16 +3,15 @@ mod linear;
 mod pairs;
 
 ghost use mathlib.Core.Path.{_≡_};
-ghost use Prim.Native.Nat.{_^_};
-ghost use lib.ListN.{length, replicate};
-ghost use Rattle.weights.specs.Worth.{zero64};
+ghost use lib.ListN.{length};
 ghost use Rattle.scratch.specs.Lent.{before, after};
 ghost use Rattle.scratch.specs.Region.{region};
 ghost use Rattle.field.specs.Field.{given, lent};
+ghost use Rattle.masks.specs.Listed.{Room};
 ghost use Rattle.enumeration.specs.Held.{Held, Small};
 ghost use Rattle.enumeration.specs.Terms.{maskOf, putTo, solved};
 
-// The mask that wins, by the sums of all masks in the lent table.
+// The mask that wins, by the terms that it lists.
 fn choose(
     c: &[f64],
     rows: &[u16],
@@ -22,19 +21,21 @@ fn choose(
     u: &[u32],
     at: usize,
     count: usize,
-    table: &mut [f64],
+    terms: &mut [f64],
+    required: &mut [u16],
 ) -> usize
     requires { ⌜ Held (lent c rows cols q) (now values) (now u) ⌝ }
     requires { ⌜ Small (length (now c)) (now u) at count ⌝ }
-    requires { ⌜ now table ≡ replicate (2 ^ count) zero64 ⌝ }
+    requires { ⌜ Room 110 (now terms) (now required) ⌝ }
     ensures { λ r. ⌜ r ≡ maskOf (given c rows cols q) (before values) (region at count (before u)) ⌝ }
 {
-    linear::add_linear(c, rows, cols, q, values, u, at, count, table);
-    pairs::add_pairs(c, rows, cols, q, u, at, count, table);
-    masks::lowest(table)
+    let linear = linear::list_linear(c, rows, cols, q, values, u, at, count, terms, required);
+    let end = pairs::list_pairs(c, rows, cols, q, u, at, count, linear, terms, required);
+    let size = masks::bit(count);
+    masks::lowest(terms, required, end, size)
 }
 
-// The mask that wins among those of the count members at `at`.
+// The mask that wins among those of the count members at `at`: at most 10 linear terms, and 100 of pairs.
 fn enumerate(
     c: &[f64],
     rows: &[u16],
@@ -49,9 +50,20 @@ fn enumerate(
     requires { ⌜ Small (length (now c)) (now u) at count ⌝ }
     ensures { λ r. ⌜ r ≡ maskOf (given c rows cols q) (before values) (region at count (before u)) ⌝ }
 {
-    let mut table = [0.0; 1024];
-    let size = masks::bit(count);
-    choose(c, rows, cols, q, values, u, at, count, &mut table[..size])
+    let mut terms = [0.0; 110];
+    let mut required = [0u16; 110];
+    choose(
+        c,
+        rows,
+        cols,
+        q,
+        values,
+        u,
+        at,
+        count,
+        &mut terms,
+        &mut required,
+    )
 }
 
 // Bit b of the mask becomes the value of member b.

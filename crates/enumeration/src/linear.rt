@@ -6,8 +6,8 @@ ghost use lib.ListN.{length};
 ghost use Rattle.scratch.specs.Lent.{before, after};
 ghost use Rattle.scratch.specs.Region.{region};
 ghost use Rattle.field.specs.Field.{given, lent, variables, entries};
-ghost use Rattle.masks.specs.Masks.{Added};
-ghost use Rattle.enumeration.specs.Held.{Valued, Held, Small, Sized};
+ghost use Rattle.masks.specs.Listed.{lists, Room, Listed};
+ghost use Rattle.enumeration.specs.Held.{Valued, Held, Small};
 ghost use Rattle.enumeration.specs.Terms.{linearAt, linearPart, linearTerms};
 
 // The sum after place k of variable i: a fixed other end adds coefficient times value.
@@ -58,8 +58,8 @@ fn linear_of(
     sum
 }
 
-// The linear terms, in pop order.
-pub fn add_linear(
+// The linear terms, in pop order, from the front of the lists; answers where they end.
+pub fn list_linear(
     c: &[f64],
     rows: &[u16],
     cols: &[u16],
@@ -68,16 +68,19 @@ pub fn add_linear(
     u: &[u32],
     at: usize,
     count: usize,
-    table: &mut [f64],
-)
+    terms: &mut [f64],
+    required: &mut [u16],
+) -> usize
     requires { ⌜ Held (lent c rows cols q) (now values) (now u) ⌝ }
     requires { ⌜ Small (length (now c)) (now u) at count ⌝ }
-    requires { ⌜ Sized count (now table) ⌝ }
-    ensures { λ _. ⌜ Added (linearTerms (given c rows cols q) (before values) (region at count (before u)) count) (before table) (after table) ⌝ }
+    requires { ⌜ Room 10 (now terms) (now required) ⌝ }
+    ensures { λ r. ⌜ Listed (linearTerms (given c rows cols q) (before values) (region at count (before u)) count) (lists 0 (before terms) (before required)) (lists r (after terms) (after required)) ⌝ }
 {
+    let mut end = 0;
     for b in 0..count {
         let i = wide_word(u[at + b]);
         let value = linear_of(c, rows, cols, q, values, u, i);
-        masks::add_term(table, masks::bit(b), value);
+        end = masks::list_term(terms, required, end, masks::bit(b), value);
     }
+    end
 }

@@ -2,13 +2,13 @@
 use scratch::wide_short;
 use scratch::wide_word;
 ghost use mathlib.Core.Path.{_≡_};
-ghost use Prim.Native.Nat.{_<_};
+ghost use Prim.Native.Nat.{_+_, _<_};
 ghost use lib.ListN.{length};
 ghost use Rattle.scratch.specs.Lent.{before, after};
 ghost use Rattle.scratch.specs.Region.{region};
 ghost use Rattle.field.specs.Field.{given, lent, variables, entries};
-ghost use Rattle.masks.specs.Masks.{Added};
-ghost use Rattle.enumeration.specs.Held.{Placed, Small, Sized};
+ghost use Rattle.masks.specs.Listed.{lists, Room, Listed};
+ghost use Rattle.enumeration.specs.Held.{Placed, Small};
 ghost use Rattle.enumeration.specs.Terms.{stands, entryOf, pairTerm, columnTerms, pairTerms};
 
 // Whether entry k is (i, j).
@@ -46,8 +46,8 @@ fn entry_of(
     q.len()
 }
 
-// The term of members a and b, in row and column, if such an entry stands.
-fn add_pair(
+// The term of members a and b, in row and column, at the end of the lists if such an entry stands; answers where they end then.
+fn list_pair(
     c: &[f64],
     rows: &[u16],
     cols: &[u16],
@@ -57,27 +57,35 @@ fn add_pair(
     count: usize,
     b: usize,
     a: usize,
-    table: &mut [f64],
-)
+    end: usize,
+    terms: &mut [f64],
+    required: &mut [u16],
+) -> usize
     requires { ⌜ Placed (lent c rows cols q) (now u) ⌝ }
     requires { ⌜ Small (length (now c)) (now u) at count ⌝ }
-    requires { ⌜ Sized count (now table) ⌝ }
+    requires { ⌜ Room (end + 1) (now terms) (now required) ⌝ }
     requires { ⌜ a < count ⌝ }
     requires { ⌜ b < count ⌝ }
-    ensures { λ _. ⌜ Added (pairTerm (given c rows cols q) (region at count (before u)) b a) (before table) (after table) ⌝ }
+    ensures { λ r. ⌜ Listed (pairTerm (given c rows cols q) (region at count (before u)) b a) (lists end (before terms) (before required)) (lists r (after terms) (after required)) ⌝ }
 {
     let i = wide_word(u[at + a]);
     let j = wide_word(u[at + b]);
     let k = entry_of(c, rows, cols, q, u, i, j);
     if k >= q.len() {
-        return;
+        return end;
     }
     let weight = q[k];
-    masks::add_term(table, masks::bit(a) | masks::bit(b), weights::half(weight));
+    masks::list_term(
+        terms,
+        required,
+        end,
+        masks::bit(a) | masks::bit(b),
+        weights::half(weight),
+    )
 }
 
 // The terms of the column of member b, by rows in pop order.
-fn add_column(
+fn list_column(
     c: &[f64],
     rows: &[u16],
     cols: &[u16],
@@ -86,21 +94,25 @@ fn add_column(
     at: usize,
     count: usize,
     b: usize,
-    table: &mut [f64],
-)
+    from: usize,
+    terms: &mut [f64],
+    required: &mut [u16],
+) -> usize
     requires { ⌜ Placed (lent c rows cols q) (now u) ⌝ }
     requires { ⌜ Small (length (now c)) (now u) at count ⌝ }
-    requires { ⌜ Sized count (now table) ⌝ }
+    requires { ⌜ Room (from + 10) (now terms) (now required) ⌝ }
     requires { ⌜ b < count ⌝ }
-    ensures { λ _. ⌜ Added (columnTerms (given c rows cols q) (region at count (before u)) b count) (before table) (after table) ⌝ }
+    ensures { λ r. ⌜ Listed (columnTerms (given c rows cols q) (region at count (before u)) b count) (lists from (before terms) (before required)) (lists r (after terms) (after required)) ⌝ }
 {
+    let mut end = from;
     for a in 0..count {
-        add_pair(c, rows, cols, q, u, at, count, b, a, table);
+        end = list_pair(c, rows, cols, q, u, at, count, b, a, end, terms, required);
     }
+    end
 }
 
 // All of them, by columns in pop order.
-pub fn add_pairs(
+pub fn list_pairs(
     c: &[f64],
     rows: &[u16],
     cols: &[u16],
@@ -108,14 +120,18 @@ pub fn add_pairs(
     u: &[u32],
     at: usize,
     count: usize,
-    table: &mut [f64],
-)
+    from: usize,
+    terms: &mut [f64],
+    required: &mut [u16],
+) -> usize
     requires { ⌜ Placed (lent c rows cols q) (now u) ⌝ }
     requires { ⌜ Small (length (now c)) (now u) at count ⌝ }
-    requires { ⌜ Sized count (now table) ⌝ }
-    ensures { λ _. ⌜ Added (pairTerms (given c rows cols q) (region at count (before u)) count) (before table) (after table) ⌝ }
+    requires { ⌜ Room (from + 100) (now terms) (now required) ⌝ }
+    ensures { λ r. ⌜ Listed (pairTerms (given c rows cols q) (region at count (before u)) count) (lists from (before terms) (before required)) (lists r (after terms) (after required)) ⌝ }
 {
+    let mut end = from;
     for b in 0..count {
-        add_column(c, rows, cols, q, u, at, count, b, table);
+        end = list_column(c, rows, cols, q, u, at, count, b, end, terms, required);
     }
+    end
 }

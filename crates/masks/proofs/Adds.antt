@@ -8,7 +8,7 @@ use Rattle.whole.specs.Whole.{Whole, nothing, _⊕_, only, Under}
 use Rattle.weights.specs.Worth.{Worth}
 use Rattle.weights.proofs.Worth.{add-worth, as-worth}
 use Rattle.masks.specs.Masks.{Term, term, has, plus, sumAt}
-use Rattle.masks.proofs.Added.{sum-append}
+use Rattle.masks.proofs.Summing.{sum-append}
 
 -- these terms add the ledger a, of at most b either way, to the sum of the mask
 pub record Adds (u mask : ℕ) (ts : List Term) (a : Whole) (b : ℕ) : Type 0 where

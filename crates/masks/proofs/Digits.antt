@@ -10,9 +10,7 @@ use lib.Dec.{eqb}
 use lib.Pow.{shr-shr}
 use borrow.Author.Tests.{eqb-true, eq-eqb}
 use Rattle.masks.specs.Masks.{has}
-use Rattle.masks.specs.Walk.{Part}
-use Rattle.masks.proofs.Parts.{part-half, part-digit, part-join}
-use Rattle.masks.proofs.Walked.{has-part, part-has}
+use Rattle.masks.proofs.Parts.{Part, part-half, part-digit, part-join, has-part, part-has}
 
 same-test : (a b : Bool) → (a ≡ true → b ≡ true) → (b ≡ true → a ≡ true) → a ≡ b
 same-test true b f g = sym (f refl)

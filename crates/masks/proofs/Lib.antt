@@ -1,8 +1,8 @@
 pub mod Parts
-pub mod Walked
-pub mod Least
-pub mod Added
 pub mod Digits
+pub mod Listing
+pub mod Summing
+pub mod Least
 pub mod Adds
 pub mod Order
 pub mod Winner

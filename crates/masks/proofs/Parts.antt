@@ -1,14 +1,15 @@
--- Masks as parts of one another, digit by digit; the next smaller part of a mask passes over none. Assumes nothing.
-use Prim.Native.Nat.{ℕ, zero, suc, _+_, _-_, _/_, _%_, _^_, _≤_, _<_}
-use mathlib.Core.Path.{_≡_, refl, _∙_}
+-- Masks as parts of one another, digit by digit. Assumes nothing.
+use Prim.Native.Nat.{ℕ, _+_, _*_, _/_, _%_, _≤_, _<_}
+use mathlib.Core.Path.{_≡_, ap, _∙_}
+use mathlib.Core.Bool.{true}
 use native.Mathlib.Omega.{arith}
-use native.Mathlib.Decide.{decLt}
-use native.Mathlib.Nat.{mod-eq-of-lt}
-use lib.Arith.{bin-ind}
-use lib.Bits.{bitAnd, bitOr, bitXor, differ, and-step, and-le-l, and-le-r, and-comm, and-mask, or-disjoint, xor-add-and}
-use Rattle.masks.specs.Walk.{Part}
+use lib.Bits.{bitAnd, and-step, and-le-l, and-le-r, and-comm, and-mask, and-block}
+use borrow.Author.Tests.{eqb-true, eq-eqb}
+use Rattle.masks.specs.Masks.{has}
 
--- ---- digit by digit
+-- every bit of a is one of b
+abbrev pub Part : ℕ → ℕ → Type 0
+Part a b = bitAnd a b ≡ a
 
 pub part-half : (a b : ℕ) → Part a b → Part (a / 2) (b / 2)
 part-half a b h = omega (arith, and-step a b, and-le-l (a / 2) (b / 2))
@@ -19,102 +20,34 @@ part-digit a b h = omega (arith, and-step a b, and-le-l (a / 2) (b / 2))
 pub part-join : (a b : ℕ) → Part (a / 2) (b / 2) → a % 2 ≤ b % 2 → Part a b
 part-join a b h d = omega (arith, and-step a b)
 
-pub part-le : (a b : ℕ) → Part a b → a ≤ b
-part-le a b h = omega (arith, and-le-r a b)
+-- ---- what a mask must have
 
-digits-differ : (x y : ℕ) → x < 2 → y ≤ x → differ x y ≡ x - y
-digits-differ zero zero h d = refl
-digits-differ (suc zero) zero h d = refl
-digits-differ (suc zero) (suc zero) h d = refl
-digits-differ zero (suc y) h d = absurd (omega arith)
-digits-differ (suc zero) (suc (suc y)) h d = absurd (omega arith)
-digits-differ (suc (suc x)) y h d = absurd (omega arith)
+pub has-part : (mask r : ℕ) → has mask r ≡ true → Part r mask
+unfolding has
+has-part mask r h = and-comm r mask ∙ eqb-true _ _ h
 
--- ---- what is left of a mask without a part
+pub part-has : (mask r : ℕ) → Part r mask → has mask r ≡ true
+unfolding has
+part-has mask r h = eq-eqb _ _ (and-comm mask r ∙ h)
 
-pub rest : (o r : ℕ) → Part r o → bitXor o r ≡ o - r
-rest o r h = omega (arith, xor-add-and o r, and-comm o r, part-le r o h)
+-- ---- a block of thirty-two masks, from a multiple of 32 on
 
--- the part of m besides r is a part of what is left of o
-pub besides : (o m r : ℕ) → Part m o → Part r m → Part (m - r) (o - r)
-besides = bin-ind (λ (o : ℕ). (m r : ℕ) → Part m o → Part r m → Part (m - r) (o - r)) none more
-  where
-    none : (m r : ℕ) → Part m 0 → Part r m → Part (m - r) (0 - r)
-    none m r p q = let z : m - r ≡ 0 = omega (arith, part-le m 0 p) in rw z refl
+-- a mask of the block has the required bits if the block has those above the last five, and the mask's last five have the others
+module _ (base bits : ℕ) (e : base % 32 ≡ 0) where
+  apart : (l : ℕ) → l < 32 → bitAnd (base + l) bits ≡ bitAnd (base / 32) (bits / 32) * 32 + bitAnd l (bits % 32)
+  apart l h =
+      let x : base + l ≡ base / 32 * 32 + l = omega arith in
+      let y : bits ≡ bits / 32 * 32 + bits % 32 = omega arith in
+      ap (λ (m : ℕ). bitAnd m bits) x ∙ ap (λ (b : ℕ). bitAnd (base / 32 * 32 + l) b) y ∙ and-block 5 (base / 32) (bits / 32) l (bits % 32) h (omega arith)
 
-    more : (o : ℕ) → ((m r : ℕ) → Part m (o / 2) → Part r m → Part (m - r) (o / 2 - r)) → (m r : ℕ) → Part m o → Part r m → Part (m - r) (o - r)
-    more o ih m r p q =
-        let a : m % 2 ≤ o % 2 = part-digit m o p in
-        let b : r % 2 ≤ m % 2 = part-digit r m q in
-        let c : m / 2 ≤ o / 2 = part-le _ _ (part-half m o p) in
-        let d : r / 2 ≤ m / 2 = part-le _ _ (part-half r m q) in
-        let e : (m - r) / 2 ≡ m / 2 - r / 2 = omega arith in
-        let f : (o - r) / 2 ≡ o / 2 - r / 2 = omega arith in
-        part-join (m - r) (o - r) (rw (e, f) (ih (m / 2) (r / 2) (part-half m o p) (part-half r m q))) (omega arith)
+  -- what one of them has, the last has too
+  pub last-has : (l : ℕ) → l < 32 → bitAnd (base + l) bits ≡ bits → bitAnd (base + 31) bits ≡ bits
+  last-has l h p = omega (arith, apart l h, apart 31 (omega arith), and-le-r l (bits % 32), and-comm 31 (bits % 32), and-mask (bits % 32) 5)
 
--- r and a part s of what is left of o without r: they have no bit in common, r is part of their sum, and the sum is part of o
-pub record Joined (o r s : ℕ) : Type 0 where
-  pub apart : bitAnd r s ≡ 0
-  pub within : Part r (r + s)
-  pub part : Part (r + s) o
+  -- what one of them has, its last five bits have of the last five
+  pub low-has : (l : ℕ) → l < 32 → bitAnd (base + l) bits ≡ bits → bitAnd l (bits % 32) ≡ bits % 32
+  low-has l h p = omega (arith, apart l h, and-le-r l (bits % 32))
 
-pub joined : (o r s : ℕ) → Part r o → Part s (o - r) → Joined o r s
-joined = bin-ind (λ (o : ℕ). (r s : ℕ) → Part r o → Part s (o - r) → Joined o r s) none more
-  where
-    none : (r s : ℕ) → Part r 0 → Part s (0 - r) → Joined 0 r s
-    none r s p q =
-        let a : r ≡ 0 = omega (arith, part-le r 0 p) in
-        let b : s ≡ 0 = omega (arith, part-le s (0 - r) q) in
-        rw (a, b) (record { apart = refl; within = refl; part = refl })
-
-    more : (o : ℕ) → ((r s : ℕ) → Part r (o / 2) → Part s (o / 2 - r) → Joined (o / 2) r s) → (r s : ℕ) → Part r o → Part s (o - r) → Joined o r s
-    more o ih r s p q =
-        let a : r % 2 ≤ o % 2 = part-digit r o p in
-        let b : r / 2 ≤ o / 2 = part-le _ _ (part-half r o p) in
-        let e : (o - r) / 2 ≡ o / 2 - r / 2 = omega arith in
-        let f : (o - r) % 2 ≡ o % 2 - r % 2 = omega arith in
-        let d : s % 2 ≤ (o - r) % 2 = part-digit s (o - r) q in
-        let g : (r + s) / 2 ≡ r / 2 + s / 2 = omega arith in
-        let h : (r + s) % 2 ≡ r % 2 + s % 2 = omega arith in
-        let j = ih (r / 2) (s / 2) (part-half r o p) (rw e at (part-half s (o - r) q)) in
-        record {
-          apart = omega (arith, and-step r s, j .apart);
-          within = part-join r (r + s) (rw g (j .within)) (omega arith);
-          part = part-join (r + s) o (rw g (j .part)) (omega arith);
-        }
-
-pub joined-or : {o r s : ℕ} → Joined o r s → bitOr r s ≡ r + s
-joined-or {r = r} {s = s} j = or-disjoint r s (j .apart)
-
--- ---- the next smaller part
-
-pub next-part : (s f : ℕ) → Part (bitAnd (s - 1) f) f
-next-part s f = and-part (s - 1) f
-  where
-    and-part : (a b : ℕ) → Part (bitAnd a b) b
-    and-part = bin-ind (λ (a : ℕ). (b : ℕ) → Part (bitAnd a b) b) (λ b. refl) (λ a ih b.
-        let e = and-step a b in
-        let x : bitAnd a b / 2 ≡ bitAnd (a / 2) (b / 2) = omega arith in
-        part-join (bitAnd a b) b (rw x (ih (b / 2))) (omega arith))
-
--- a part of f that is smaller than the part s is at most the next
-pub none-between : (s t f : ℕ) → Part s f → Part t f → t < s → t ≤ bitAnd (s - 1) f
-none-between = bin-ind (λ (s : ℕ). (t f : ℕ) → Part s f → Part t f → t < s → t ≤ bitAnd (s - 1) f) (λ t f p q h. absurd (omega arith)) more
-  where
-    more : (s : ℕ) → ((t f : ℕ) → Part (s / 2) f → Part t f → t < s / 2 → t ≤ bitAnd (s / 2 - 1) f) → (t f : ℕ) → Part s f → Part t f → t < s → t ≤ bitAnd (s - 1) f
-    more s ih t f p q h =
-        let a = part-half s f p in
-        let b = part-half t f q in
-        let d = part-digit t f q in
-        elim (decLt (s % 2) 1) [
-          | no k ↦ (let e : (s - 1) / 2 ≡ s / 2 = omega arith in let step = rw e at (and-step (s - 1) f) in omega arith)
-          | yes k ↦ (let e : (s - 1) / 2 ≡ s / 2 - 1 = omega arith in
-              let step = rw e at (and-step (s - 1) f) in
-              let z = ih (t / 2) (f / 2) a b (omega arith) in
-              omega arith)
-        ]
-
--- ---- all masks of k bits
-
-pub part-all : (k m : ℕ) → m < 2 ^ k → Part m (2 ^ k - 1)
-part-all k m h = and-mask m k ∙ mod-eq-of-lt h
+  -- and where the last has the others, back again
+  pub has-low : (l : ℕ) → l < 32 → bitAnd (base + 31) bits ≡ bits → bitAnd l (bits % 32) ≡ bits % 32 → bitAnd (base + l) bits ≡ bits
+  has-low l h w p = omega (arith, apart l h, apart 31 (omega arith), and-le-r 31 (bits % 32))

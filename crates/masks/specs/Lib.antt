@@ -1,2 +1,3 @@
 pub mod Masks
-pub mod Walk
+pub mod Listed
+pub mod Block

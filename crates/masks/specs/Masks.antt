@@ -1,5 +1,5 @@
 -- Masks of at most 10 bits; terms, each of which counts in the masks that have its required bits; the sum of each mask, and the lowest mask of least sum. Assumes nothing.
-use Prim.Native.Nat.{ℕ, zero, suc, _+_, _/_, _%_, _^_, _<_, _≤_}
+use Prim.Native.Nat.{ℕ, zero, suc, _+_, _/_, _%_, _^_, _<_}
 use mathlib.Core.Path.{_≡_}
 use mathlib.Core.Logic.{_⊎_}
 use mathlib.Core.Bool.{Bool, true, false, cond}
@@ -10,12 +10,6 @@ use lib.ListN.{length, getD}
 use lib.Ieee.{Float, nan, binary64, add, lt, ofBits}
 use Rattle.whole.specs.Whole.{Whole, _⊑_}
 use Rattle.weights.specs.Worth.{zero64}
-
--- size is the number of masks of a few bits; "No objective table holds more than 1,024 sums"
-pub record Masks (size : ℕ) : Type 0 where
-  pub bits : ℕ
-  pub few : bits ≤ 10
-  pub all : size ≡ 2 ^ bits
 
 -- a value, and the bits that a mask must have for it to count
 pub record Term : Type 0 where
@@ -41,19 +35,6 @@ sumAt mask sum (t ∷ ts) = sumAt mask (plus mask sum t) ts
 -- the objective of a mask
 abbrev pub objective : List Term → ℕ → Float
 objective ts mask = sumAt mask zero64 ts
-
--- the elements of a table by their positions
-abbrev pub element : List Float → ℕ → Float
-element table mask = getD table mask nan
-
--- the table holds g of every mask
-pub record Sums (g : ℕ → Float) (table : List Float) : Type 0 where
-  pub at : (mask : ℕ) → mask < length table → element table mask ≡ g mask
-
--- the table t is t₀ with these terms added
-pub record Added (ts : List Term) (t₀ t : List Float) : Type 0 where
-  pub long : length t ≡ length t₀
-  pub sums : Sums (λ mask. sumAt mask (element t₀ mask) ts) t
 
 -- a mask and its sum
 pub record Best : Type 0 where

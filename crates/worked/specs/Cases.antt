@@ -1,4 +1,4 @@
--- Document 01's values worked by hand, cases a to n, those of document 02's C-11 and C-12, and others beside them: each names its call, what it is given, and its answer. Assumes nothing.
+-- Document 01's values worked by hand, cases a to n, those of document 02's requests, and others beside them: each names its call, what it is given, and its answer. Assumes nothing.
 use Prim.Native.Nat.{ℕ, _+_, _*_}
 use mathlib.Core.Bool.{true, false}
 use mathlib.Core.List.{List, [], _∷_, _++_}
@@ -32,7 +32,7 @@ use Rattle.reason.specs.declared.Ground.{Ground}
 use Rattle.reason.specs.declared.Ground.the-variants.{Given, Lower, Upper}
 use Rattle.reason.specs.declared.Reasoned.the-variants as reasoned
 use Rattle.reason.specs.Call as reason
-use Rattle.worked.specs.Fields.{nought, half, sixteenth, above-limit, minus-half, minus-one, two, minus-two, four, minus-five, six, alone, joined, apart, opposed, swallowing, unbalanced, two-parts, overflowing, on-diagonal, with-zero, parted, popped, one-term, two-pairs, linked, at-tolerance, placed, cancelling, both-ways, waiting, heavy-rate}
+use Rattle.worked.specs.Fields.{nought, half, sixteenth, above-limit, minus-half, minus-one, two, minus-two, four, minus-five, six, alone, joined, apart, opposed, swallowing, unbalanced, two-parts, overflowing, on-diagonal, with-zero, parted, popped, one-term, two-pairs, linked, at-tolerance, placed, cancelling, both-ways, waiting, heavy-rate, one, least, minus-nought, huge, minus-huge, in-chain}
 
 -- a call, the field with its grade, the start values, what else it is given, and what it answers
 pub data Case : Type 0 where
@@ -171,6 +171,12 @@ cases =
     ∷ explains-none (joined (nought ∷ nought ∷ []) two) (2 ∷ 2 ∷ []) 0 Unforced
     ∷ explains-none (alone []) [] 0 Unforced
     ∷ explains-none swallowing (2 ∷ 2 ∷ 2 ∷ 2 ∷ []) 0 NotExact
+    -- C-16, each mask's terms added afresh: c=(-MAX,-MAX) is minus infinity at mask 3 alone; c=(-0.0) is 0.0 at mask 1 too, and mask 0 wins
+    ∷ completes (joined (least ∷ least ∷ []) nought) Inexact (2 ∷ 2 ∷ []) (1 ∷ 1 ∷ [])
+    ∷ completes (alone (minus-nought ∷ [])) Exact (2 ∷ []) (0 ∷ [])
+    -- c=(2^53,1,-2^53): mask 4 before mask 6 at -2^53 + 1; c=(1e308,1e308,-1e308): mask 4, with masks 3 and 7 infinite
+    ∷ completes (in-chain (fin false 1 (pos 53) ∷ one ∷ fin true 1 (pos 53) ∷ [])) Inexact (2 ∷ 2 ∷ 2 ∷ []) (0 ∷ 0 ∷ 1 ∷ [])
+    ∷ completes (in-chain (huge ∷ huge ∷ minus-huge ∷ [])) Inexact (2 ∷ 2 ∷ 2 ∷ []) (0 ∷ 0 ∷ 1 ∷ [])
     ∷ []
 
 -- ---- what each call leaves, and what the list says

@@ -46,6 +46,20 @@ minus-quarter = fin true 1 (negsuc 1)
 abbrev pub sixteenth : Float
 sixteenth = fin false 1 (negsuc 3)
 
+abbrev pub minus-nought : Float
+minus-nought = fin true 0 (pos 0)
+
+-- the least finite f64
+abbrev pub least : Float
+least = fin true 9007199254740991 (pos 971)
+
+-- 1e308, and its negative
+abbrev pub huge : Float
+huge = fin false 156575653125701 (pos 976)
+
+abbrev pub minus-huge : Float
+minus-huge = fin true 156575653125701 (pos 976)
+
 -- 2^30 + 0.5
 abbrev pub above-limit : Float
 above-limit = fin false 2147483649 (negsuc 0)
@@ -128,6 +142,10 @@ one-term =
     (2 ∷ 0 ∷ 2 ∷ 1 ∷ [])
     (0 ∷ 1 ∷ 1 ∷ 2 ∷ [])
     (two ∷ minus-one ∷ fin false 1 (pos 61) ∷ fin true 1 (pos 61) ∷ [])
+
+-- three variables, which stored zeros at (0,1) and (1,2) make one component, in this order
+abbrev pub in-chain : List Float → Field
+in-chain c = fieldOf c (0 ∷ 1 ∷ []) (1 ∷ 2 ∷ []) (nought ∷ nought ∷ [])
 
 -- c=(-1,-1,-1,-1), (0,1) 4, (2,3) 8: two pairs, the second with the greater mass
 abbrev pub two-pairs : Field

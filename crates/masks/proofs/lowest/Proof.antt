@@ -1,48 +1,53 @@
--- `lowest` goes through the masks, rising. Assumes nothing.
-use Prim.Native.Nat.{_-_}
-use mathlib.Core.Logic.{⊎-elim}
-use lib.ListN.{length}
+-- `lowest` goes through the blocks, rising, and then through what is left. Assumes nothing.
+use Prim.Native.Nat.{_-_, _/_}
+use native.Mathlib.Omega.{arith}
 use lib.Ieee.{nanBits}
-use Rattle.masks.specs.Walk.{Leading}
-use Rattle.masks.proofs.Least.{lead-start, lead-taken, lead-kept, lead-done}
+use Rattle.masks.specs.Masks.{objective}
+use Rattle.masks.specs.Listed.{termsOn}
+use Rattle.masks.proofs.Least.{Walking, walk-start, walk-turn, walk-whole, leads-lowest}
 use borrow.Author.Needs.{needs}
 use Rattle.masks.proofs.lowest.Statement.{statement}
 use Rattle.masks.proofs.lowest.Tie as tie
 
 abbrev Inv-loop : tie.InvT-loop
-Inv-loop table best₀ mask₀ i₀ i-end best mask i = Leading table i best mask
+Inv-loop values required end size lead₀ b₀ b-end lead b = Walking (objective (termsOn values required end)) size b lead
 
 abbrev μ-loop : tie.MeasureT-loop
-μ-loop table best₀ mask₀ i₀ i-end best mask i = length table - i
+μ-loop values required end size lead₀ b₀ b-end lead b = size / 32 - b
 
-float-from-bits-best : tie.Need-float-from-bits-best Inv-loop μ-loop
+float-from-bits-t8 : tie.Need-float-from-bits-t8 Inv-loop μ-loop
 unfolding nanBits
-float-from-bits-best c = tt
+float-from-bits-t8 c = tt
 
 loop-holds : tie.Need-loop-holds Inv-loop μ-loop
-loop-holds c = lead-start
+loop-holds c = walk-start
 
-mul-sum : tie.Need-mul-sum Inv-loop μ-loop
-mul-sum c = search needs
+mul-lead-after : tie.Need-mul-lead-after Inv-loop μ-loop
+mul-lead-after c = search needs
 
-shared-slice-read-sum : tie.Need-shared-slice-read-sum Inv-loop μ-loop
-shared-slice-read-sum c = search needs
+lead-after-requires : tie.Need-lead-after-requires Inv-loop μ-loop
+lead-after-requires c κs = (c .before .before .before .before .pre .0, (omega (arith, c .loop-test .taken, c .before .before .before .before .pre .1), (omega arith, (omega arith, c .before .loop .inv .leads))))
 
-add-i : tie.Need-add-i Inv-loop μ-loop
-add-i c = search needs
+add-b : tie.Need-add-b Inv-loop μ-loop
+add-b c = search needs
 
 loop-less : tie.Need-loop-less Inv-loop μ-loop
 loop-less c = search needs
 
 loop-again : tie.Need-loop-again Inv-loop μ-loop
-loop-again c =
-    let at-loop-test = c .before .before in
-    let at-loop = at-loop-test .before in
-    ⊎-elim (λ w. rw (w .1, w .2) (lead-taken (at-loop .loop .inv) (at-loop-test .loop-test .taken) (w .0 .taken))) (λ w. rw (w .1, w .2)
-    (lead-kept (at-loop .loop .inv) (at-loop-test .loop-test .taken) (w .0 .left))) (c .if1 .came)
+loop-again c = walk-turn (c .before .before .loop .inv) (c .before .loop-test .taken) (c .lead-after .ensures)
 
 returns : tie.Need-returns Inv-loop μ-loop
-returns c = lead-done (c .before .loop .inv) (c .loop-test .left)
+returns c = leads-lowest (walk-whole (c .before .before .loop .inv) (c .before .loop-test .left)) (omega (arith, c .if1 .taken))
+
+mul-lead-after-2 : tie.Need-mul-lead-after-2 Inv-loop μ-loop
+mul-lead-after-2 c = search needs
+
+lead-after-requires-2 : tie.Need-lead-after-requires-2 Inv-loop μ-loop
+lead-after-requires-2 c κs = (c .before .before .before .before .before .pre .0, (omega (arith, c .before .before .before .before .before .pre .1), (omega arith, (omega arith, walk-whole (c .before .before .loop .inv) (c .before .loop-test .left)))))
+
+returns-2 : tie.Need-returns-2 Inv-loop μ-loop
+returns-2 c = leads-lowest (c .lead-after2 .ensures) (omega arith)
 
 pub lowest-spec : {M : Type 1} → statement M
 lowest-spec =
@@ -50,11 +55,14 @@ lowest-spec =
     (tie.spec
     Inv-loop
     μ-loop
-    float-from-bits-best
+    float-from-bits-t8
     loop-holds
-    mul-sum
-    shared-slice-read-sum
-    add-i
+    mul-lead-after
+    lead-after-requires
+    add-b
     loop-less
     loop-again
-    returns)
+    returns
+    mul-lead-after-2
+    lead-after-requires-2
+    returns-2)
