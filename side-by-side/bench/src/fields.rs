@@ -58,7 +58,7 @@ impl Dice {
 pub const MOST_ENTRIES: usize = 32_768;
 
 /// The shapes of every call on a field.
-pub const SHAPES: [&str; 10] = [
+pub const SHAPES: [&str; 12] = [
     "random",
     "inexact",
     "tight",
@@ -68,6 +68,8 @@ pub const SHAPES: [&str; 10] = [
     "star",
     "clique",
     "islands",
+    "chains of 10",
+    "cliques of 10",
     "end to end",
 ];
 
@@ -216,6 +218,13 @@ fn ends(shape: &str, n: usize) -> Vec<(u16, u16)> {
             .collect(),
         "islands" => (1..most)
             .flat_map(|col| (col / 8 * 8..col).map(move |row| (row, col)))
+            .collect(),
+        "chains of 10" => (1..most)
+            .filter(|col| col % 10 != 0)
+            .map(|col| (col - 1, col))
+            .collect(),
+        "cliques of 10" => (1..most)
+            .flat_map(|col| (col / 10 * 10..col).map(move |row| (row, col)))
             .collect(),
         _ => unreachable!("no such shape"),
     }
