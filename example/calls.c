@@ -53,7 +53,7 @@ int main(void)
     c[0] = c[1] = -1, q[0] = 6;
     answer = ombradiec_pairs(FIELD, SLICE(free_both), OMBRADIEC_MOST_PAIRS, SLICE(constraints), SCRATCH);
     print("pairs", answer, "ends", constraints[0], constraints[1]);
-    printf("  kind %d\n", constraints[2]);
+    printf("  forbids 11 alone %d\n", constraints[2] == OMBRADIEC_FORBIDS_11);
 
     c[0] = -5, q[0] = 4;
     for (size_t variable = 0; variable < 3; variable++) {
@@ -70,7 +70,7 @@ int main(void)
 
     answer = ombradiec_probe(FIELD, SLICE(free_both), SLICE(values), SLICE(constraints), SCRATCH);
     print("probe", answer, "ends", constraints[0], constraints[1]);
-    printf("  kind %d, values %d %d\n", constraints[2], values[0], values[1]);
+    printf("  set %d, values %d %d\n", constraints[2], values[0], values[1]);
     answer = ombradiec_probe_limited(FIELD, SLICE(free_both), 0, SLICE(values), SLICE(constraints), SCRATCH);
     print("probe_limited", answer, "values", values[0], values[1]);
 
@@ -91,7 +91,9 @@ int main(void)
     answer = ombradiec_shift(SLICE(shifted), SLICE(some_rows), SLICE(some_cols), SLICE(quad));
     printf("shift: refusal %d at entry %zu\n", OMBRADIEC_REFUSAL(answer), OMBRADIEC_POSITION(answer));
 
-    const uint16_t both[6] = {0, 1, OMBRADIEC_EQUAL, 0, 1, OMBRADIEC_EXACTLY_ONE};
+    /* x0 equals x1, and exactly one of them is 1 */
+    const uint16_t both[6] = {0, 1, OMBRADIEC_FORBIDS_01 | OMBRADIEC_FORBIDS_10,
+                              0, 1, OMBRADIEC_FORBIDS_00 | OMBRADIEC_FORBIDS_11};
     start[0] = start[1] = 2;
     answer = ombradiec_propagate(SLICE(start), SLICE(both), SLICE(words));
     print("propagate", answer, "values", start[0], start[1]);

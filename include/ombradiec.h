@@ -74,20 +74,24 @@ typedef uint64_t ombradiec_answer;
 #define OMBRADIEC_MOST_PAIRS 250000
 #define OMBRADIEC_MOST_CONSTRAINTS 65536
 
-/* the least scratch for n variables and m entries, in elements; of propagate m is the number of constraints */
+/* the least scratch for n variables and m entries, in elements; of propagate m is the number of records */
 #define OMBRADIEC_FLOATS(n, m) (8 * (size_t)(n) + 4 * (size_t)(m) + 16)
 #define OMBRADIEC_WORDS(n, m) (16 * (size_t)(n) + 8 * (size_t)(m) + 16)
 /* enough for every field, and of words for propagate too */
 #define OMBRADIEC_MOST_FLOATS OMBRADIEC_FLOATS(OMBRADIEC_MOST_VARIABLES, OMBRADIEC_MOST_ENTRIES)
 #define OMBRADIEC_MOST_WORDS OMBRADIEC_WORDS(OMBRADIEC_MOST_VARIABLES, OMBRADIEC_MOST_CONSTRAINTS)
 
-/* A constraint is three numbers in a list: first variable, second variable, kind. Each kind forbids pairs of values. */
-#define OMBRADIEC_AT_LEAST_ONE 0     /* not 0, 0 */
-#define OMBRADIEC_EXACTLY_ONE 1      /* not 0, 0 and not 1, 1 */
-#define OMBRADIEC_NO_MORE_THAN_ONE 2 /* not 1, 1 */
-#define OMBRADIEC_GREATER_THAN 3     /* not 0, 1 */
-#define OMBRADIEC_LESS_THAN 4        /* not 1, 0 */
-#define OMBRADIEC_EQUAL 5            /* not 0, 1 and not 1, 0 */
+/* A constraint is a record of three numbers in a list: the lower variable, the higher variable, and the set of the pairs
+ * of values that they may not have, the lower variable's value first: a sum of some of the four bits below. An answer
+ * list has one record for one pair of variables, and rises by the lower variable, then the higher.
+ *
+ * Up to version 0.1 the third number was the code of a kind, and a list could hold several constraints of one pair. The
+ * names of the kinds are gone, so that a source written for them does not compile; a program that was built with the old
+ * header reads and gives other constraints than it means, and must be built anew. */
+#define OMBRADIEC_FORBIDS_00 1 /* not 0, 0: at least one is 1 */
+#define OMBRADIEC_FORBIDS_01 2 /* not 0, 1: the lower variable is not below the higher one */
+#define OMBRADIEC_FORBIDS_10 4 /* not 1, 0: the lower variable is not above the higher one */
+#define OMBRADIEC_FORBIDS_11 8 /* not 1, 1: no more than one is 1 */
 
 /* Puts every value that the gradient forces into `start`; on an exact field every best completion has them. Counts the
  * free variables whose row is flat at the end, with both bounds 0: given the values so far, either value costs nothing. */
@@ -132,8 +136,8 @@ ombradiec_answer ombradiec_anchors(const double *c, size_t c_len, const uint16_t
                                    const uint8_t *start, size_t start_len, size_t least, uint16_t *list,
                                    size_t list_len, double *f, size_t f_len, uint32_t *u, size_t u_len);
 
-/* Examines the first `limit` free pairs, at most 250,000, and puts the constraints that they give at the front of
- * `constraints`; the count is of constraints, three numbers each; on an exact field every best completion obeys them. */
+/* Examines the first `limit` free pairs, at most 250,000, and puts the records of those that give any at the front of
+ * `constraints`; the count is of records, three numbers each; on an exact field every best completion obeys them. */
 ombradiec_answer ombradiec_pairs(const double *c, size_t c_len, const uint16_t *rows, size_t rows_len,
                                  const uint16_t *cols, size_t cols_len, const double *q, size_t q_len,
                                  const uint8_t *start, size_t start_len, size_t limit, uint16_t *constraints,
@@ -163,7 +167,7 @@ ombradiec_answer ombradiec_reason(const double *c, size_t c_len, const uint16_t 
                                   size_t list_len, double *bound, double *f, size_t f_len, uint32_t *u, size_t u_len);
 
 /* Puts what both probes of every free variable find into `values`, which is n long, and at the front of `constraints`,
- * sorted and without repeats, and counts the constraints; on an exact field every best completion obeys both. */
+ * merged by pair, and counts the records; on an exact field every best completion obeys both. */
 ombradiec_answer ombradiec_probe(const double *c, size_t c_len, const uint16_t *rows, size_t rows_len,
                                  const uint16_t *cols, size_t cols_len, const double *q, size_t q_len,
                                  const uint8_t *start, size_t start_len,
@@ -177,7 +181,8 @@ ombradiec_answer ombradiec_probe_limited(const double *c, size_t c_len, const ui
                                          uint8_t *values, size_t values_len, uint16_t *constraints,
                                          size_t constraints_len, double *f, size_t f_len, uint32_t *u, size_t u_len);
 
-/* Puts every value that the constraints imply into `start`, or answers OMBRADIEC_CLASH; there is no field and no grade. */
+/* Puts every value that the constraints imply into `start`, or answers OMBRADIEC_CLASH; there is no field and no grade.
+ * The records need be neither sorted nor merged; one with all four bits clashes once either variable has a value. */
 ombradiec_answer ombradiec_propagate(uint8_t *start, size_t start_len, const uint16_t *constraints,
                                      size_t constraints_len, uint32_t *u, size_t u_len);
 

@@ -184,8 +184,8 @@ pub fn anchors(
     )
 }
 
-/// Examines the first `limit` free pairs, at most 250,000, and puts the constraints that they give at the front of
-/// `constraints`. On an exact field every best completion obeys them.
+/// Examines the first `limit` free pairs, at most 250,000, and puts what they give, one constraint for one pair, at the
+/// front of `constraints`. On an exact field every best completion obeys them.
 ///
 /// ```
 /// use ombradiec::{pairs, Constraint, Field, Kind, Scratch, Values};
@@ -205,15 +205,15 @@ pub fn pairs(
 ) -> Result<Done, Refusal> {
     let (f, u) = scratch.lend(field.variables(), field.quad.len());
     // A constraint is three u16 and nothing else.
-    let (triples, triples_len) = (constraints.as_mut_ptr().cast(), 3 * constraints.len());
+    let (records, records_len) = (constraints.as_mut_ptr().cast(), 3 * constraints.len());
     on_field!(
         ombradiec_pairs,
         field,
         start.0.as_ptr(),
         start.0.len(),
         limit,
-        triples,
-        triples_len,
+        records,
+        records_len,
         f.as_mut_ptr(),
         f.len(),
         u.as_mut_ptr(),
@@ -311,8 +311,8 @@ pub fn reason(
     read_reason(answer, bound)
 }
 
-/// Puts what both probes of every free variable find into `values`, and at the front of `constraints`, sorted and without
-/// repeats; counts the constraints. On an exact field every best completion obeys both.
+/// Puts what both probes of every free variable find into `values`, and at the front of `constraints`, one for one pair and
+/// rising by it; counts the constraints. On an exact field every best completion obeys both.
 ///
 /// ```
 /// use ombradiec::{probe, Constraint, Field, Kind, Scratch, Values};
@@ -333,7 +333,7 @@ pub fn probe(
     let (f, u) = scratch.lend(field.variables(), field.quad.len());
     let found = &mut values.0;
     // A constraint is three u16 and nothing else.
-    let (triples, triples_len) = (constraints.as_mut_ptr().cast(), 3 * constraints.len());
+    let (records, records_len) = (constraints.as_mut_ptr().cast(), 3 * constraints.len());
     let answer = on_field!(
         ombradiec_probe,
         field,
@@ -341,8 +341,8 @@ pub fn probe(
         start.0.len(),
         found.as_mut_ptr(),
         found.len(),
-        triples,
-        triples_len,
+        records,
+        records_len,
         f.as_mut_ptr(),
         f.len(),
         u.as_mut_ptr(),
@@ -373,7 +373,7 @@ pub fn probe_limited(
     let (f, u) = scratch.lend(field.variables(), field.quad.len());
     let found = &mut values.0;
     // A constraint is three u16 and nothing else.
-    let (triples, triples_len) = (constraints.as_mut_ptr().cast(), 3 * constraints.len());
+    let (records, records_len) = (constraints.as_mut_ptr().cast(), 3 * constraints.len());
     let answer = on_field!(
         ombradiec_probe_limited,
         field,
@@ -382,8 +382,8 @@ pub fn probe_limited(
         candidates,
         found.as_mut_ptr(),
         found.len(),
-        triples,
-        triples_len,
+        records,
+        records_len,
         f.as_mut_ptr(),
         f.len(),
         u.as_mut_ptr(),
@@ -409,7 +409,7 @@ pub fn propagate(start: &mut Values, constraints: &[Constraint], scratch: &mut S
     let start = &mut start.0;
     let (_, u) = scratch.lend(start.len(), constraints.len());
     // A constraint is three u16 and nothing else.
-    let (triples, triples_len) = (constraints.as_ptr().cast(), 3 * constraints.len());
-    read(unsafe { ombradiec_propagate(start.as_mut_ptr(), start.len(), triples, triples_len, u.as_mut_ptr(), u.len()) })
+    let (records, records_len) = (constraints.as_ptr().cast(), 3 * constraints.len());
+    read(unsafe { ombradiec_propagate(start.as_mut_ptr(), start.len(), records, records_len, u.as_mut_ptr(), u.len()) })
         .map(|_| ())
 }

@@ -134,13 +134,13 @@ fn following_reasons_ends_at_given_values() {
 
 #[test]
 fn many_counts_are_read_back() {
-    // 708 free variables have 250,278 pairs, of which 250,000 are examined; each gives two constraints.
+    // 708 free variables have 250,278 pairs, of which 250,000 are examined; each gives one constraint with two pairs.
     let linear: Vec<f64> = (0..708).map(|i| f64::from(i + 1)).collect();
-    let mut constraints = vec![Constraint::default(); 500_000];
+    let mut constraints = vec![Constraint::default(); 250_000];
     let done = pairs(&Field::new(&linear, &[]), &Values::free(708), usize::MAX, &mut constraints, &mut Scratch::new())
         .unwrap();
-    assert_eq!(done, Done { grade: Grade::Exact, count: 500_000, pairs: 250_000 });
-    assert_eq!(constraints[0], Constraint::new(0, 1, Kind::NoMoreThanOne));
+    assert_eq!(done, Done { grade: Grade::Exact, count: 250_000, pairs: 250_000 });
+    assert_eq!(constraints[0], Constraint::forbidding(0, 1, 10));
 }
 
 #[test]
@@ -153,10 +153,28 @@ fn propagation_takes_its_own_limits() {
     assert!(start.given().count() == 4_096 && start.given().all(|(_, value)| value));
     let more = [&chain[..], &chain[..1]].concat();
     assert_eq!(propagate(&mut start, &more, &mut Scratch::new()), Err(Refusal::Argument));
-    assert_eq!(
-        propagate(&mut start, &[Constraint::new(1, 1, Kind::Equal)], &mut Scratch::new()),
-        Err(Refusal::Argument)
-    );
+    for refused in [(1, 1, 6), (1, 0, 6), (0, 4_096, 6), (0, 1, 0), (0, 1, 16)] {
+        let list = [Constraint::forbidding(refused.0, refused.1, refused.2)];
+        assert_eq!(propagate(&mut start, &list, &mut Scratch::new()), Err(Refusal::Argument));
+    }
+}
+
+#[test]
+fn an_end_may_say_two_things() {
+    // 10 and 11 are forbidden: x0 is 0 as soon as x1 has a value, and x0 = 1 clashes
+    let list = [Constraint::forbidding(0, 1, 12)];
+    let propagated = |values: [Option<bool>; 2], list: &[Constraint]| {
+        let mut start = Values::free(2);
+        start.set(0, values[0]);
+        start.set(1, values[1]);
+        propagate(&mut start, list, &mut Scratch::new()).map(|()| [start.get(0), start.get(1)])
+    };
+    assert_eq!(propagated([Some(true), None], &list), Err(Refusal::Clash));
+    assert_eq!(propagated([None, Some(true)], &list), Ok([Some(false), Some(true)]));
+    assert_eq!(propagated([Some(false), None], &list), Ok([Some(false), None]));
+    let all = [Constraint::forbidding(0, 1, 15)];
+    assert_eq!(propagated([None, None], &all), Ok([None, None]));
+    assert_eq!(propagated([None, Some(false)], &all), Err(Refusal::Clash));
 }
 
 #[test]

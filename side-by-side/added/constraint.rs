@@ -22,8 +22,10 @@ impl Constraint {
         }
     }
 
-    /// First, second and the kind's code.
-    pub const fn triple(&self) -> (usize, usize, usize) {
-        (self.x_i, self.x_j, self.constr_type as usize)
+    /// The ends, and the pairs of values that are forbidden as four bits 00, 01, 10, 11 from the lowest.
+    pub fn forbidden(&self) -> (usize, usize, usize) {
+        let pairs = self.forbidden_assignments();
+        let set = pairs.iter().map(|(a, b)| 1 << (2 * a + b)).sum();
+        (self.x_i, self.x_j, set)
     }
 }

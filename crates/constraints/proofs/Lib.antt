@@ -1,5 +1,3 @@
 pub mod Codes
-pub mod Order
-pub mod Sorted
-pub mod Triples
+pub mod Records
 pub mod Numbers

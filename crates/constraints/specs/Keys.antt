@@ -1,23 +1,28 @@
--- One number for a triple whose ends are below 4,096. Assumes nothing.
+-- One number for a record whose ends are below 4,096. Assumes nothing.
 use Prim.Native.Nat.{ℕ, _+_, _*_, _/_, _%_, _<_}
 use mathlib.Core.List.{List}
 use lib.ListN.{length, getD}
-use Rattle.constraints.specs.Triple.{Triple, triple}
+use Rattle.meaning.specs.Records.{Record, recordOn, Proper}
 
--- the number, below 2^27
-abbrev pub keyOf : Triple → ℕ
-keyOf x = (x .first * 4096 + x .second) * 8 + x .code
+-- the number, below 2^28
+abbrev pub keyOf : Record → ℕ
+keyOf x = (x .lower * 4096 + x .higher) * 16 + x .set
 
 -- what a number stands for
-abbrev pub unkey : ℕ → Triple
-unkey k = triple (k / 8 / 4096) (k / 8 % 4096) (k % 8)
+abbrev pub unkey : ℕ → Record
+unkey k = recordOn (k / 16 / 4096) (k / 16 % 4096) (k % 16)
 
--- the triples that have a number of their own
-pub record Small (x : Triple) : Type 0 where
-  pub first : x .first < 4096
-  pub second : x .second < 4096
-  pub code : x .code < 8
+-- the records that have a number of their own
+pub record Small (x : Record) : Type 0 where
+  pub lower : x .lower < 4096
+  pub higher : x .higher < 4096
+  pub proper : Proper x
 
--- each number is below those that come after it
+-- the number of a record with a pair in its set
+pub record Key (k : ℕ) : Type 0 where
+  pub below : k < 268435456
+  pub some : 0 < k % 16
+
+-- the pair of each number is below the pairs of those that come after it
 abbrev pub Climbs : List ℕ → Type 0
-Climbs ks = (i j : ℕ) → i < j → j < length ks → getD ks i 0 < getD ks j 0
+Climbs ks = (i j : ℕ) → i < j → j < length ks → getD ks i 0 / 16 < getD ks j 0 / 16

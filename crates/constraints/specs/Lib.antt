@@ -1,4 +1,3 @@
 pub mod Codes
-pub mod Triple
-pub mod Sorted
+pub mod Record
 pub mod Keys

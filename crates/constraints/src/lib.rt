@@ -1,12 +1,14 @@
-// Constraints: the kinds with their codes, the triples of a flat list, and one number for a triple.
+// Constraints: the kinds with their codes and sets, the records of a flat list, and one number for a record.
 pub mod keys;
 
 ghost use mathlib.Core.Path.{_≡_};
 ghost use Prim.Native.Nat.{_+_, _*_, _<_};
+ghost use lib.Count.{ones};
 ghost use lib.ListN.{length};
+ghost use Rattle.meaning.specs.Records.{recordOn, setOf, turned};
 ghost use Rattle.scratch.specs.Lent.{before, after};
-ghost use Rattle.constraints.specs.Codes.{codeOf, kindOf, meant, isPair, forbids};
-ghost use Rattle.constraints.specs.Triple.{triple, stored};
+ghost use Rattle.constraints.specs.Codes.{codeOf, kindOf, meant};
+ghost use Rattle.constraints.specs.Record.{stored};
 
 // What a constraint says of its two ends.
 pub enum Kind {
@@ -65,46 +67,49 @@ impl Kind {
         }
     }
 
-    // Whether a constraint of this kind forbids the values a and b of its first and its second end.
-    pub fn forbids(self, a: u8, b: u8) -> bool
-        ensures { λ r. ⌜ r ≡ forbids (meant self) a b ⌝ }
+    // The set of the forbidden pairs, 00, 01, 10, 11 from the lowest bit, where the first end is the lower one.
+    pub fn set(self) -> u16
+        ensures { λ r. ⌜ r ≡ setOf (meant self) ⌝ }
     {
         match self {
-            Kind::AtLeastOne => is_pair(a, b, 0, 0),
-            Kind::ExactlyOne => is_pair(a, b, 0, 0) || is_pair(a, b, 1, 1),
-            Kind::NoMoreThanOne => is_pair(a, b, 1, 1),
-            Kind::GreaterThan => is_pair(a, b, 0, 1),
-            Kind::LessThan => is_pair(a, b, 1, 0),
-            Kind::Equal => is_pair(a, b, 0, 1) || is_pair(a, b, 1, 0),
+            Kind::AtLeastOne => 1,
+            Kind::ExactlyOne => 9,
+            Kind::NoMoreThanOne => 8,
+            Kind::GreaterThan => 2,
+            Kind::LessThan => 4,
+            Kind::Equal => 6,
+        }
+    }
+
+    // The kind that says the same of the ends exchanged.
+    pub fn turned(self) -> Kind
+        ensures { λ r. ⌜ meant r ≡ turned (meant self) ⌝ }
+    {
+        match self {
+            Kind::AtLeastOne => Kind::AtLeastOne,
+            Kind::ExactlyOne => Kind::ExactlyOne,
+            Kind::NoMoreThanOne => Kind::NoMoreThanOne,
+            Kind::GreaterThan => Kind::LessThan,
+            Kind::LessThan => Kind::GreaterThan,
+            Kind::Equal => Kind::Equal,
         }
     }
 }
 
-// Whether a is first and b is second.
-fn is_pair(a: u8, b: u8, first: u8, second: u8) -> bool
-    ensures { λ r. ⌜ r ≡ isPair a b first second ⌝ }
+// How many pairs a set forbids.
+pub fn forbidden_pairs(set: u16) -> u32
+    ensures { λ r. ⌜ r ≡ ones set ⌝ }
 {
-    if a != first {
-        return false;
-    }
-    b == second
+    u16::count_ones(set)
 }
 
-// Writes a constraint as triple number `at` of the list.
-pub fn put(list: &mut [u16], at: usize, first: u16, second: u16, kind: Kind)
+// Writes three numbers as record number `at` of the list.
+fn store(list: &mut [u16], at: usize, lower: u16, higher: u16, set: u16)
     requires { ⌜ 3 * at + 2 < length (now list) ⌝ }
-    ensures { λ _. ⌜ after list ≡ stored (before list) at (triple first second (codeOf kind)) ⌝ }
-{
-    store(list, at, first, second, kind.code());
-}
-
-// Writes three numbers as triple number `at` of the list.
-fn store(list: &mut [u16], at: usize, first: u16, second: u16, code: u16)
-    requires { ⌜ 3 * at + 2 < length (now list) ⌝ }
-    ensures { λ _. ⌜ after list ≡ stored (before list) at (triple first second code) ⌝ }
+    ensures { λ _. ⌜ after list ≡ stored (before list) at (recordOn lower higher set) ⌝ }
 {
     let i = 3 * at;
-    list[i] = first;
-    list[i + 1] = second;
-    list[i + 2] = code;
+    list[i] = lower;
+    list[i + 1] = higher;
+    list[i + 2] = set;
 }

@@ -3,37 +3,26 @@ use Prim.Native.Nat.{ℕ, zero, suc, _<_, _≤_}
 use mathlib.Core.Path.{_≡_, refl}
 use mathlib.Core.Logic.{_≢_}
 use native.Mathlib.Omega.{arith}
-use Rattle.meaning.specs.Kinds.{at-least-one, greater-than}
-use Rattle.constraints.specs.declared.Kind.{Kind}
-use Rattle.constraints.specs.declared.Kind.the-variants.{AtLeastOne, ExactlyOne, NoMoreThanOne, GreaterThan, LessThan, Equal}
-use Rattle.constraints.specs.Codes.{codeOf, meant}
+use Rattle.meaning.specs.Kinds.{at-least-one, greater-than, joining}
+use Rattle.meaning.specs.Records.{recordOf}
 use Rattle.constraints.specs.Keys.{keyOf}
-use Rattle.probe.specs.Found.{joining, between, found}
-use Rattle.finding.specs.Finds.{codeFor, tripleOf, wins, numberOf}
-
--- a kind of the code and the kind that it means have one code
-pub code-meant : (k : Kind) → codeOf k ≡ codeFor (meant k)
-code-meant AtLeastOne = refl
-code-meant ExactlyOne = refl
-code-meant NoMoreThanOne = refl
-code-meant GreaterThan = refl
-code-meant LessThan = refl
-code-meant Equal = refl
+use Rattle.probe.specs.Found.{found}
+use Rattle.finding.specs.Finds.{wins, numberOf}
 
 -- neither 0 nor 1
-pub after-zero-none : (i j v : ℕ) {x : ℕ} → v ≢ 0 → v ≢ 1 → x ≡ keyOf (tripleOf (joining greater-than i j)) → x ≡ numberOf (found i j 0 v)
+pub after-zero-none : (i j v : ℕ) {x : ℕ} → v ≢ 0 → v ≢ 1 → x ≡ keyOf (recordOf (joining greater-than i j)) → x ≡ numberOf (found i j 0 v)
 unfolding found numberOf
 after-zero-none i j zero a b e = absurd (a refl)
 after-zero-none i j (suc zero) a b e = absurd (b refl)
 after-zero-none i j (suc (suc v)) a b e = e
 
-pub after-one-none : (i j v : ℕ) {x : ℕ} → v ≢ 0 → v ≢ 1 → x ≡ keyOf (tripleOf (between at-least-one i j)) → x ≡ numberOf (found i j 1 v)
+pub after-one-none : (i j v : ℕ) {x : ℕ} → v ≢ 0 → v ≢ 1 → x ≡ keyOf (recordOf (joining at-least-one i j)) → x ≡ numberOf (found i j 1 v)
 unfolding found numberOf
 after-one-none i j zero a b e = absurd (a refl)
 after-one-none i j (suc zero) a b e = absurd (b refl)
 after-one-none i j (suc (suc v)) a b e = e
 
-pub after-none-none : (i j v : ℕ) → v ≢ 0 → v ≢ 1 → 134217728 ≡ numberOf (found i j 2 v)
+pub after-none-none : (i j v : ℕ) → v ≢ 0 → v ≢ 1 → 268435456 ≡ numberOf (found i j 2 v)
 unfolding found numberOf
 after-none-none i j zero a b = absurd (a refl)
 after-none-none i j (suc zero) a b = absurd (b refl)

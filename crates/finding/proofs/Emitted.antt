@@ -13,7 +13,7 @@ use Rattle.finding.specs.Emit.{Bench, bench, entered, emitAt, findingIn,
 
 count-most : (k : ℕ) → countOf k ≤ 1
 unfolding countOf
-count-most k = go (ltb k 134217728)
+count-most k = go (ltb k 268435456)
   where
     go : (b : Bool) → cond b 1 0 ≤ 1
     go true = omega arith

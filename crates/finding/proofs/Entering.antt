@@ -8,12 +8,11 @@ use native.Mathlib.Decide.{ℕ-discrete}
 use native.Mathlib.Omega.{arith}
 use lib.ListN.{length, getD}
 use Rattle.meaning.specs.Kinds.{Constraint}
-use Rattle.constraints.specs.Triple.{Triple}
-use Rattle.constraints.specs.Sorted.{SameSet}
-use Rattle.found.specs.Holding.{Gathering}
+use Rattle.meaning.specs.Records.{Record, recordOf}
+use Rattle.found.specs.Holding.{SameSet, Gathering}
 use Rattle.found.proofs.Gathering.{gathering-as}
 use Rattle.probe.specs.Found.{Finding, nothing, value, constraint}
-use Rattle.finding.specs.Finds.{tripleOf, added, wins, constraintsTo}
+use Rattle.finding.specs.Finds.{added, wins, recordsTo}
 use Rattle.finding.specs.Emit.{Bench, entered}
 use Rattle.finding.specs.Enters.{FoundOf, Enters}
 use Rattle.finding.proofs.Emitted.{entered-long, entered-low}
@@ -21,22 +20,22 @@ use Rattle.finding.proofs.Entered.{SmallFinding, none-constraint, enter
 
 -- ---- what is added
 
-no-member : {x : Triple} {A : Type 0} → List·Memᴰ x [] → A
+no-member : {x : Record} {A : Type 0} → List·Memᴰ x [] → A
 no-member m = absurd (List·Memᴰ·not-nil m)
 
-added-on : (d : Finding) (S : List Triple) → added d [] ++ S ≡ added d S
+added-on : (d : Finding) (S : List Record) → added d [] ++ S ≡ added d S
 unfolding added
 added-on nothing S = refl
 added-on (value w) S = refl
 added-on (constraint c) S = refl
 
-added-is : (d : Finding) (x : Triple) → List·Memᴰ x (added d []) → ((c : Constraint) × ((d ≡ constraint c) × (x ≡ tripleOf c)))
+added-is : (d : Finding) (x : Record) → List·Memᴰ x (added d []) → ((c : Constraint) × ((d ≡ constraint c) × (x ≡ recordOf c)))
 unfolding added
 added-is nothing x m = no-member m
 added-is (value w) x m = no-member m
 added-is (constraint c) x m = (c, (refl, List·Memᴰ·eq-of-singleton m))
 
-added-has : (d : Finding) (c : Constraint) (l : List Triple) → d ≡ constraint c → List·Memᴰ (tripleOf c) (added d l)
+added-has : (d : Finding) (c : Constraint) (l : List Record) → d ≡ constraint c → List·Memᴰ (recordOf c) (added d l)
 unfolding added
 added-has d c l e = rw e (List·Memᴰ·head refl)
 
@@ -59,7 +58,7 @@ enters-none d n at b empty = record {
   others = λ p h apart. refl;
   old-or-won = λ j h. inl refl;
   won = λ j h x. absurd (empty j x);
-  triples = [];
+  records = [];
   sound = λ x m. no-member m;
   all = λ j h x c e. absurd (empty j x);
   gathers = λ l G. G;
@@ -76,7 +75,7 @@ enters-one d n at b j h low room small = record {
     | no ne ↦ inl (entered-other (d j) (at + j) b (at + x) (λ e. ne (omega arith)) (λ e. absurd (omega arith)))
   ];
   won = λ x l e. won-at x e;
-  triples = added (d j) [];
+  records = added (d j) [];
   sound = λ x m. let z = added-is (d j) x m in record { variable = j; below = h; is = z .0; finds = z .1 .0; same = z .1 .1 };
   all = λ x l e c q. added-has (d j) c [] (ap d (sym e) ∙ q);
   gathers = λ {S} {lo} {held} {list₀} {list} l G. rw (added-on (d j) S) (entered-gathers S lo held list₀ list (at + j) b (omega arith) room G (d j) small);
@@ -99,10 +98,10 @@ module _ {d : ℕ → Finding} {n at : ℕ} {X Y : ℕ → Type 0} {a b c : Benc
     others = λ p h apart. B .others p (omega (arith, A .low)) apart ∙ A .others p h apart;
     old-or-won = λ j h. ⊎-elim (λ z. ⊎-elim (λ y. inl (z ∙ y)) (λ y. inr (z ∙ y)) (A .old-or-won j h)) (λ z. inr (won-then j h z)) (B .old-or-won j h);
     won = λ j h z. ⊎-elim (λ x. then-won j h (A .won j h x)) (λ y. won-then j h (B .won j h y)) (part j z);
-    triples = B .triples ++ A .triples;
-    sound = λ x m. ⊎-elim (B .sound x) (A .sound x) (List·Memᴰ·append-cases (B .triples) m);
-    all = λ j h z q e. ⊎-elim (λ x. Memᴰ·append-right (B .triples) (A .all j h x q e)) (λ y. Memᴰ·append-left (A .triples) (B .all j h y q e)) (part j z);
-    gathers = λ {S} l G. rw (append-assoc (B .triples) (A .triples) S) (B .gathers l (A .gathers l G));
+    records = B .records ++ A .records;
+    sound = λ x m. ⊎-elim (B .sound x) (A .sound x) (List·Memᴰ·append-cases (B .records) m);
+    all = λ j h z q e. ⊎-elim (λ x. Memᴰ·append-right (B .records) (A .all j h x q e)) (λ y. Memᴰ·append-left (A .records) (B .all j h y q e)) (part j z);
+    gathers = λ {S} l G. rw (append-assoc (B .records) (A .records) S) (B .gathers l (A .gathers l G));
   }
 
 -- findings that are equal below n are entered alike
@@ -113,61 +112,61 @@ enters-as {d} {g} {n} {at} {X} {a} {b} is E = record {
   others = E .others;
   old-or-won = λ j h. rw (← is j h) (E .old-or-won j h);
   won = λ j h x. rw (← is j h) (E .won j h x);
-  triples = E .triples;
+  records = E .records;
   sound = λ x m. let o = E .sound x m in record { variable = o .variable; below = o .below; is = o .is; finds = sym (is (o .variable) (o .below)) ∙ o .finds; same = o .same };
   all = λ j h x c e. E .all j h x c (is j h ∙ e);
   gathers = E .gathers;
 }
 
--- ---- all constraints
+-- ---- all records
 
-added-more : (d : Finding) (l : List Triple) (x : Triple) → List·Memᴰ x l → List·Memᴰ x (added d l)
+added-more : (d : Finding) (l : List Record) (x : Record) → List·Memᴰ x l → List·Memᴰ x (added d l)
 unfolding added
 added-more nothing l x m = m
 added-more (value w) l x m = m
 added-more (constraint c) l x m = List·Memᴰ·tail m
 
 -- what was found stays found
-pub to-more : (g : ℕ → Finding) (l : List Triple) (k : ℕ) (x : Triple) → List·Memᴰ x l → List·Memᴰ x (constraintsTo g l k)
-unfolding constraintsTo
+pub to-more : (g : ℕ → Finding) (l : List Record) (k : ℕ) (x : Record) → List·Memᴰ x l → List·Memᴰ x (recordsTo g l k)
+unfolding recordsTo
 to-more g l zero x m = m
-to-more g l (suc k) x m = added-more (g k) (constraintsTo g l k) x (to-more g l k x m)
+to-more g l (suc k) x m = added-more (g k) (recordsTo g l k) x (to-more g l k x m)
 
-to-has : (g : ℕ → Finding) (l : List Triple) (k j : ℕ) (c : Constraint) → j < k → g j ≡ constraint c → List·Memᴰ (tripleOf c) (constraintsTo g l k)
-unfolding constraintsTo
+to-has : (g : ℕ → Finding) (l : List Record) (k j : ℕ) (c : Constraint) → j < k → g j ≡ constraint c → List·Memᴰ (recordOf c) (recordsTo g l k)
+unfolding recordsTo
 to-has g l zero j c h e = absurd (omega arith)
 to-has g l (suc k) j c h e = elim (ℕ-discrete j k) [
-  | yes z ↦ added-has (g k) c (constraintsTo g l k) (ap g (sym z) ∙ e)
-  | no ne ↦ added-more (g k) (constraintsTo g l k) (tripleOf c) (to-has g l k j c (omega arith) e)
+  | yes z ↦ added-has (g k) c (recordsTo g l k) (ap g (sym z) ∙ e)
+  | no ne ↦ added-more (g k) (recordsTo g l k) (recordOf c) (to-has g l k j c (omega arith) e)
 ]
 
-added-cases : (d : Finding) (l : List Triple) (x : Triple) → List·Memᴰ x (added d l) → List·Memᴰ x l ⊎ ((c : Constraint) × ((d ≡ constraint c) × (x ≡ tripleOf c)))
+added-cases : (d : Finding) (l : List Record) (x : Record) → List·Memᴰ x (added d l) → List·Memᴰ x l ⊎ ((c : Constraint) × ((d ≡ constraint c) × (x ≡ recordOf c)))
 unfolding added
 added-cases nothing l x m = inl m
 added-cases (value w) l x m = inl m
 added-cases (constraint c) l x m = ⊎-elim (λ e. inr (c, (refl, e))) (λ q. inl q) (List·Memᴰ·cases-cons m)
 
-to-is : (g : ℕ → Finding) (l : List Triple) (k : ℕ) (x : Triple) → List·Memᴰ x (constraintsTo g l k) → List·Memᴰ x l ⊎ FoundOf g k x
-unfolding constraintsTo
+to-is : (g : ℕ → Finding) (l : List Record) (k : ℕ) (x : Record) → List·Memᴰ x (recordsTo g l k) → List·Memᴰ x l ⊎ FoundOf g k x
+unfolding recordsTo
 to-is g l zero x m = inl m
 to-is g l (suc k) x m = ⊎-elim
     (λ q. ⊎-elim inl (λ o. inr record { variable = o .variable; below = omega (arith, o .below); is = o .is; finds = o .finds; same = o .same }) (to-is g l k x q))
     (λ z. inr record { variable = k; below = omega arith; is = z .0; finds = z .1 .0; same = z .1 .1 })
-    (added-cases (g k) (constraintsTo g l k) x m)
+    (added-cases (g k) (recordsTo g l k) x m)
 
 -- where nothing is found of what was not entered, the probe values and the constraints are those of all variables
 module _ {g : ℕ → Finding} {n at : ℕ} {X : ℕ → Type 0} {a b : Bench} (E : Enters g n at X a b) (rest : (j : ℕ) → j < n → X j ⊎ (g j ≡ nothing)) where
   pub enters-values : (j : ℕ) → j < n → getD (b .words) (at + j) 0 ≡ wins (g j) (getD (a .words) (at + j) 0)
   enters-values j h = ⊎-elim (E .won j h) (λ e. ⊎-elim (λ z. z ∙ wins-none (g j) (getD (a .words) (at + j) 0) e) (λ z. z) (E .old-or-won j h)) (rest j h)
 
-  enters-same : (S : List Triple) → SameSet (E .triples ++ S) (constraintsTo g S n)
+  enters-same : (S : List Record) → SameSet (E .records ++ S) (recordsTo g S n)
   enters-same S = record {
     to = λ y m. ⊎-elim
         (λ q. let o = E .sound y q in rw (o .same) (to-has g S n (o .variable) (o .is) (o .below) (o .finds)))
         (to-more g S n y)
-        (List·Memᴰ·append-cases (E .triples) m);
+        (List·Memᴰ·append-cases (E .records) m);
     from = λ y m. ⊎-elim
-        (λ q. Memᴰ·append-right (E .triples) q)
+        (λ q. Memᴰ·append-right (E .records) q)
         (λ o. rw (o .same) (Memᴰ·append-left S (⊎-elim
         (λ x. E .all (o .variable) (o .below) x (o .is) (o .finds))
         (λ z. none-constraint (sym z ∙ o .finds))
@@ -175,6 +174,6 @@ module _ {g : ℕ → Finding} {n at : ℕ} {X : ℕ → Type 0} {a b : Bench} (
         (to-is g S n y m);
   }
 
-  pub enters-gathers : {S : List Triple} {lo held : ℕ} {list₀ list : List ℕ} → at + n ≤ lo → Gathering S lo (a .end) held list₀ list (a .words)
-      → Gathering (constraintsTo g S n) lo (b .end) held list₀ list (b .words)
+  pub enters-gathers : {S : List Record} {lo held : ℕ} {list₀ list : List ℕ} → at + n ≤ lo → Gathering S lo (a .end) held list₀ list (a .words)
+      → Gathering (recordsTo g S n) lo (b .end) held list₀ list (b .words)
   enters-gathers {S} l G = gathering-as (E .gathers l G) (enters-same S)

@@ -1,5 +1,4 @@
 pub mod Cases
-pub mod Codes
 pub mod Emitted
 pub mod Entered
 pub mod Entering

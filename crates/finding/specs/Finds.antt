@@ -5,9 +5,7 @@ use mathlib.Core.Bool.{cond}
 use mathlib.Core.List.{List, [], _∷_}
 use lib.Dec.{eqb, ltb}
 use lib.ListN.{length, getD, set, replicate}
-use Rattle.meaning.specs.Kinds.{Kind, at-least-one, exactly-one, no-more-than-one, greater-than, less-than, equal, Constraint}
-use Rattle.constraints.specs.Codes.{kindAt}
-use Rattle.constraints.specs.Triple.{Triple, triple}
+use Rattle.meaning.specs.Records.{Record, recordOf}
 use Rattle.constraints.specs.Keys.{keyOf}
 use Rattle.field.specs.Field.{Field, variables}
 use Rattle.rows.specs.Stored.{upTo}
@@ -17,30 +15,11 @@ use Rattle.probe.specs.Found.{Finding, nothing, value, constraint, found}
 
 -- ---- a finding
 
--- "AtLeastOne 0, ExactlyOne 1, NoMoreThanOne 2, GreaterThan 3, LessThan 4, Equal 5"
-abbrev pub codeFor : Kind → ℕ
-codeFor at-least-one = 0
-codeFor exactly-one = 1
-codeFor no-more-than-one = 2
-codeFor greater-than = 3
-codeFor less-than = 4
-codeFor equal = 5
-
--- each of the six kinds has a code from 0 to 5 of its own, and each such code a kind
-pub record CodeIs : Type 0 where
-  pub kind-back : (k : Kind) → kindAt (codeFor k) ≡ k
-  pub code-back : (code : ℕ) → code ≤ 5 → codeFor (kindAt code) ≡ code
-  pub small : (k : Kind) → codeFor k ≤ 5
-
--- "A constraint is three u16: first, second, kind"
-abbrev pub tripleOf : Constraint → Triple
-tripleOf c = triple (c .first) (c .second) (codeFor (c .kind))
-
--- a found constraint is one more
-unfoldable pub added : Finding → List Triple → List Triple
+-- the record of a found constraint is one more
+unfoldable pub added : Finding → List Record → List Record
 added nothing l = l
 added (value w) l = l
-added (constraint c) l = tripleOf c ∷ l
+added (constraint c) l = recordOf c ∷ l
 
 -- a found value takes the place of an earlier one: "the later one wins"
 unfoldable pub wins : Finding → ℕ → ℕ
@@ -48,15 +27,15 @@ wins nothing old = old
 wins (value w) old = w
 wins (constraint c) old = old
 
--- the number that is gathered, 2^27 where there is no constraint
+-- the number that is gathered, 2^28 where there is no constraint
 unfoldable pub numberOf : Finding → ℕ
-numberOf nothing = 134217728
-numberOf (value w) = 134217728
-numberOf (constraint c) = keyOf (tripleOf c)
+numberOf nothing = 268435456
+numberOf (value w) = 268435456
+numberOf (constraint c) = keyOf (recordOf c)
 
--- how many constraints a gathered number stands for
+-- how many records a gathered number stands for
 unfoldable pub countOf : ℕ → ℕ
-countOf k = cond (ltb k 134217728) 1 0
+countOf k = cond (ltb k 268435456) 1 0
 
 -- ---- one candidate
 
@@ -72,10 +51,10 @@ findingOf s i t t′ j = found i j (givesAt i j (getD s j 0) (getD t j 0)) (give
 unfoldable pub finding : Field → List ℕ → ℕ → ℕ → Finding
 finding F s i j = findingOf s i (closure F (set s i 0)) (closure F (set s i 1)) j
 
--- the constraints found of the variables below k, before those in l
-unfoldable pub constraintsTo : (ℕ → Finding) → List Triple → ℕ → List Triple
-constraintsTo g l zero = l
-constraintsTo g l (suc k) = added (g k) (constraintsTo g l k)
+-- the records of what is found of the variables below k, before those in l
+unfoldable pub recordsTo : (ℕ → Finding) → List Record → ℕ → List Record
+recordsTo g l zero = l
+recordsTo g l (suc k) = added (g k) (recordsTo g l k)
 
 -- the probe values, where they were old
 unfoldable pub valuesAfter : (ℕ → Finding) → List ℕ → List ℕ
@@ -83,9 +62,9 @@ valuesAfter g old = upTo (λ j. wins (g j) (getD old j 0)) (length old)
 
 -- ---- the first k candidates of a list, one after the other
 
-unfoldable pub constraintsOf : Field → List ℕ → List ℕ → ℕ → List Triple
-constraintsOf F s cands zero = []
-constraintsOf F s cands (suc k) = constraintsTo (finding F s (getD cands k 0)) (constraintsOf F s cands k) (variables F)
+unfoldable pub recordsOf : Field → List ℕ → List ℕ → ℕ → List Record
+recordsOf F s cands zero = []
+recordsOf F s cands (suc k) = recordsTo (finding F s (getD cands k 0)) (recordsOf F s cands k) (variables F)
 
 -- "A value list holds 2 where no value is found"
 unfoldable pub valuesOf : Field → List ℕ → List ℕ → ℕ → List ℕ

@@ -3,22 +3,8 @@ use constraints::Kind;
 use constraints::keys::key;
 ghost use mathlib.Core.Path.{_≡_};
 ghost use Prim.Native.Nat.{_<_, _≤_};
-ghost use Rattle.probe.specs.Found.{found, between};
-ghost use Rattle.constraints.specs.Codes.{meant};
-ghost use Rattle.constraints.specs.Keys.{keyOf};
-ghost use Rattle.finding.specs.Finds.{tripleOf, wins, numberOf, countOf, givesAt};
-
-// The number of a constraint with the lesser end first.
-fn between(i: u16, j: u16, kind: Kind) -> u32
-    requires { ⌜ i < 4096 ⌝ }
-    requires { ⌜ j < 4096 ⌝ }
-    ensures { λ r. ⌜ r ≡ keyOf (tripleOf (between (meant kind) i j)) ⌝ }
-{
-    if i <= j {
-        return key(i, j, kind);
-    }
-    key(j, i, kind)
-}
+ghost use Rattle.probe.specs.Found.{found};
+ghost use Rattle.finding.specs.Finds.{wins, numberOf, countOf, givesAt};
 
 // Where the probe at 0 gives 0.
 fn after_zero(i: u16, j: u16, v: u32) -> u32
@@ -27,10 +13,10 @@ fn after_zero(i: u16, j: u16, v: u32) -> u32
     ensures { λ r. ⌜ r ≡ numberOf (found i j 0 v) ⌝ }
 {
     if v == 0 {
-        return 134217728;
+        return 268435456;
     }
     if v == 1 {
-        return between(i, j, Kind::Equal);
+        return key(i, j, Kind::Equal);
     }
     key(i, j, Kind::GreaterThan)
 }
@@ -42,12 +28,12 @@ fn after_one(i: u16, j: u16, v: u32) -> u32
     ensures { λ r. ⌜ r ≡ numberOf (found i j 1 v) ⌝ }
 {
     if v == 0 {
-        return between(i, j, Kind::ExactlyOne);
+        return key(i, j, Kind::ExactlyOne);
     }
     if v == 1 {
-        return 134217728;
+        return 268435456;
     }
-    between(i, j, Kind::AtLeastOne)
+    key(i, j, Kind::AtLeastOne)
 }
 
 // Where it gives none.
@@ -57,15 +43,15 @@ fn after_none(i: u16, j: u16, v: u32) -> u32
     ensures { λ r. ⌜ r ≡ numberOf (found i j 2 v) ⌝ }
 {
     if v == 0 {
-        return between(i, j, Kind::NoMoreThanOne);
+        return key(i, j, Kind::NoMoreThanOne);
     }
     if v == 1 {
         return key(i, j, Kind::LessThan);
     }
-    134217728
+    268435456
 }
 
-// The number of the constraint, or 2^27.
+// The number of the record, or 2^28.
 pub fn number(i: u16, j: u16, v: u32, w: u32) -> u32
     requires { ⌜ i < 4096 ⌝ }
     requires { ⌜ j < 4096 ⌝ }
@@ -93,12 +79,12 @@ pub fn winner(i: u16, j: u16, v: u32, w: u32, old: u32) -> u32
     old
 }
 
-// How many constraints a gathered number stands for.
+// How many records a gathered number stands for.
 pub fn counts(key: u32) -> usize
     ensures { λ r. ⌜ r ≡ countOf key ⌝ }
     ensures { λ r. ⌜ r ≤ 1 ⌝ }
 {
-    if key < 134217728 { 1 } else { 0 }
+    if key < 268435456 { 1 } else { 0 }
 }
 
 // What a probe gives a variable, without the start values and the probed variable itself.

@@ -9,30 +9,37 @@ use native.Mathlib.Numerals.{add-one}
 use native.Mathlib.Omega.{arith}
 use lib.ListN.{length, getD, set, length-set}
 use lib.Seq.{slice, slice-empty, take-set-le, getD-set-same, getD-set-other}
-use Rattle.constraints.specs.Triple.{Triple, room}
-use Rattle.constraints.specs.Sorted.{sortedSet, SameSet}
+use Rattle.meaning.specs.Records.{Record, AllProper}
+use Rattle.meaning.specs.Rising.{mergedList}
+use Rattle.constraints.specs.Record.{room}
 use Rattle.constraints.specs.Keys.{keyOf, unkey, Small}
-use Rattle.constraints.proofs.Sorted.{set-only, same-sym, same-trans}
-use Rattle.constraints.proofs.Numbers.{key-below, unkey-of-key}
+use Rattle.constraints.proofs.Numbers.{key-is, unkey-of-key}
 use Rattle.sorting.specs.Numbers.{Keys}
 use Rattle.sorting.proofs.Numbers.{distinct-long}
+use Rattle.sorting.proofs.Joining.{unkeys-snoc, words-proper}
 use Rattle.found.specs.declared.Merged.the-variants.{Holds, Full}
 use Rattle.found.specs.Joint.{Held}
 use Rattle.found.specs.Flush.{Left, flushed}
-use Rattle.found.specs.Holding.{Holding, Gathering}
-use Rattle.found.proofs.Fronts.{unkeys-snoc}
-use Rattle.found.proofs.Holding.{holding-start, holding-as, stays-full, holding-held, holds-count, holding-flush, full-exactly, words-left}
+use Rattle.found.specs.Holding.{SameSet, Holding, Gathering}
+use Rattle.found.proofs.Tops.{proper-both}
+use Rattle.found.proofs.Holding.{holding-start, merged-only, holding-as, stays-full, holding-held, holds-count, holding-flush, full-exactly, words-left}
+
+same-sym : {l m : List Record} → SameSet l m → SameSet m l
+same-sym h = record { to = h .from; from = h .to }
+
+same-trans : {k l m : List Record} → SameSet k l → SameSet l m → SameSet k m
+same-trans g h = record { to = λ y p. h .to y (g .to y p); from = λ y p. g .from y (h .from y p) }
 
 -- with no words among them, all that was found is what was flushed
-no-words : (lo : ℕ) (u : List ℕ) (S : List Triple) → map unkey (slice lo lo u) ++ S ≡ S
+no-words : (lo : ℕ) (u : List ℕ) (S : List Record) → map unkey (slice lo lo u) ++ S ≡ S
 no-words lo u S = rw (slice-empty lo u)
 
 no-keys : (lo : ℕ) (u : List ℕ) → lo ≤ length u → Keys lo lo u
-no-keys lo u h = record { order = omega arith; room = h; small = λ t a b. absurd (omega arith) }
+no-keys lo u h = record { order = omega arith; room = h; each = λ t a b. absurd (omega arith) }
 
 -- Nothing is found at first.
 pub gathering-start : (lo : ℕ) (list u : List ℕ) → lo ≤ length u → Gathering [] lo lo 0 list list u
-unfolding sortedSet
+unfolding mergedList
 gathering-start lo list u h = record {
   flushed = [];
   holding = holding-start list;
@@ -43,7 +50,7 @@ gathering-start lo list u h = record {
 
 -- ---- one more word
 
-module _ (lo hi : ℕ) (u : List ℕ) (x : Triple) (K : Keys lo hi u) (h : hi < length u) (s : Small x) where
+module _ (lo hi : ℕ) (u : List ℕ) (x : Record) (K : Keys lo hi u) (h : hi < length u) (s : Small x) where
   more-words : map unkey (slice lo (hi + 1) (set u hi (keyOf x))) ≡ map unkey (slice lo hi u) ++ x ∷ []
   more-words =
       let k = keyOf x in
@@ -55,13 +62,13 @@ module _ (lo hi : ℕ) (u : List ℕ) (x : Triple) (K : Keys lo hi u) (h : hi < 
   more-keys = record {
     order = omega (arith, K .order);
     room = simp length-set (omega arith);
-    small = λ t a b. elim (ℕ-discrete t hi) [
-      | yes e ↦ rw (e, getD-set-same u hi (keyOf x) 0 h) (key-below s)
-      | no e ↦ rw (getD-set-other u hi t (keyOf x) 0 e) (K .small t a (omega arith))
+    each = λ t a b. elim (ℕ-discrete t hi) [
+      | yes e ↦ rw (e, getD-set-same u hi (keyOf x) 0 h) (key-is s)
+      | no e ↦ rw (getD-set-other u hi t (keyOf x) 0 e) (K .each t a (omega arith))
     ];
   }
 
-one-more : (F W S : List Triple) (x : Triple) → SameSet F (W ++ S) → SameSet (x ∷ F) (W ++ x ∷ [] ++ S)
+one-more : (F W S : List Record) (x : Record) → SameSet F (W ++ S) → SameSet (x ∷ F) (W ++ x ∷ [] ++ S)
 one-more F W S x e = record {
   to = λ y m. ⊎-elim
       (λ q. Memᴰ·append-left S (Memᴰ·append-right W (List·Memᴰ·head q)))
@@ -76,13 +83,13 @@ one-more F W S x e = record {
       (List·Memᴰ·append-cases (W ++ x ∷ []) m);
 }
 
-module _ {F : List Triple} {lo hi held : ℕ} {list₀ list u : List ℕ} (G : Gathering F lo hi held list₀ list u) where
-  -- In what order constraints were found, and how often, does not matter.
-  pub gathering-as : {T : List Triple} → SameSet F T → Gathering T lo hi held list₀ list u
+module _ {F : List Record} {lo hi held : ℕ} {list₀ list u : List ℕ} (G : Gathering F lo hi held list₀ list u) where
+  -- In what order records were found, and how often, does not matter.
+  pub gathering-as : {T : List Record} → SameSet F T → Gathering T lo hi held list₀ list u
   gathering-as e = record { flushed = G .flushed; holding = G .holding; count = G .count; keys = G .keys; all = same-trans (same-sym e) (G .all) }
 
-  -- The number of a constraint, put behind the words, is one more that was found.
-  pub gathering-put : (x : Triple) → Small x → hi < length u → {u' : List ℕ} → u' ≡ set u hi (keyOf x) → Gathering (x ∷ F) lo (hi + 1) held list₀ list u'
+  -- The number of a record, put behind the words, is one more that was found.
+  pub gathering-put : (x : Record) → Small x → hi < length u → {u' : List ℕ} → u' ≡ set u hi (keyOf x) → Gathering (x ∷ F) lo (hi + 1) held list₀ list u'
   gathering-put x s h e = rw e (record {
     flushed = G .flushed;
     holding = G .holding;
@@ -96,10 +103,10 @@ module _ {F : List Triple} {lo hi held : ℕ} {list₀ list u : List ℕ} (G : G
   gathering-held = rw (G .count) (holding-held (G .holding))
 
   module _ {x : Left} (e : x ≡ flushed list held u lo hi) where
-    counted : x ≡ flushed list (length (sortedSet (G .flushed))) u lo hi
+    counted : x ≡ flushed list (length (mergedList (G .flushed))) u lo hi
     counted = rw (G .count) at e
 
-    -- A flush that answers n leaves n constraints in the list and no word.
+    -- A flush that answers n leaves n records in the list and no word.
     pub gathering-flush : {n : ℕ} → x .answer ≡ Holds n → Gathering F lo lo n list₀ (x .list) (x .words)
     gathering-flush a =
         let W = map unkey (slice lo hi u) in
@@ -112,17 +119,17 @@ module _ {F : List Triple} {lo hi held : ℕ} {list₀ list u : List ℕ} (G : G
         }
 
     -- A flush that finds no room: what was found so far has none, and so (`stays-full`) has all that is found in the end.
-    pub gathering-full : x .answer ≡ Full → room list₀ < length (sortedSet F)
+    pub gathering-full : x .answer ≡ Full → room list₀ < length (mergedList F)
     gathering-full a =
-        stays-full (room list₀) (map unkey (slice lo hi u) ++ G .flushed) F (full-exactly (G .holding) (G .keys) counted .0 a) (G .all .from)
+        stays-full (room list₀) (map unkey (slice lo hi u) ++ G .flushed) F (proper-both (words-proper (G .keys)) (λ x m. G .holding .small x m .proper)) (full-exactly (G .holding) (G .keys) counted .0 a) (G .all .from)
 
--- In the end, after a flush, the list holds all that was found, sorted and without repeats, and its count is the answer's.
-module _ {F : List Triple} {lo held : ℕ} {list₀ list u : List ℕ} (G : Gathering F lo lo held list₀ list u) where
+-- In the end, after a flush, the list holds all that was found, merged, and its count is the answer's.
+module _ {F : List Record} {lo held : ℕ} {list₀ list u : List ℕ} (G : Gathering F lo lo held list₀ list u) where
   flushed-all : SameSet (G .flushed) F
   flushed-all = same-sym (rw (no-words lo u (G .flushed)) at (G .all))
 
   pub gathering-done : Holding F list₀ list
   gathering-done = holding-as flushed-all (G .holding)
 
-  pub gathering-count : held ≡ length (sortedSet F)
-  gathering-count = G .count ∙ ap length (set-only (G .flushed) F flushed-all)
+  pub gathering-count : held ≡ length (mergedList F)
+  gathering-count = G .count ∙ ap length (merged-only (λ x m. G .holding .small x m .proper) flushed-all)

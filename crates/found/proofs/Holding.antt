@@ -8,18 +8,21 @@ use native.Mathlib.Omega.{arith}
 use lib.ListN.{length, getD, drop}
 use lib.Seq.{slice, length-slice, drop-append-add, drop-drop}
 use Rattle.scratch.specs.Over.{over}
-use Rattle.constraints.specs.Triple.{Triple, flat, room, filled}
-use Rattle.constraints.specs.Sorted.{sortedSet, SameSet}
-use Rattle.constraints.specs.Keys.{keyOf, unkey, Small}
-use Rattle.constraints.proofs.Triples.{length-flat, length-filled, filled-none, filled-rest, in-map}
-use Rattle.constraints.proofs.Sorted.{set-holds, set-only, rising-set, set-more}
-use Rattle.constraints.proofs.Numbers.{unkey-small, unkey-of-key}
+use Rattle.meaning.specs.Records.{Record, AllProper}
+use Rattle.meaning.specs.Rising.{mergedList}
+use Rattle.meaning.proofs.Bans.{bans-at, bans-right, same-refl, same-both, same-records}
+use Rattle.meaning.proofs.Rising.{merged-bans, merged-proper, merged-rising, merged-same, merged-more}
+use Rattle.constraints.specs.Record.{flat, room, filled}
+use Rattle.constraints.specs.Keys.{unkey}
+use Rattle.constraints.proofs.Records.{length-flat, length-filled, filled-none, filled-rest}
 use Rattle.sorting.specs.Numbers.{Keys, distinctAt}
-use Rattle.sorting.proofs.Numbers.{slice-at, unkeys-keys}
+use Rattle.sorting.proofs.Numbers.{merged-small}
+use Rattle.sorting.proofs.Joining.{words-small, words-proper}
 use Rattle.found.specs.declared.Merged.the-variants.{Holds, Full}
 use Rattle.found.specs.Joint.{front, Held, joint}
 use Rattle.found.specs.Flush.{Left, flushed}
-use Rattle.found.specs.Holding.{Holding}
+use Rattle.found.specs.Holding.{SameSet, Holding}
+use Rattle.found.proofs.Tops.{proper-both}
 use Rattle.found.proofs.Fronts.{front-filled}
 use Rattle.found.proofs.Settled.{settled-full, Took, holds-took, Refused, full-refused, settled-words}
 
@@ -28,7 +31,7 @@ pub one-result : (list : List ℕ) (held : ℕ) (u : List ℕ) (lo hi : ℕ) (x 
 one-result list held u lo hi x y p q = p ∙ sym q
 
 -- a list filled anew with no fewer items
-refilled : (items more : List Triple) (list : List ℕ) → length items ≤ length more → filled more (filled items list) ≡ filled more list
+refilled : (items more : List Record) (list : List ℕ) → length items ≤ length more → filled more (filled items list) ≡ filled more list
 unfolding filled over
 refilled items more list h =
     let m = length (flat items) in
@@ -38,74 +41,65 @@ refilled items more list h =
     ap (λ (k : ℕ). drop k (flat items ++ drop m list)) (sym a) ∙ drop-append-add (flat items) (drop m list) n ∙ drop-drop n m list ∙ ap (λ (k : ℕ). drop k list) a in
     ap (λ (l : List ℕ). flat more ++ l) e
 
--- the words from lo to hi stand for constraints
-words-small : {lo hi : ℕ} {u : List ℕ} → Keys lo hi u → (x : Triple) → List·Memᴰ x (map unkey (slice lo hi u)) → Small x
-words-small {lo} {hi} {u} K x m =
-    let p = in-map unkey 0 (slice lo hi u) m in
-    let b : lo + p .0 < hi = omega (arith, p .1 .0, length-slice lo hi u (K .room)) in
-    rw (p .1 .1, slice-at lo hi u (p .0) b) (unkey-small (getD u (lo + p .0) 0) (K .small (lo + p .0) (omega arith) b))
-
--- numbers of constraints stand for them
-pub unkeys-of-keys : (l : List Triple) → ((x : Triple) → List·Memᴰ x l → Small x) → map unkey (map keyOf l) ≡ l
-unkeys-of-keys l h = unkeys-keys l (λ y m. unkey-of-key (h y m))
-
 -- A list holds nothing found at first.
 pub holding-start : (list : List ℕ) → Holding [] list list
-unfolding sortedSet
+unfolding mergedList
 holding-start list = record { small = λ x m. absurd (List·Memᴰ·not-nil m); fits = omega arith; is = sym (filled-none list) }
 
--- In what order constraints were found, and how often, does not matter.
-pub holding-as : {S T : List Triple} {list₀ list : List ℕ} → SameSet S T → Holding S list₀ list → Holding T list₀ list
-holding-as {S} {T} e H = record {
-  small = λ x m. H .small x (e .from x m);
-  fits = rw (set-only S T e) at (H .fits);
-  is = rw (set-only S T e) at (H .is);
-}
+-- In what order records were found, and how often, does not matter.
+pub merged-only : {S T : List Record} → AllProper S → SameSet S T → mergedList S ≡ mergedList T
+merged-only {S} {T} a e = merged-same S T a (λ x m. a x (e .from x m)) (same-records (e .to) (e .from))
+
+pub holding-as : {S T : List Record} {list₀ list : List ℕ} → SameSet S T → Holding S list₀ list → Holding T list₀ list
+holding-as {S} {T} e H =
+    let q = merged-only (λ x m. H .small x m .proper) e in record {
+      small = λ x m. H .small x (e .from x m);
+      fits = rw q at (H .fits);
+      is = rw q at (H .is);
+    }
 
 -- Once what was found has no room, all that is found in the end has none.
-pub stays-full : (room : ℕ) (l m : List Triple) → room < length (sortedSet l) → ((x : Triple) → List·Memᴰ x l → List·Memᴰ x m) → room < length (sortedSet m)
-stays-full room l m h f = omega (arith, set-more l m f)
+pub stays-full : (room : ℕ) (l m : List Record) → AllProper l → room < length (mergedList l) → ((x : Record) → List·Memᴰ x l → List·Memᴰ x m) → room < length (mergedList m)
+stays-full room l m a h f = omega (arith, merged-more l m a (λ i j p b. bans-at b (f (b .by) (b .among))))
 
-module _ {S : List Triple} {list₀ list : List ℕ} (H : Holding S list₀ list) where
-  inside : 3 * length (sortedSet S) ≤ length list₀
+module _ {S : List Record} {list₀ list : List ℕ} (H : Holding S list₀ list) where
+  inside : 3 * length (mergedList S) ≤ length list₀
   inside = omega (arith, H .fits, div-mul-le-self (length list₀) 3)
 
   same-long : length list ≡ length list₀
-  same-long = ap length (H .is) ∙ length-filled (sortedSet S) list₀ inside
+  same-long = ap length (H .is) ∙ length-filled (mergedList S) list₀ inside
 
-  front-is : front (length (sortedSet S)) list ≡ sortedSet S
-  front-is = ap (front (length (sortedSet S))) (H .is) ∙ front-filled (sortedSet S) list₀
+  front-is : front (length (mergedList S)) list ≡ mergedList S
+  front-is = ap (front (length (mergedList S))) (H .is) ∙ front-filled (mergedList S) list₀
 
   -- Nothing behind the last item is written.
-  pub holding-rest : drop (3 * length (sortedSet S)) list ≡ drop (3 * length (sortedSet S)) list₀
-  holding-rest = ap (drop (3 * length (sortedSet S))) (H .is) ∙ filled-rest (sortedSet S) list₀
+  pub holding-rest : drop (3 * length (mergedList S)) list ≡ drop (3 * length (mergedList S)) list₀
+  holding-rest = ap (drop (3 * length (mergedList S))) (H .is) ∙ filled-rest (mergedList S) list₀
 
   -- It is what the next flush asks for.
-  pub holding-held : Held (length (sortedSet S)) list
+  pub holding-held : Held (length (mergedList S)) list
   holding-held = record {
     fits = rw same-long (H .fits);
-    rising = rw front-is (rising-set S);
-    small = λ x m. H .small x (set-holds S .to x (rw front-is at m));
+    rising = rw front-is (merged-rising S);
+    small = λ x m. merged-small S (H .small) x (rw front-is at m);
   }
 
-  module _ {lo hi : ℕ} {u : List ℕ} (K : Keys lo hi u) {x : Left} (e : x ≡ flushed list (length (sortedSet S)) u lo hi) where
-    joint-is : joint (length (sortedSet S)) lo hi list u ≡ sortedSet (map unkey (slice lo hi u) ++ S)
+  module _ {lo hi : ℕ} {u : List ℕ} (K : Keys lo hi u) {x : Left} (e : x ≡ flushed list (length (mergedList S)) u lo hi) where
+    joint-is : joint (length (mergedList S)) lo hi list u ≡ mergedList (map unkey (slice lo hi u) ++ S)
     unfolding joint
     joint-is =
         let k = map unkey (slice lo hi u) in
-        ap (λ (l : List Triple). sortedSet (k ++ l)) front-is
-        ∙ set-only (k ++ sortedSet S) (k ++ S) (record {
-          to = λ z m. ⊎-elim (λ q. Memᴰ·append-left S q) (λ q. Memᴰ·append-right k (set-holds S .to z q)) (List·Memᴰ·append-cases k m);
-          from = λ z m. ⊎-elim (λ q. Memᴰ·append-left (sortedSet S) q) (λ q. Memᴰ·append-right k (set-holds S .from z q)) (List·Memᴰ·append-cases k m);
-        })
+        let held : AllProper S = λ x m. H .small x m .proper in
+        ap (λ (l : List Record). mergedList (k ++ l)) front-is
+        ∙ merged-same (k ++ mergedList S) (k ++ S) (proper-both (words-proper K) (merged-proper S held)) (proper-both (words-proper K) held) (same-both (same-refl k) (merged-bans S))
 
     taken-in : {n : ℕ} → x .answer ≡ Holds n
-        → Took (joint (length (sortedSet S)) lo hi list u) list (distinctAt lo hi u) n (flushed list (length (sortedSet S)) u lo hi)
+        → Took (joint (length (mergedList S)) lo hi list u) list (distinctAt lo hi u) n (flushed list (length (mergedList S)) u lo hi)
     unfolding flushed
-    taken-in a = holds-took (joint (length (sortedSet S)) lo hi list u) list (distinctAt lo hi u) (sym (ap (λ (z : Left). z .answer) e) ∙ a)
+    taken-in a = holds-took (joint (length (mergedList S)) lo hi list u) list (distinctAt lo hi u) (sym (ap (λ (z : Left). z .answer) e) ∙ a)
 
     -- A flush that answers n has counted what was found, each once.
-    pub holds-count : {n : ℕ} → x .answer ≡ Holds n → n ≡ length (sortedSet (map unkey (slice lo hi u) ++ S))
+    pub holds-count : {n : ℕ} → x .answer ≡ Holds n → n ≡ length (mergedList (map unkey (slice lo hi u) ++ S))
     holds-count a = taken-in a .count ∙ ap length joint-is
 
     -- The list then holds what the words stand for and what it held.
@@ -116,23 +110,23 @@ module _ {S : List Triple} {list₀ list : List ℕ} (H : Holding S list₀ list
           fits = rw (joint-is, same-long) at (taken-in a .fits);
           is = ap (λ (z : Left). z .list) e
               ∙ taken-in a .laid
-              ∙ ap (λ (l : List Triple). filled l list) joint-is
-              ∙ ap (filled (sortedSet (k ++ S))) (H .is)
-              ∙ refilled (sortedSet S) (sortedSet (k ++ S)) list₀ (set-more S (k ++ S) (λ y m. Memᴰ·append-right k m));
+              ∙ ap (λ (l : List Record). filled l list) joint-is
+              ∙ ap (filled (mergedList (k ++ S))) (H .is)
+              ∙ refilled (mergedList S) (mergedList (k ++ S)) list₀ (merged-more S (k ++ S) (λ y m. H .small y m .proper) (λ i j p f. bans-right k f));
         }
 
-    left-out : x .answer ≡ Full → Refused (joint (length (sortedSet S)) lo hi list u) list (distinctAt lo hi u) (flushed list (length (sortedSet S)) u lo hi)
+    left-out : x .answer ≡ Full → Refused (joint (length (mergedList S)) lo hi list u) list (distinctAt lo hi u) (flushed list (length (mergedList S)) u lo hi)
     unfolding flushed
-    left-out a = full-refused (joint (length (sortedSet S)) lo hi list u) list (distinctAt lo hi u) (sym (ap (λ (z : Left). z .answer) e) ∙ a)
+    left-out a = full-refused (joint (length (mergedList S)) lo hi list u) list (distinctAt lo hi u) (sym (ap (λ (z : Left). z .answer) e) ∙ a)
 
     -- A flush answers that there is no room exactly if more was found, each counted once, than the list has room for.
-    pub full-exactly : (x .answer ≡ Full) ↔ (room list₀ < length (sortedSet (map unkey (slice lo hi u) ++ S)))
+    pub full-exactly : (x .answer ≡ Full) ↔ (room list₀ < length (mergedList (map unkey (slice lo hi u) ++ S)))
     unfolding flushed
     full-exactly = (
       λ a. rw (joint-is, same-long) at (left-out a .more),
       λ h.
-          let more : room list < length (joint (length (sortedSet S)) lo hi list u) = rw (joint-is, same-long) h in
-          ap (λ (z : Left). z .answer) (e ∙ sym (settled-full (joint (length (sortedSet S)) lo hi list u) list (distinctAt lo hi u) refl more)),
+          let more : room list < length (joint (length (mergedList S)) lo hi list u) = rw (joint-is, same-long) h in
+          ap (λ (z : Left). z .answer) (e ∙ sym (settled-full (joint (length (mergedList S)) lo hi list u) list (distinctAt lo hi u) refl more)),
     )
 
     -- The list is then as it was.
@@ -142,4 +136,4 @@ module _ {S : List Triple} {list₀ list : List ℕ} (H : Holding S list₀ list
     -- The words are left sorted, each once, with zeros behind them; the rest of the scratch is as it was.
     pub words-left : x .words ≡ distinctAt lo hi u
     unfolding flushed
-    words-left = ap (λ (z : Left). z .words) e ∙ settled-words (joint (length (sortedSet S)) lo hi list u) list (distinctAt lo hi u)
+    words-left = ap (λ (z : Left). z .words) e ∙ settled-words (joint (length (mergedList S)) lo hi list u) list (distinctAt lo hi u)

@@ -7,9 +7,10 @@ use native.Mathlib.Omega.{arith}
 use lib.ListN.{length, take, drop, length-append, take-append-drop}
 use lib.Seq.{append-snoc}
 use Rattle.scratch.specs.Over.{over}
-use Rattle.constraints.specs.Triple.{Triple, flat, room, filled, stored}
+use Rattle.meaning.specs.Records.{Record}
+use Rattle.constraints.specs.Record.{flat, room, filled, stored}
 use Rattle.constraints.specs.Keys.{unkey}
-use Rattle.constraints.proofs.Triples.{length-flat, has-room, length-stored, flat-append}
+use Rattle.constraints.proofs.Records.{length-flat, has-room, length-stored, flat-append}
 use Rattle.found.specs.Joint.{front, Held, joint, Taking}
 use Rattle.found.proofs.Fronts.{front-length, front-fewer, front-stored, flat-front, drop-stored, held-fewer, held-same, joint-as, joint-long, joint-none}
 
@@ -57,7 +58,7 @@ pub record Laying (held lo hi : ℕ) (u list₀ : List ℕ) (items keys n : ℕ)
   pub high : keys ≤ hi
   pub count : n ≡ length (joint items lo keys list₀ u)
   pub same : front items list ≡ front items list₀
-  pub rest : List Triple
+  pub rest : List Record
   pub whole : joint held lo hi list₀ u ≡ joint items lo keys list₀ u ++ rest
   pub back : drop (3 * n) list ≡ flat rest ++ drop (3 * length (joint held lo hi list₀ u)) list₀
 
@@ -85,7 +86,7 @@ module _ {held lo hi : ℕ} {u list₀ : List ℕ} {items keys n : ℕ} {list : 
     taken-is =
         sym (joint-as items lo keys list list₀ u (L .same))
         ∙ T .is
-        ∙ ap (λ (l : List Triple). l ++ unkey key ∷ []) (joint-as items' lo keys' list list₀ u (front-fewer items' items list list₀ (T .fewer) (L .same)))
+        ∙ ap (λ (l : List Record). l ++ unkey key ∷ []) (joint-as items' lo keys' list list₀ u (front-fewer items' items list list₀ (T .fewer) (L .same)))
 
     taken-count : n ≡ length (joint items' lo keys' list₀ u) + 1
     taken-count = L .count ∙ ap length taken-is ∙ length-append (joint items' lo keys' list₀ u) (unkey key ∷ [])
@@ -115,11 +116,11 @@ module _ {held lo hi : ℕ} {u list₀ : List ℕ} {items keys n : ℕ} {list : 
             count = omega (arith, m);
             same = ap (front items') e ∙ front-stored items' (n - 1) list x (omega (arith, m, long-enough)) ∙ front-fewer items' items list list₀ (T .fewer) (L .same);
             rest = x ∷ L .rest;
-            whole = L .whole ∙ ap (λ (l : List Triple). l ++ L .rest) taken-is ∙ append-snoc (joint items' lo keys' list₀ u) x (L .rest);
+            whole = L .whole ∙ ap (λ (l : List Record). l ++ L .rest) taken-is ∙ append-snoc (joint items' lo keys' list₀ u) x (L .rest);
             back = ap (drop (3 * (n - 1))) e
                 ∙ drop-stored (n - 1) list x laying-place
-                ∙ ap (λ (t : ℕ). x .first ∷ x .second ∷ x .code ∷ drop (3 * t) list) q
-                ∙ ap (λ (l : List ℕ). x .first ∷ x .second ∷ x .code ∷ l) (L .back);
+                ∙ ap (λ (t : ℕ). x .lower ∷ x .higher ∷ x .set ∷ drop (3 * t) list) q
+                ∙ ap (λ (l : List ℕ). x .lower ∷ x .higher ∷ x .set ∷ l) (L .back);
           }
 
   -- with no words left the items that are left stand where they stood
@@ -131,7 +132,7 @@ module _ {held lo hi : ℕ} {u list₀ : List ℕ} {items keys n : ℕ} {list : 
       let f = front items list₀ in
       let d = drop (3 * length (joint held lo hi list₀ u)) list₀ in
       let j : joint items lo keys list₀ u ≡ front items list₀ = ap (λ (k : ℕ). joint items lo k list₀ u) e ∙ joint-none items lo list₀ u F in
-      let w : joint held lo hi list₀ u ≡ f ++ L .rest = L .whole ∙ ap (λ (l : List Triple). l ++ L .rest) j in
+      let w : joint held lo hi list₀ u ≡ f ++ L .rest = L .whole ∙ ap (λ (l : List Record). l ++ L .rest) j in
       let c : n ≡ items = L .count ∙ ap length j ∙ front-length items list₀ (F .fits) in
       let front-is : take (3 * n) list ≡ flat f =
       ap (λ (m : ℕ). take (3 * m) list) c ∙ flat-front items list (omega (arith, L .long, F .fits, div-mul-le-self (length list₀) 3)) ∙ ap flat (L .same) in

@@ -1,28 +1,31 @@
 -- What a merge answers, and what a flush leaves is the promised state. Assumes nothing.
 use Prim.Native.Nat.{ℕ, _+_, _<_, _≤_}
 use mathlib.Core.Path.{_≡_, refl, ap, _∙_}
-use mathlib.Core.Logic.{⊎-elim}
 use mathlib.Core.Bool.{Bool, true, false}
-use mathlib.Core.List.{List, map, _++_, List·Memᴰ·append-cases, Memᴰ·append-left, Memᴰ·append-right}
+use mathlib.Core.List.{List, map, _++_}
 use native.Mathlib.Omega.{arith}
 use borrow.Author.Tests.{le-leb, lt-leb, leb-true, leb-false}
 use lib.Dec.{leb}
 use lib.ListN.{length}
 use lib.Seq.{slice}
-use Rattle.constraints.specs.Triple.{Triple, room, filled}
-use Rattle.constraints.specs.Sorted.{sortedSet}
+use Rattle.meaning.specs.Records.{Record, AllProper}
+use Rattle.meaning.specs.Rising.{mergedList}
+use Rattle.meaning.proofs.Bans.{same-refl, same-both}
+use Rattle.meaning.proofs.Rising.{merged-bans, merged-proper, merged-rising, merged-same}
+use Rattle.constraints.specs.Record.{room, filled}
 use Rattle.constraints.specs.Keys.{unkey}
-use Rattle.constraints.proofs.Sorted.{set-holds, set-only, rising-set}
 use Rattle.sorting.specs.Numbers.{Keys, distinct, distinctAt}
 use Rattle.sorting.proofs.Numbers.{unkeys-distinct, distinct-slice, distinct-keys}
+use Rattle.sorting.proofs.Joining.{words-proper}
 use Rattle.found.specs.declared.Merged.{Merged}
 use Rattle.found.specs.declared.Merged.the-variants.{Holds, Full}
-use Rattle.found.specs.Joint.{front, Climbed, joint}
+use Rattle.found.specs.Joint.{front, Held, Climbed, joint}
+use Rattle.found.proofs.Tops.{proper-both}
 use Rattle.found.specs.Flush.{Left, left, settledIf, settled, flushed}
 
 -- ---- the two answers
 
-module _ (items : List Triple) (list u : List ℕ) {n : ℕ} (e : n ≡ length items) where
+module _ (items : List Record) (list u : List ℕ) {n : ℕ} (e : n ≡ length items) where
   pub settled-full : room list < n → left Full list u ≡ settled items list u
   unfolding settled settledIf
   settled-full h = rw (lt-leb (length items) (room list) (omega arith))
@@ -33,7 +36,7 @@ module _ (items : List Triple) (list u : List ℕ) {n : ℕ} (e : n ≡ length i
 
 -- ---- read back
 
-module _ (items : List Triple) (list u : List ℕ) where
+module _ (items : List Record) (list u : List ℕ) where
   -- what holds of a list that took the items in
   pub record Took (n : ℕ) (x : Left) : Type 0 where
     pub fits : length items ≤ room list
@@ -74,25 +77,23 @@ module _ (items : List Triple) (list u : List ℕ) where
 -- ---- the flush
 
 module _ {lo hi r : ℕ} {u u' : List ℕ} (K : Keys lo hi u) (e : r ≡ lo + length (distinct (slice lo hi u))) (f : u' ≡ distinctAt lo hi u) where
-  flush-words : map unkey (slice lo r u') ≡ sortedSet (map unkey (slice lo hi u))
-  flush-words = rw (e, f, distinct-slice lo hi u (omega (arith, K .order, K .room))) (unkeys-distinct (slice lo hi u))
+  flush-words : map unkey (slice lo r u') ≡ mergedList (map unkey (slice lo hi u))
+  flush-words = rw (e, f, distinct-slice lo hi u (omega (arith, K .order, K .room))) (unkeys-distinct K)
 
   -- the words that are left are in order
   pub flush-climbed : Climbed lo r u'
-  flush-climbed = record { keys = rw (e, f) (distinct-keys lo hi u K); rising = rw flush-words (rising-set (map unkey (slice lo hi u))) }
+  flush-climbed = record { keys = rw (e, f) (distinct-keys lo hi u K); rising = rw flush-words (merged-rising (map unkey (slice lo hi u))) }
 
-  module _ (held : ℕ) (list : List ℕ) where
+  module _ (held : ℕ) (list : List ℕ) (H : Held held list) where
     flush-joint : joint held lo r list u' ≡ joint held lo hi list u
     unfolding joint
     flush-joint =
         let k = map unkey (slice lo hi u) in
         let a = front held list in
-        ap (λ (l : List Triple). sortedSet (l ++ a)) flush-words
-        ∙ set-only (sortedSet k ++ a) (k ++ a) (record {
-          to = λ z m. ⊎-elim (λ q. Memᴰ·append-left a (set-holds k .to z q)) (λ q. Memᴰ·append-right k q) (List·Memᴰ·append-cases (sortedSet k) m);
-          from = λ z m. ⊎-elim (λ q. Memᴰ·append-left a (set-holds k .from z q)) (λ q. Memᴰ·append-right (sortedSet k) q) (List·Memᴰ·append-cases k m);
-        })
+        let items : AllProper a = λ z m. H .small z m .proper in
+        ap (λ (l : List Record). mergedList (l ++ a)) flush-words
+        ∙ merged-same (mergedList k ++ a) (k ++ a) (proper-both (merged-proper k (words-proper K)) items) (proper-both (words-proper K) items) (same-both (merged-bans k) (same-refl a))
 
     pub flush-is : {answer : Merged} {list' : List ℕ} → left answer list' u' ≡ settled (joint held lo r list u') list u' → left answer list' u' ≡ flushed list held u lo hi
     unfolding flushed
-    flush-is h = h ∙ ap (λ (j : List Triple). settled j list u') flush-joint ∙ ap (λ (w : List ℕ). settled (joint held lo hi list u) list w) f
+    flush-is h = h ∙ ap (λ (j : List Record). settled j list u') flush-joint ∙ ap (λ (w : List ℕ). settled (joint held lo hi list u) list w) f

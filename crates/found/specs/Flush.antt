@@ -4,7 +4,8 @@ use mathlib.Core.Bool.{Bool, true, false}
 use mathlib.Core.List.{List}
 use lib.Dec.{leb}
 use lib.ListN.{length}
-use Rattle.constraints.specs.Triple.{Triple, room, filled}
+use Rattle.meaning.specs.Records.{Record}
+use Rattle.constraints.specs.Record.{room, filled}
 use Rattle.sorting.specs.Numbers.{distinctAt}
 use Rattle.found.specs.declared.Merged.{Merged}
 use Rattle.found.specs.declared.Merged.the-variants.{Holds, Full}
@@ -20,14 +21,14 @@ abbrev pub left : Merged → List ℕ → List ℕ → Left
 left r list u = record { answer = r; list = list; words = u }
 
 -- "elements past an answer list's last item are unchanged"; where the items do not fit nothing is written
-unfoldable pub settledIf : Bool → List Triple → List ℕ → List ℕ → Left
+unfoldable pub settledIf : Bool → List Record → List ℕ → List ℕ → Left
 settledIf true items list u = left (Holds (length items)) (filled items list) u
 settledIf false items list u = left Full list u
 
 -- "9 is given exactly if a full answer has more items than its list has room for"
-unfoldable pub settled : List Triple → List ℕ → List ℕ → Left
+unfoldable pub settled : List Record → List ℕ → List ℕ → Left
 settled items list u = settledIf (leb (length items) (room list)) items list u
 
--- the list takes in what the words from lo to hi stand for, each once; they are left sorted, each once
+-- the list takes in what the words from lo to hi stand for; they are left sorted, one for each pair
 unfoldable pub flushed : List ℕ → ℕ → List ℕ → ℕ → ℕ → Left
 flushed list held u lo hi = settled (joint held lo hi list u) list (distinctAt lo hi u)

@@ -1,4 +1,4 @@
-// The list of found constraints at scale: numbers gathered in scratch go into the sorted answer list, which grows by new ones alone.
+// The list of found records at scale: numbers gathered in scratch go into the rising answer list, which grows by new pairs alone.
 mod merging;
 
 use merging::merge;
@@ -8,13 +8,13 @@ ghost use Rattle.sorting.specs.Numbers.{Keys};
 ghost use Rattle.found.specs.Joint.{Held};
 ghost use Rattle.found.specs.Flush.{left, flushed};
 
-// What a flush answers: how many constraints the list holds, or that it has no room for them.
+// What a flush answers: how many records the list holds, or that it has no room for them.
 pub enum Merged {
     Holds(usize),
     Full,
 }
 
-// Puts what the words from lo to hi stand for among the `held` constraints of the list.
+// Puts what the words from lo to hi stand for among the `held` records of the list.
 pub fn flush(list: &mut [u16], held: usize, u: &mut [u32], lo: usize, hi: usize) -> Merged
     requires { ⌜ Held held (now list) ⌝ }
     requires { ⌜ Keys lo hi (now u) ⌝ }

@@ -1,38 +1,33 @@
-// Two rising lists into one: the constraints at the front of the answer list, and the numbers in a part of scratch.
+// Two rising lists into one: the records at the front of the answer list, and the numbers in a part of scratch.
 use crate::Merged;
+use constraints::keys::number;
 ghost use mathlib.Core.Path.{_≡_};
 ghost use Prim.Native.Nat.{_+_, _*_, _<_, _≤_};
 ghost use lib.ListN.{length};
 ghost use Rattle.scratch.specs.Lent.{before, after};
-ghost use Rattle.constraints.specs.Triple.{tripleAt, room, filled};
+ghost use Rattle.constraints.specs.Record.{recordAt, room, filled};
 ghost use Rattle.constraints.specs.Keys.{keyOf, Small};
 ghost use Rattle.found.specs.Joint.{Held, Climbed, joint, Taking};
 ghost use Rattle.found.specs.Flush.{left, settled};
 
-// The largest number of both lists, and how far each is left without it.
+// The number of the last pair of both lists, and how far each is left without it.
 struct Taken {
     key: u32,
     items: usize,
     keys: usize,
 }
 
-fn word(x: u16) -> u32
-    ensures { λ r. ⌜ r ≡ x ⌝ }
-{
-    x as u32
-}
-
-// The number of triple t of the list.
+// The number of record t of the list.
 fn key_at(list: &[u16], t: usize) -> u32
     requires { ⌜ 3 * t + 2 < length (now list) ⌝ }
-    requires { ⌜ Small (tripleAt (now list) t) ⌝ }
-    ensures { λ r. ⌜ r ≡ keyOf (tripleAt (before list) t) ⌝ }
+    requires { ⌜ Small (recordAt (now list) t) ⌝ }
+    ensures { λ r. ⌜ r ≡ keyOf (recordAt (before list) t) ⌝ }
 {
     let i = 3 * t;
-    (word(list[i]) * 4096 + word(list[i + 1])) * 8 + word(list[i + 2])
+    number(list[i], list[i + 1], list[i + 2])
 }
 
-// Takes the largest of the first `items` triples and the words from lo to `keys`; one that stands in both is taken from both.
+// Takes the last of the first `items` records and the words from lo to `keys`; where both have the last pair, the union is taken from both.
 fn take_last(list: &[u16], items: usize, u: &[u32], lo: usize, keys: usize) -> Taken
     requires { ⌜ Held items (now list) ⌝ }
     requires { ⌜ Climbed lo keys (now u) ⌝ }
@@ -48,16 +43,16 @@ fn take_last(list: &[u16], items: usize, u: &[u32], lo: usize, keys: usize) -> T
         };
     }
     let x = key_at(list, items - 1);
-    if x < y {
+    if x / 16 < y / 16 {
         return Taken {
             key: y,
             items: items,
             keys: keys - 1,
         };
     }
-    if x == y {
+    if x / 16 == y / 16 {
         return Taken {
-            key: y,
+            key: x | y,
             items: items - 1,
             keys: keys - 1,
         };
@@ -69,7 +64,7 @@ fn take_last(list: &[u16], items: usize, u: &[u32], lo: usize, keys: usize) -> T
     }
 }
 
-// How many different constraints both lists hold.
+// How many records both lists hold, merged.
 fn count(list: &[u16], held: usize, u: &[u32], lo: usize, hi: usize) -> usize
     requires { ⌜ Held held (now list) ⌝ }
     requires { ⌜ Climbed lo hi (now u) ⌝ }

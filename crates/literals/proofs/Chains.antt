@@ -8,7 +8,7 @@ use native.Mathlib.Omega.{arith}
 use lib.ListN.{length, getD, set, length-set}
 use lib.Seq.{getD-set-same, getD-set-other}
 use Rattle.meaning.proofs.Values.{below-or-at}
-use Rattle.constraints.specs.Triple.{room}
+use Rattle.constraints.specs.Record.{room}
 use Rattle.literals.specs.Ends.{mine, Unlinked, Last, Linked}
 
 -- the first x ends are linked in u, which is as long as u₀

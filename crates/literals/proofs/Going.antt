@@ -12,18 +12,18 @@ use Rattle.meaning.specs.Steps.{Valid}
 use Rattle.meaning.specs.Literal.{Holds, given, follows, BothWays}
 use Rattle.meaning.proofs.Free.{frees-le, frees-set}
 use Rattle.meaning.proofs.Values.{zero-or-one, below-or-at, fixed}
-use Rattle.meaning.proofs.Implications.{implications-fit}
-use Rattle.constraints.specs.Triple.{room}
+use Rattle.meaning.proofs.Implications.{rules-fit}
+use Rattle.constraints.specs.Record.{room}
 use Rattle.literals.specs.Listed.{Listed}
 use Rattle.literals.specs.Ends.{rules, mine, other, says, Linked}
 use Rattle.literals.specs.Going.{Valued, Going, Kept, Stands, Small, Freed, Entering}
-use Rattle.literals.proofs.Rules.{says-small, other-below, listed-ends}
+use Rattle.literals.proofs.Rules.{other-below, listed-ends}
 
 -- ---- what holds
 
 pub holds-small : {list s : List ℕ} {i v : ℕ} → Listed (length s) list → Holds (rules list) s i v → v < 2
 holds-small L (given h small e) = small
-holds-small {list = list} L (follows {e = e} m h) = implications-fit _ (listed-ends L) e m .gives
+holds-small {list = list} L (follows {e = e} m h) = rules-fit _ (listed-ends L) e m .gives
 
 -- two values of one variable that hold are 0 and 1
 pub both-ways : {list s : List ℕ} {j a b : ℕ} → Listed (length s) list → Holds (rules list) s j a → Holds (rules list) s j b → a ≢ b → BothWays (rules list) s
@@ -64,8 +64,7 @@ stands-kept {list} {n} {u} {v} x L h K has s =
   where
     go : Dec (says list x (getD u (mine list x) 0) ≡ 2) → (says list x (getD u (mine list x) 0) ≡ 2) ⊎ (getD v (other list x) 0 ≡ says list x (getD u (mine list x) 0))
     go (yes z) = inl z
-    go (no z) = ⊎-elim inl
-        (λ f. inr (fixed (K .values (other list x) (other-below list L x h)) (omega (arith, f, says-small list x (getD u (mine list x) 0))) ∙ f)) s
+    go (no z) = ⊎-elim inl (λ f. ⊎-elim (λ two. absurd (z (sym f ∙ two))) (λ e. inr (e ∙ f)) (K .values (other list x) (other-below list L x h))) s
 
 -- ---- a value is forced
 

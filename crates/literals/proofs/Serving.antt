@@ -1,6 +1,6 @@
 -- Serving: an end, the ends of a variable by its chain, and the queue. Assumes nothing.
 use Prim.Native.Nat.{ℕ, _+_, _*_, _-_, _<_, _≤_}
-use mathlib.Core.Path.{_≡_, sym, ap, _∙_, subst}
+use mathlib.Core.Path.{_≡_, refl, sym, ap, _∙_, subst}
 use mathlib.Core.Logic.{_≢_, inl, inr, ⊎-elim}
 use mathlib.Core.Bool.{Bool, true, false}
 use mathlib.Core.List.{List}
@@ -10,16 +10,16 @@ use lib.ListN.{length, getD, set, take}
 use lib.Seq.{getD-take, length-take-le}
 use Rattle.meaning.specs.Steps.{Valid}
 use Rattle.meaning.specs.Literal.{Holds, given, follows, BothWays, Settled, clash, propagate}
-use Rattle.meaning.proofs.Implications.{implications-fit}
+use Rattle.meaning.proofs.Implications.{rules-fit}
 use Rattle.meaning.proofs.Theorems.{propagation-clash, propagation-done}
 use Rattle.meaning.proofs.Values.{fixed, below-or-at}
-use Rattle.constraints.specs.Triple.{room, constraintsOf}
+use Rattle.constraints.specs.Record.{room, records}
 use Rattle.literals.specs.declared.Went.{Went}
 use Rattle.literals.specs.declared.Went.the-variants.{On, Clashed}
 use Rattle.literals.specs.Listed.{Listed}
 use Rattle.literals.specs.Ends.{rules, mine, other, says, Last}
 use Rattle.literals.specs.Going.{Valued, Going, Stands, Small, Given, Entering, Served, Outcome, on, clashed, found}
-use Rattle.literals.proofs.Rules.{says-rule, rule-says, says-free, says-small, mine-below, other-below, listed-ends}
+use Rattle.literals.proofs.Rules.{Gave, says-rule, rule-says, says-free, says-most, mine-below, other-below, listed-ends}
 use Rattle.literals.proofs.Going.{holds-small, both-ways, going-small, kept-refl, kept-trans, value-kept, valued-kept, stands-kept, force-room, force-kept, force-going, force-value}
 
 -- ---- one end
@@ -45,27 +45,34 @@ module _ {list s u : List ℕ} {tail x i v w : ℕ} (L : Listed (length s) list)
   end-same ej eh z = stays (inr (sym (eh ∙ ap (λ (k : ℕ). getD u k 0) ej) ∙ z ∙ e))
 
   -- what it says holds
-  said-holds : w ≢ 2 → Holds (rules list) s (other list x) w
-  said-holds ne =
-      let m = says-rule list x (getD u (mine list x) 0) h (λ z. ne (e ∙ z)) in
+  said-holds : (r : ℕ) → r < 2 → Gave w r → Holds (rules list) s (other list x) r
+  said-holds r small g =
+      let m = says-rule list x (getD u (mine list x) 0) r h small (rw e at g) in
       let from = ⊎-elim (λ z. absurd (omega (arith, own .value))) (λ z. z) (G .sound (mine list x) (own .variable)) in
-      rw e (follows m from)
+      follows m from
 
-  module _ {j have : ℕ} (ne : w ≢ 2) (ej : j ≡ other list x) (eh : have ≡ getD u j 0) (differs : have ≢ w) where
+  -- it says both
+  pub end-both : w ≡ 3 → Outcome list s (λ y. y ≡ x) u tail u Clashed
+  end-both z = clashed (record { at = other list x; zero = said-holds 0 (omega arith) (inr z); one = said-holds 1 (omega arith) (inr z) })
+
+  module _ {j have : ℕ} (ne : w ≢ 2) (nb : w ≢ 3) (ej : j ≡ other list x) (eh : have ≡ getD u j 0) (differs : have ≢ w) where
     below : j < length s
     below = rw ej (other-below list L x h)
+
+    small : w < 2
+    small = omega (arith, e, says-most list x (getD u (mine list x) 0), ne, nb)
+
+    holds : Holds (rules list) s j w
+    holds = rw (sym ej) at (said-holds w small (inl refl))
 
     -- it says the opposite
     pub end-clash : have ≢ 2 → Outcome list s (λ y. y ≡ x) u tail u Clashed
     end-clash taken =
         let has = ⊎-elim (λ z. absurd (taken (eh ∙ z))) (λ z. z) (G .sound j below) in
-        clashed (both-ways L has (rw (sym ej) at (said-holds ne)) (λ z. differs (eh ∙ z)))
+        clashed (both-ways L has holds (λ z. differs (eh ∙ z)))
 
     -- it gives a free variable a value
     module _ (free : have ≡ 2) where
-      small : w < 2
-      small = omega (arith, e, says-small list x (getD u (mine list x) 0), ne)
-
       still : getD u j 0 ≡ 2
       still = sym eh ∙ free
 
@@ -77,7 +84,7 @@ module _ {list s u : List ℕ} {tail x i v w : ℕ} (L : Listed (length s) list)
           let kept = force-kept G below still small in
           let same : getD (set (set u j w) (length s + tail) j) (mine list x) 0 ≡ getD u (mine list x) 0 = value-kept kept own in
           rw (el, eu) (on (record {
-            going = force-going G below still small (rw (sym ej) at (said-holds ne));
+            going = force-going G below still small holds;
             kept = kept;
             stands = λ y l q. subst (Stands list (set (set u j w) (length s + tail) j)) (sym q)
                 (inr (ap (λ (k : ℕ). getD (set (set u j w) (length s + tail) j) k 0) (sym ej) ∙ force-value G below still small ∙ e ∙ ap (says list x) (sym same)));
@@ -186,10 +193,12 @@ module _ {list s u : List ℕ} {tail head : ℕ} (L : Listed (length s) list) (W
     holds-here (follows {e = r} m h) =
         let z = rule-says list m in
         let mine-has : getD u (mine list (z .end)) 0 ≡ r .when = ap (λ (k : ℕ). getD u k 0) (z .from-mine) ∙ holds-here h in
-        let says-it : says list (z .end) (getD u (mine list (z .end)) 0) ≡ r .gives = ap (says list (z .end)) mine-has ∙ z .as-said in
+        let gave : Gave (says list (z .end) (getD u (mine list (z .end)) 0)) (r .gives) = rw mine-has (z .as-said) in
+        let bound = rules-fit (records list) (listed-ends L) r m .gives in
+        let small = going-small L (W .going) (other list (z .end)) (other-below list L (z .end) (z .below)) in
         ⊎-elim
-        (λ a. absurd (omega (arith, a, says-it, implications-fit (constraintsOf list) (listed-ends L) r m .gives)))
-        (λ a. sym (ap (λ (k : ℕ). getD u k 0) (z .to-other)) ∙ a ∙ says-it)
+        (λ a. absurd (⊎-elim (λ k. omega (arith, a, k, bound)) (λ k. omega (arith, a, k)) gave))
+        (λ a. ⊎-elim (λ k. sym (ap (λ (v : ℕ). getD u v 0) (z .to-other)) ∙ a ∙ k) (λ k. absurd (omega (arith, a, k, small))) gave)
         (all-stand (z .end) (z .below))
 
     -- what stands at the end is settled
@@ -204,22 +213,22 @@ module _ {list s u : List ℕ} {tail head : ℕ} (L : Listed (length s) list) (W
       where
         inside : {i v : ℕ} → Holds (rules list) s i v → i < length s
         inside (given h small e) = h
-        inside (follows {e = r} m h) = implications-fit (constraintsOf list) (listed-ends L) r m .to
+        inside (follows {e = r} m h) = rules-fit (records list) (listed-ends L) r m .to
 
     pub work-done : Valid s → found true (take (length s) u) ≡ propagate (rules list) s
     unfolding found
-    work-done valid = sym (propagation-done (constraintsOf list) s (listed-ends L) valid (take (length s) u) .1 settled)
+    work-done valid = sym (propagation-done (records list) s (listed-ends L) valid (take (length s) u) .1 settled)
 
 pub work-clash : {list s : List ℕ} → Listed (length s) list → Valid s → BothWays (rules list) s → (t : List ℕ) → found false t ≡ propagate (rules list) s
 unfolding found
-work-clash {list} {s} L valid b t = sym (propagation-clash (constraintsOf list) s (listed-ends L) valid .1 b)
+work-clash {list} {s} L valid b t = sym (propagation-clash (records list) s (listed-ends L) valid .1 b)
 
 -- values that were found are 0, 1 or 2
 pub found-small : {list : List ℕ} (s u : List ℕ) (r : Bool) → Listed (length s) list → Valid s → length s ≤ length u
     → found r (take (length s) u) ≡ propagate (rules list) s → r ≡ true → Small (length s) u
 unfolding found
 found-small {list} s u r L valid long ran t i h =
-    let z = propagation-done (constraintsOf list) s (listed-ends L) valid (take (length s) u) .0 (sym ran ∙ ap (λ (b : Bool). found b (take (length s) u)) t) in
+    let z = propagation-done (records list) s (listed-ends L) valid (take (length s) u) .0 (sym ran ∙ ap (λ (b : Bool). found b (take (length s) u)) t) in
     let l : i < length (take (length s) u) = omega (arith, length-take-le (length s) u long) in
     let same = getD-take (length s) u i 0 h in
     ⊎-elim (λ q. omega (arith, q, same)) (λ q. omega (arith, holds-small L q, same)) (z .only i l)

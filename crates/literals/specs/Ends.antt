@@ -1,42 +1,47 @@
--- The ends of the constraints of a list, by number: ends 2t and 2t + 1 are the first and the second of constraint t. Assumes nothing.
+-- The ends of the records of a list, by number: ends 2t and 2t + 1 are the lower and the higher of record t. Assumes nothing.
 use Prim.Native.Nat.{ℕ, _+_, _*_, _-_, _/_, _%_, _<_, _≤_}
 use mathlib.Core.Path.{_≡_}
 use mathlib.Core.Logic.{_≢_}
-use mathlib.Core.Bool.{Bool, true, false, cond}
-use mathlib.Core.List.{List}
+use mathlib.Core.Bool.{Bool, true, false, cond, _&&_, _||_}
+use mathlib.Core.List.{List, [], _∷_}
 use lib.ListN.{getD}
 use lib.Dec.{eqb}
-use Rattle.meaning.specs.Kinds.{Kind}
-use Rattle.meaning.specs.Literal.{Implication, implications}
-use Rattle.constraints.specs.Codes.{kindAt, forbids}
-use Rattle.constraints.specs.Triple.{constraintsOf}
+use Rattle.meaning.specs.Kinds.{Pair}
+use Rattle.meaning.specs.Literal.{Implication}
+use Rattle.meaning.specs.Records.{pairsIn, rulesOf}
+use Rattle.constraints.specs.Record.{records}
 
--- the implications of a list of constraints
+-- the implications of a list of records
 abbrev pub rules : List ℕ → List Implication
-rules list = implications (constraintsOf list)
+rules list = rulesOf (records list)
 
--- the variable at end x, and that at the other end of its constraint
+-- the variable at end x, and that at the other end of its record
 unfoldable pub mine : List ℕ → ℕ → ℕ
 mine list x = getD list (3 * (x / 2) + x % 2) 0
 
 unfoldable pub other : List ℕ → ℕ → ℕ
 other list x = getD list (3 * (x / 2) + (1 - x % 2)) 0
 
--- the code of its constraint
-unfoldable pub codeAt : List ℕ → ℕ → ℕ
-codeAt list x = getD list (3 * (x / 2) + 2) 0
+-- the set of its record
+unfoldable pub setAt : List ℕ → ℕ → ℕ
+setAt list x = getD list (3 * (x / 2) + 2) 0
 
--- v here and w at the other end are forbidden; `forth` says that here is the first end
-abbrev pub barred : Kind → Bool → ℕ → ℕ → Bool
-barred k true v w = forbids k v w
-barred k false v w = forbids k w v
+-- a and b are one of the pairs
+abbrev pub isAmong : ℕ → ℕ → List Pair → Bool
+isAmong a b [] = false
+isAmong a b (p ∷ ps) = (eqb a (p .first) && eqb b (p .second)) || isAmong a b ps
 
--- the value that v here gives the other end, or 2
-unfoldable pub gives : Kind → Bool → ℕ → ℕ
-gives k forth v = cond (barred k forth v 0) 1 (cond (barred k forth v 1) 0 2)
+-- v here and w at the other end are forbidden; `forth` says that here is the lower end
+abbrev pub barred : ℕ → Bool → ℕ → ℕ → Bool
+barred pairs true v w = isAmong v w (pairsIn pairs)
+barred pairs false v w = isAmong w v (pairsIn pairs)
+
+-- what v here gives the other end: 0, 1, 2 for nothing, or 3 for both, where each value is forbidden
+unfoldable pub gives : ℕ → Bool → ℕ → ℕ
+gives pairs forth v = cond (barred pairs forth v 0) (cond (barred pairs forth v 1) 3 1) (cond (barred pairs forth v 1) 0 2)
 
 unfoldable pub says : List ℕ → ℕ → ℕ → ℕ
-says list x v = gives (kindAt (codeAt list x)) (eqb (x % 2) 0) v
+says list x v = gives (setAt list x) (eqb (x % 2) 0) v
 
 -- ---- chains: each end leads to the last one before it that has the same variable
 

@@ -7,7 +7,7 @@ use mathlib.Core.List.{List}
 use lib.ListN.{length, getD, take}
 use Rattle.meaning.specs.Free.{frees}
 use Rattle.meaning.specs.Literal.{Holds, BothWays, Answer, done, clash}
-use Rattle.constraints.specs.Triple.{room}
+use Rattle.constraints.specs.Record.{room}
 use Rattle.literals.specs.declared.Went.{Went}
 use Rattle.literals.specs.declared.Went.the-variants.{On, Clashed}
 use Rattle.literals.specs.Ends.{rules, mine, other, says, Linked}
@@ -40,7 +40,7 @@ pub record Kept (n : ℕ) (u : List ℕ) (tail : ℕ) (u′ : List ℕ) (tail′
   pub queue : (h : ℕ) → h < tail → getD u′ (n + h) 0 ≡ getD u (n + h) 0
   pub rest : (y : ℕ) → 2 * n ≤ y → getD u′ y 0 ≡ getD u y 0
 
--- what end x says of the other end stands
+-- what end x says of the other end stands: nothing, or the value that it has; both never stand
 abbrev pub Stands : List ℕ → List ℕ → ℕ → Type 0
 Stands list u x = (says list x (getD u (mine list x) 0) ≡ 2) ⊎ (getD u (other list x) 0 ≡ says list x (getD u (mine list x) 0))
 

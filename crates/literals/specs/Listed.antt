@@ -1,23 +1,15 @@
--- What is asked of start values and of a list of constraints. Assumes nothing.
+-- What is asked of start values and of a list of records. Assumes nothing.
 use Prim.Native.Nat.{ℕ, _+_, _*_, _<_, _≤_}
 use mathlib.Core.Path.{_≡_}
-use mathlib.Core.Logic.{_≢_}
 use mathlib.Core.List.{List}
 use lib.ListN.{length, getD}
-use Rattle.constraints.specs.Triple.{Triple, room, tripleAt}
+use Rattle.constraints.specs.Record.{room, recordAt, Fit}
 
--- a constraint between two of n variables
-pub record Fit (n : ℕ) (x : Triple) : Type 0 where
-  pub code : x .code ≤ 5
-  pub apart : x .first ≢ x .second
-  pub first : x .first < n
-  pub second : x .second < n
-
--- a list of whole triples, not too many, each of which fits
+-- a list of whole records, not too many, each of which fits; they need be neither sorted nor merged
 pub record Listed (n : ℕ) (list : List ℕ) : Type 0 where
   pub few : length list ≤ 196608
   pub whole : length list ≡ 3 * room list
-  pub fit : (t : ℕ) → t < room list → Fit n (tripleAt list t)
+  pub fit : (t : ℕ) → t < room list → Fit n (recordAt list t)
 
 pub record Ready (s list : List ℕ) (words : ℕ) : Type 0 where
   pub few : length s ≤ 4096

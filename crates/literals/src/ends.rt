@@ -1,14 +1,12 @@
-// The ends of the constraints: the variable at each, what a value there says of the other end, and the chains of ends that have one variable.
-use constraints::Coded;
-use constraints::Kind;
+// The ends of the records: the variable at each, what a value there says of the other end, and the chains of ends that have one variable.
 ghost use mathlib.Core.Path.{_≡_};
 ghost use Prim.Native.Nat.{_+_, _*_, _<_, _≤_};
 ghost use lib.ListN.{length};
 ghost use Rattle.scratch.specs.Lent.{before, after};
-ghost use Rattle.constraints.specs.Codes.{meant};
-ghost use Rattle.constraints.specs.Triple.{room};
+ghost use Rattle.meaning.specs.Records.{pairsIn};
+ghost use Rattle.constraints.specs.Record.{room};
 ghost use Rattle.literals.specs.Listed.{Listed};
-ghost use Rattle.literals.specs.Ends.{mine as mineOf, other as otherOf, codeAt, barred as barredBy, gives as givenBy, says as saysOf, Unlinked, Linked};
+ghost use Rattle.literals.specs.Ends.{mine as mineOf, other as otherOf, isAmong, barred as barredBy, gives as givenBy, says as saysOf, Unlinked, Linked};
 
 // The variable at end x.
 pub fn mine(list: &[u16], x: usize) -> usize
@@ -30,24 +28,41 @@ pub fn other(list: &[u16], x: usize) -> usize
     scratch::wide_short(list[at])
 }
 
-// Whether v here and w at the other end are forbidden.
-fn barred(kind: Kind, forth: bool, v: u8, w: u8) -> bool
-    ensures { λ r. ⌜ r ≡ barredBy (meant kind) forth v w ⌝ }
+// Whether the set forbids a at the lower end with b at the higher one.
+fn forbids(set: u16, a: u8, b: u8) -> bool
+    requires { ⌜ a < 2 ⌝ }
+    requires { ⌜ b < 2 ⌝ }
+    ensures { λ r. ⌜ r ≡ isAmong a b (pairsIn set) ⌝ }
 {
-    if forth {
-        return kind.forbids(v, w);
-    }
-    kind.forbids(w, v)
+    set >> (2 * a + b) & 1 == 1
 }
 
-// The value that v here gives the other end, or 2.
-fn gives(kind: Kind, forth: bool, v: u8) -> u8
-    ensures { λ r. ⌜ r ≡ givenBy (meant kind) forth v ⌝ }
+// Whether v here and w at the other end are forbidden.
+fn barred(set: u16, forth: bool, v: u8, w: u8) -> bool
+    requires { ⌜ v < 2 ⌝ }
+    requires { ⌜ w < 2 ⌝ }
+    ensures { λ r. ⌜ r ≡ barredBy set forth v w ⌝ }
 {
-    if barred(kind, forth, v, 0) {
+    if forth {
+        return forbids(set, v, w);
+    }
+    forbids(set, w, v)
+}
+
+// What v here gives the other end: 0, 1, 2 for nothing, or 3 for both.
+fn gives(set: u16, forth: bool, v: u8) -> u8
+    requires { ⌜ v < 2 ⌝ }
+    ensures { λ r. ⌜ r ≡ givenBy set forth v ⌝ }
+{
+    let one = barred(set, forth, v, 0);
+    let zero = barred(set, forth, v, 1);
+    if one {
+        if zero {
+            return 3;
+        }
         return 1;
     }
-    if barred(kind, forth, v, 1) {
+    if zero {
         return 0;
     }
     2
@@ -57,15 +72,11 @@ fn gives(kind: Kind, forth: bool, v: u8) -> u8
 pub fn says(list: &[u16], x: usize, v: u8) -> u8
     requires { ⌜ length (now list) ≡ 3 * room (now list) ⌝ }
     requires { ⌜ x < 2 * room (now list) ⌝ }
-    requires { ⌜ codeAt (now list) x ≤ 5 ⌝ }
+    requires { ⌜ v < 2 ⌝ }
     ensures { λ r. ⌜ r ≡ saysOf (before list) x v ⌝ }
 {
     let at = 3 * (x / 2) + 2;
-    let coded = Kind::of_code(list[at]);
-    let Coded::Known(kind) = coded else {
-        return 2;
-    };
-    gives(kind, x % 2 == 0, v)
+    gives(list[at], x % 2 == 0, v)
 }
 
 // Puts every end in front of the chain of its variable; where each chain begins is 0 before.

@@ -8,7 +8,7 @@ ghost use mathlib.Core.Path.{_≡_};
 ghost use Prim.Native.Nat.{_+_, _*_, _<_, _≤_};
 ghost use lib.ListN.{length, getD, set};
 ghost use Rattle.scratch.specs.Lent.{before, after};
-ghost use Rattle.constraints.specs.Triple.{room};
+ghost use Rattle.constraints.specs.Record.{room};
 ghost use Rattle.literals.specs.Listed.{Listed};
 ghost use Rattle.literals.specs.Ends.{mine as mineOf};
 ghost use Rattle.literals.specs.Going.{Valued, Going, Outcome};
@@ -36,7 +36,7 @@ pub fn force(u: &mut [u32], n: usize, tail: usize, i: usize, v: u8) -> usize
     tail + 1
 }
 
-// What end x says of the other end: nothing, what it has, the opposite, or a value for a free variable.
+// What end x says of the other end: nothing, both values, what it has, the opposite, or a value for a free variable.
 fn serve_end(start: &[u8], list: &[u16], u: &mut [u32], tail: usize, x: usize) -> Went
     requires { ⌜ Listed (length (now start)) (now list) ⌝ }
     requires { ⌜ length (now start) ≤ 4096 ⌝ }
@@ -49,6 +49,9 @@ fn serve_end(start: &[u8], list: &[u16], u: &mut [u32], tail: usize, x: usize) -
     let w = says(list, x, value(u, mine(list, x)));
     if w == 2 {
         return Went::On(tail);
+    }
+    if w == 3 {
+        return Went::Clashed;
     }
     let j = other(list, x);
     let have = value(u, j);

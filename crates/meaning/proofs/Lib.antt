@@ -8,6 +8,11 @@ pub mod Views
 pub mod Sound
 pub mod Exists
 pub mod Forbidden
+pub mod Sets
+pub mod Bans
+pub mod Pairs
+pub mod Rising
+pub mod Records
 pub mod Probe
 pub mod Literal
 pub mod Implications

@@ -168,7 +168,7 @@ stands-is (e ∷ E) s = go (eqb (getD s (e .from) 0) (e .when)) (eqb (getD s (e 
 
 -- PROPAGATION: a clash exactly if a variable is held both ways, and else the settled values
 module _ (E : List Implication) (s : List ℕ) (fits : Fits (length s) E) (valid : Valid s) where
-  propagate-is : ((propagate E s ≡ clash) × BothWays E s) ⊎ ((t : List ℕ) × (propagate E s ≡ done t) × Settled E s t)
+  pub propagate-is : ((propagate E s ≡ clash) × BothWays E s) ⊎ ((t : List ℕ) × (propagate E s ≡ done t) × Settled E s t)
   unfolding propagate
   propagate-is = go (stands-is E t)
     where

@@ -1,18 +1,21 @@
 -- The theorems about document 01's definitions, each in one statement. Assumes nothing.
-use mathlib.Core.Path.{_≡_}
+use mathlib.Core.Path.{_≡_, subst}
 use mathlib.Core.Logic.{_≢_, _↔_}
 use mathlib.Core.Bool.{Bool, true, not}
-use mathlib.Core.List.{List, List·Memᴰ}
+use mathlib.Core.List.{List, map, List·Memᴰ}
 use Prim.Native.Nat.{ℕ, _<_}
+use lib.Count.{ones}
 use lib.ListN.{length, getD, set}
 use Rattle.whole.specs.Whole.{Whole, nothing, _⊖_, _≈_}
 use Rattle.meaning.specs.Steps.{Valid, Extends, Agrees, Closure}
 use Rattle.meaning.specs.Passes.{closure}
 use Rattle.meaning.specs.Field.{Field, Standard, Within, Completion, Best}
 use Rattle.meaning.specs.Gradient.{View, view, Lags, Forced, Forces, verdict}
-use Rattle.meaning.specs.Kinds.{Kind, Forbids, Constraint, Meets, Ends}
+use Rattle.meaning.specs.Kinds.{Kind, Forbids, Constraint, Meets, Apart}
 use Rattle.meaning.specs.Probe.{Probed, Found}
 use Rattle.meaning.specs.Literal.{implications, Holds, BothWays, Settled, done, clash, propagate}
+use Rattle.meaning.specs.Records.{Record, recordOn, pairsIn, AllProper, Ends, MeetsRecord, rulesOf, recordOf, Excludes, SameBans}
+use Rattle.meaning.specs.Rising.{Rising, mergedList}
 use Rattle.meaning.specs.Part.{mix, Separate, LeastOn, Safe, NoEffect}
 use Rattle.meaning.specs.Symmetry.{Symmetric}
 use Rattle.meaning.specs.Pair.{margin, greatest, Tolerance, Always, dominated}
@@ -23,7 +26,11 @@ use Rattle.meaning.proofs.Sound.{best-has-closure}
 use Rattle.meaning.proofs.Exists.{best-exists}
 use Rattle.meaning.proofs.Probe.{probe-value, probe-constraint}
 use Rattle.meaning.proofs.Literal.{propagate-clash, propagate-done}
-use Rattle.meaning.proofs.Implications.{implications-fit, holds-in}
+use Rattle.meaning.proofs.Sets.{ones-count}
+use Rattle.meaning.proofs.Bans.{same-refl}
+use Rattle.meaning.proofs.Rising.{merged-bans, merged-rising, rising-same}
+use Rattle.meaning.proofs.Records.{record-meets, one-meaning, one-pair-meaning, rules-covered, records-imply, implied-by-records}
+use Rattle.meaning.proofs.Implications.{rules-fit, holds-in, holds-among, propagate-same}
 use Rattle.meaning.proofs.Part.{part-safe}
 use Rattle.meaning.proofs.Safe.{safe-trans, every-safe, no-effect-safe}
 use Rattle.meaning.proofs.Symmetry.{either-safe}
@@ -90,19 +97,60 @@ pair-constraint-stays F p a b i j P tol h = tol .rises (margin-rises a b F p i j
 pub pair-greatest : (F : Field) (s : List ℕ) (a b : Bool) (i j : ℕ) → greatest a b F s i j ≈ nothing ⊖ margin (not a) (not b) F s i j
 pair-greatest F s a b i j = greatest-is a b F s i j
 
+-- ---- records
+
+-- Values meet a constraint exactly if they meet its record.
+pub record-says : (x : List ℕ) (c : Constraint) → c .first ≢ c .second → Meets x c ↔ MeetsRecord x (recordOf c)
+record-says = record-meets
+
+-- Two constraints forbid the same pairs of values of the same variables exactly if they have one record.
+pub equal-records : (c d : Constraint) → c .first ≢ c .second → d .first ≢ d .second → ((i a j b : ℕ) → Excludes c i a j b ↔ Excludes d i a j b) ↔ (recordOf c ≡ recordOf d)
+equal-records = one-meaning
+
+-- On one pair of variables, two sets that the same values meet are one.
+pub equal-sets : (i j S T : ℕ) → i ≢ j → S < 16 → T < 16 → ((x : List ℕ) → MeetsRecord x (recordOn i j S) ↔ MeetsRecord x (recordOn i j T)) → S ≡ T
+equal-sets = one-pair-meaning
+
+-- Two rising lists of proper records forbid the same exactly if they are one list.
+pub equal-lists : (l m : List Record) → AllProper l → AllProper m → Rising l → Rising m → SameBans l m ↔ (l ≡ m)
+equal-lists l m a b r s = (rising-same l m a b r s, λ e. subst (SameBans l) e (same-refl l))
+
+-- A merged list rises, and forbids what the list does.
+pub merged-rises : (l : List Record) → Rising (mergedList l)
+merged-rises = merged-rising
+
+pub merged-says : (l : List Record) → SameBans (mergedList l) l
+merged-says = merged-bans
+
+-- "The number of forbidden pairs is the count of ones."
+pub pairs-counted : (S : ℕ) → S < 16 → ones S ≡ length (pairsIn S)
+pairs-counted = ones-count
+
 -- ---- propagation
 
 -- Propagation answers a clash exactly if literal closure holds some variable both ways.
-pub propagation-clash : (cs : List Constraint) (s : List ℕ) → Ends (length s) cs → Valid s → (propagate (implications cs) s ≡ clash) ↔ BothWays (implications cs) s
-propagation-clash cs s ends valid = propagate-clash (implications cs) s (implications-fit cs ends) valid
+pub propagation-clash : (l : List Record) (s : List ℕ) → Ends (length s) l → Valid s → (propagate (rulesOf l) s ≡ clash) ↔ BothWays (rulesOf l) s
+propagation-clash l s ends valid = propagate-clash (rulesOf l) s (rules-fit l ends) valid
 
 -- It answers t otherwise, exactly if t has just the literals that hold.
-pub propagation-done : (cs : List Constraint) (s : List ℕ) → Ends (length s) cs → Valid s → (t : List ℕ) → (propagate (implications cs) s ≡ done t) ↔ Settled (implications cs) s t
-propagation-done cs s ends valid t = propagate-done (implications cs) s (implications-fit cs ends) valid t
+pub propagation-done : (l : List Record) (s : List ℕ) → Ends (length s) l → Valid s → (t : List ℕ) → (propagate (rulesOf l) s ≡ done t) ↔ Settled (rulesOf l) s t
+propagation-done l s ends valid t = propagate-done (rulesOf l) s (rules-fit l ends) valid t
 
--- A completion that meets every constraint has every literal that holds.
-pub literals-hold : (cs : List Constraint) {s x : List ℕ} → Completion s x → ((c : Constraint) → List·Memᴰ c cs → Meets x c) → {i v : ℕ} → Holds (implications cs) s i v → getD x i 0 ≡ v
-literals-hold cs full meets h = holds-in full cs meets h
+-- A completion that meets every record has every literal that holds.
+pub literals-hold : (l : List Record) {s x : List ℕ} → Completion s x → ((r : Record) → List·Memᴰ r l → MeetsRecord x r) → {i v : ℕ} → Holds (rulesOf l) s i v → getD x i 0 ≡ v
+literals-hold l full meets h = holds-in full l meets h
+
+-- Lists of equal meaning hold the same literals, in whatever order, merged or not,
+pub same-literals : {l m : List Record} → SameBans l m → {s : List ℕ} {i v : ℕ} → Holds (rulesOf l) s i v ↔ Holds (rulesOf m) s i v
+same-literals h = (holds-among (rules-covered (h .to)), holds-among (rules-covered (h .from)))
+
+-- and give the same answer.
+pub same-answer : (l m : List Record) (s : List ℕ) → Ends (length s) m → Valid s → SameBans l m → propagate (rulesOf l) s ≡ propagate (rulesOf m) s
+same-answer l m s ends valid h = propagate-same (rulesOf l) (rulesOf m) s (rules-fit m ends) valid (rules-covered (h .to)) (rules-covered (h .from))
+
+-- The records of constraints hold exactly the literals that the constraints hold.
+pub constraint-literals : (cs : List Constraint) → Apart cs → {s : List ℕ} {i v : ℕ} → Holds (implications cs) s i v ↔ Holds (rulesOf (map recordOf cs)) s i v
+constraint-literals cs apart = (holds-among (records-imply cs apart), holds-among (implied-by-records cs apart))
 
 -- ---- values that stand in some best completion
 

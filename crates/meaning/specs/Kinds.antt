@@ -1,6 +1,7 @@
 -- The six kinds of constraint, and the pairs of values that each forbids. Assumes nothing.
 use mathlib.Core.List.{List, [], _∷_, List·Memᴰ}
-use Prim.Native.Nat.{ℕ, _<_}
+use mathlib.Core.Logic.{_≢_}
+use Prim.Native.Nat.{ℕ}
 use lib.ListN.{getD}
 
 pub data Kind : Type 0 where
@@ -30,16 +31,19 @@ forbidden equal = pair 0 1 ∷ pair 1 0 ∷ []
 abbrev pub Forbids : Kind → ℕ → ℕ → Type 0
 Forbids k a b = List·Memᴰ (pair a b) (forbidden k)
 
--- "A constraint is three u16: first, second, kind"
+-- what the rules find: two ends, and a kind
 pub record Constraint : Type 0 where
   pub first : ℕ
   pub second : ℕ
   pub kind : Kind
 
+abbrev pub joining : Kind → ℕ → ℕ → Constraint
+joining k a b = record { first = a; second = b; kind = k }
+
 -- x has no pair of values that c forbids
 abbrev pub Meets : List ℕ → Constraint → Type 0
 Meets x c = Forbids (c .kind) (getD x (c .first) 0) (getD x (c .second) 0) → ⊥
 
--- the ends of each constraint are variables
-abbrev pub Ends : ℕ → List Constraint → Type 0
-Ends n cs = (c : Constraint) → List·Memᴰ c cs → (c .first < n) × (c .second < n)
+-- the two ends of each constraint differ
+abbrev pub Apart : List Constraint → Type 0
+Apart cs = (c : Constraint) → List·Memᴰ c cs → c .first ≢ c .second

@@ -6,6 +6,8 @@ pub mod Gradient
 pub mod Kinds
 pub mod Probe
 pub mod Literal
+pub mod Records
+pub mod Rising
 pub mod Part
 pub mod Symmetry
 pub mod Pair

@@ -103,12 +103,12 @@ module _ (F : Field) (s : List ℕ) (least : ℕ) (list : List ℕ) (f : List Fl
   pub anchors-few : {a : Counted} {l′ : List ℕ} {f′ : List Float} {u′ : List ℕ} → anchoring.left a l′ f′ u′ ≡ anchoring.anchorsCall F s least list f u → countOf a < 0x1000_0000
   anchors-few e = omega (arith, anchors-fit, ap (λ (x : anchoring.Left). countOf (x .answer)) e)
 
--- ---- pairs: at most 250,000, and two constraints of each
+-- ---- pairs: at most 250,000, and one record of each
 
 examined-few : (limit : ℕ) (s : List ℕ) → length (examined limit s) ≤ 250000
 examined-few limit s = omega (arith, length-take (allowed limit) (freePairs s))
 
-found-few : (F : Field) (s : List ℕ) (limit : ℕ) → length (found F s limit) ≤ 500000
+found-few : (F : Field) (s : List ℕ) (limit : ℕ) → length (found F s limit) ≤ 250000
 unfolding found
 found-few F s limit = omega (arith, few-found F s (examined limit s), examined-few limit s)
 

@@ -1,4 +1,4 @@
--- What probes count has room in its number: at most n constraints of each of at most n candidates. Assumes nothing.
+-- What probes count has room in its number: at most n records of each of at most n candidates. Assumes nothing.
 use Prim.Native.Nat.{ℕ, zero, suc, _+_, _*_, _≤_, _<_}
 use mathlib.Core.Path.{_≡_, ap}
 use mathlib.Core.List.{List}
@@ -8,7 +8,7 @@ use lib.ListN.{length, getD, take, length-take}
 use lib.Ieee.{Float}
 use Rattle.meaning.specs.Free.{freeTo}
 use Rattle.meaning.proofs.Free.{free-few}
-use Rattle.constraints.specs.Triple.{Triple}
+use Rattle.meaning.specs.Records.{Record}
 use Rattle.field.specs.declared.Counted.{Counted}
 use Rattle.field.specs.declared.Counted.the-variants.{Refuses}
 use Rattle.field.specs.Field.{Field, variables}
@@ -17,31 +17,31 @@ use Rattle.field.proofs.Means.{ready-passes}
 use Rattle.field.proofs.Faults.{ready-near}
 use Rattle.calls.proofs.Usual.{answer-has}
 use Rattle.probe.specs.Found.{Finding, nothing, value, constraint}
-use Rattle.sorting.proofs.Numbers.{set-length}
+use Rattle.sorting.proofs.Numbers.{merged-length}
 use Rattle.ranking.specs.Ranking.{ranks, ahead, massOf}
 use Rattle.ranking.proofs.Ordered.{ordered-length}
-use Rattle.finding.specs.Finds.{added, finding, constraintsTo, constraintsOf}
-use Rattle.probes.specs.Call.{allConstraints, Left, left, candidatesCall, probeCall, probeLimitedCall}
+use Rattle.finding.specs.Finds.{added, finding, recordsTo, recordsOf}
+use Rattle.probes.specs.Call.{allRecords, Left, left, candidatesCall, probeCall, probeLimitedCall}
 use Rattle.packing.specs.Layout.{countOf}
 
--- ---- the constraints of some candidates
+-- ---- the records of some candidates
 
-added-few : (x : Finding) (l : List Triple) → length (added x l) ≤ suc (length l)
+added-few : (x : Finding) (l : List Record) → length (added x l) ≤ suc (length l)
 unfolding added
 added-few nothing l = omega arith
 added-few (value w) l = omega arith
 added-few (constraint c) l = omega arith
 
-of-one : (g : ℕ → Finding) (l : List Triple) (k : ℕ) → length (constraintsTo g l k) ≤ length l + k
-unfolding constraintsTo
+of-one : (g : ℕ → Finding) (l : List Record) (k : ℕ) → length (recordsTo g l k) ≤ length l + k
+unfolding recordsTo
 of-one g l zero = omega arith
-of-one g l (suc k) = omega (arith, of-one g l k, added-few (g k) (constraintsTo g l k))
+of-one g l (suc k) = omega (arith, of-one g l k, added-few (g k) (recordsTo g l k))
 
-of-all : (F : Field) (s cands : List ℕ) (k : ℕ) → length (constraintsOf F s cands k) ≤ k * variables F
-unfolding constraintsOf
+of-all : (F : Field) (s cands : List ℕ) (k : ℕ) → length (recordsOf F s cands k) ≤ k * variables F
+unfolding recordsOf
 of-all F s cands zero = omega arith
 of-all F s cands (suc k) =
-    omega (arith, of-all F s cands k, of-one (finding F s (getD cands k 0)) (constraintsOf F s cands k) (variables F), suc-mul k (variables F))
+    omega (arith, of-all F s cands k, of-one (finding F s (getD cands k 0)) (recordsOf F s cands k) (variables F), suc-mul k (variables F))
 
 few-by-few : (k n : ℕ) → k ≤ n → n ≤ 4096 → k * n ≤ 16777216
 few-by-few k n a b =
@@ -58,11 +58,11 @@ ranks-few F s limit =
 
 module _ (F : Field) (s cands t k : List ℕ) (f : List Float) (u : List ℕ) (few : length cands ≤ variables F) where
   candidates-fit : countOf (candidatesCall F s cands t k f u .answer) < 0x1000_0000
-  unfolding candidatesCall allConstraints
+  unfolding candidatesCall allRecords
   candidates-fit =
       answer-has Refuses _ (readyTests F s (length f) (length u)) _ _ (λ a. countOf a < 0x1000_0000) (λ r e. omega (arith, ready-near F s (length f) (length u) r e)) (omega arith, tt) (λ e.
       let small = ready-passes F s (length f) (length u) .0 e .sound .shaped .few-variables in
-      omega (arith, set-length (constraintsOf F s cands (length cands)), of-all F s cands (length cands), few-by-few (length cands) (variables F) few small))
+      omega (arith, merged-length (recordsOf F s cands (length cands)), of-all F s cands (length cands), few-by-few (length cands) (variables F) few small))
 
 module _ (F : Field) (s t k : List ℕ) (f : List Float) (u : List ℕ) where
   pub probe-fits : countOf (probeCall F s t k f u .answer) < 0x1000_0000

@@ -20,7 +20,7 @@ use Rattle.places.specs.Places.{Built}
 use Rattle.places.proofs.Slices.{front-getD}
 use Rattle.rows.specs.Stored.{Fillable}
 use Rattle.margins.specs.Merge.{Listed}
-use Rattle.constraints.specs.Triple.{room}
+use Rattle.constraints.specs.Record.{room}
 use Rattle.pairs.specs.declared.Paired.the-variants.{Done, Refused}
 use Rattle.pairs.specs.declared.listing.Tally.{Tally}
 use Rattle.neighbours.specs.Parts.{Parted}

@@ -1,16 +1,20 @@
 -- The pairs that are examined: how many, which, and that with more values fixed a pair comes no later. Assumes nothing.
-use mathlib.Core.Path.{_≡_, refl, sym, ap, _∙_}
+use mathlib.Core.Path.{_≡_, refl, sym, ap, _∙_, subst}
 use mathlib.Core.Logic.{⊎-elim}
 use mathlib.Core.Bool.{Bool, true, false, cond, _&&_, true≢false}
-use mathlib.Core.List.{List, [], _∷_, _++_, List·Memᴰ, List·Memᴰ·head, List·Memᴰ·tail, List·Memᴰ·not-nil, List·Memᴰ·cases-cons, List·Memᴰ·append-cases}
+use mathlib.Core.List.{List, [], _∷_, _++_, map, map-append, Memᴰ·of-map, List·Memᴰ, List·Memᴰ·head, List·Memᴰ·tail, List·Memᴰ·not-nil, List·Memᴰ·cases-cons, List·Memᴰ·append-cases}
 use Prim.Native.Nat.{ℕ, zero, suc, _+_, _*_, _-_, _/_, min, _≤_, _<_}
 use native.Mathlib.Nat.{mul-div-cancel, mul-suc, suc-mul, zero-mul}
 use native.Mathlib.Omega.{arith}
-use lib.ListN.{length, getD, take, length-append, length-take}
+use lib.ListN.{length, getD, take, drop, length-append, length-take, take-append-drop}
 use lib.Seq.{take-take}
 use borrow.Author.Tests.{eqb-true, eq-eqb}
 use Rattle.meaning.specs.Kinds.{Pair, pair}
+use Rattle.meaning.specs.Records.{Record, recordOn}
+use Rattle.meaning.specs.Rising.{Before, by-lower, by-higher, Rising}
+use Rattle.meaning.proofs.Rising.{rising-front}
 use Rattle.meaning.specs.Steps.{Extends}
+use Rattle.constraints.proofs.Records.{at-in, in-at}
 use Rattle.meaning.proofs.Values.{free-back}
 use Rattle.meaning.specs.Free.{isFree, freeTo}
 use Rattle.meaning.proofs.Free.{free-at, free-rises}
@@ -99,6 +103,65 @@ pub examined-free : (limit : ℕ) (s : List ℕ) {i j : ℕ} → List·Memᴰ (p
 examined-free limit s m =
     let P = pair-in (freeOf s) (taken (allowed limit) (freePairs s) m) in
     free-pair s (P .first) (P .second) (P .order) (P .within) (ap (λ (p : Pair). p .first) (P .is-pair)) (ap (λ (p : Pair). p .second) (P .is-pair))
+
+-- ---- in rising order
+
+-- a pair of variables as a record that forbids nothing
+abbrev pub onPair : Pair → Record
+onPair p = recordOn (p .first) (p .second) 0
+
+pub rising-append : (l m : List Record) → Rising l → Rising m → ((x y : Record) → List·Memᴰ x l → List·Memᴰ y m → Before x y) → Rising (l ++ m)
+rising-append [] m r s h = s
+rising-append (x ∷ l) m r s h = (
+  λ y k. ⊎-elim (r .0 y) (h x y (List·Memᴰ·head refl)) (List·Memᴰ·append-cases l k),
+  rising-append l m (r .1) s (λ y z k. h y z (List·Memᴰ·tail k)),
+)
+
+-- each number is below all that come after it
+Ascends : List ℕ → Type 0
+Ascends [] = Unit {0}
+Ascends (x ∷ l) = ((y : ℕ) → List·Memᴰ y l → x < y) × Ascends l
+
+ascends-from : (l : List ℕ) → ((a b : ℕ) → a < b → b < length l → getD l a 0 < getD l b 0) → Ascends l
+unfolding Ascends
+ascends-from [] h = tt
+ascends-from (x ∷ l) h = (
+  λ y m. let p = in-at 0 l m in rw (p .1 .1) (h 0 (suc (p .0)) (omega arith) (omega (arith, p .1 .0))),
+  ascends-from l (λ a b k g. h (suc a) (suc b) (omega arith) (omega arith)),
+)
+
+each-rises : (i : ℕ) (js : List ℕ) → Ascends js → Rising (map onPair (withEach i js))
+unfolding withEach Ascends
+each-rises i [] r = tt
+each-rises i (j ∷ js) r = (
+  λ y m.
+      let z = Memᴰ·of-map onPair (withEach i js) m in
+      let e = each-in i js (z .1) in
+      subst (Before (onPair (pair i j))) (ap onPair (sym (e .1 .1)) ∙ z .2) (by-higher refl (r .0 (getD js (e .0) 0) (at-in 0 js (e .0) (e .1 .0)))),
+  each-rises i js (r .1),
+)
+
+pairs-rise : (is : List ℕ) → Ascends is → Rising (map onPair (pairsOf is))
+unfolding pairsOf Ascends
+pairs-rise [] r = tt
+pairs-rise (i ∷ is) r =
+    rw (map-append onPair (withEach i is) (pairsOf is))
+    (rising-append (map onPair (withEach i is)) (map onPair (pairsOf is)) (each-rises i is (r .1)) (pairs-rise is (r .1)) (λ x y m n.
+    let z = Memᴰ·of-map onPair (withEach i is) m in
+    let e = each-in i is (z .1) in
+    let w = Memᴰ·of-map onPair (pairsOf is) n in
+    let P = pair-in is (w .1) in
+    let low : i ≡ x .lower = ap (λ (p : Pair). p .first) (sym (e .1 .1)) ∙ ap (λ (q : Record). q .lower) (z .2) in
+    let high : getD is (P .first) 0 ≡ y .lower = ap (λ (p : Pair). p .first) (sym (P .is-pair)) ∙ ap (λ (q : Record). q .lower) (w .2) in
+    by-lower (omega (arith, low, high, r .0 (getD is (P .first) 0) (at-in 0 is (P .first) (omega (arith, P .order, P .within)))))))
+
+-- the examined pairs rise
+pub examined-rise : (limit : ℕ) (s : List ℕ) → Rising (map onPair (examined limit s))
+examined-rise limit s =
+    let all : Rising (map onPair (freePairs s)) = pairs-rise (freeOf s) (ascends-from (freeOf s) (free-rises s (length s))) in
+    let split : map onPair (examined limit s) ++ map onPair (drop (allowed limit) (freePairs s)) ≡ map onPair (freePairs s) =
+    sym (map-append onPair (examined limit s) (drop (allowed limit) (freePairs s))) ∙ ap (map onPair) (take-append-drop (allowed limit) (freePairs s)) in
+    rising-front (map onPair (examined limit s)) (map onPair (drop (allowed limit) (freePairs s))) (rw split all)
 
 -- ---- with more values fixed
 

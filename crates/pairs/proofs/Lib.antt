@@ -4,4 +4,5 @@ pub mod PairLaws
 pub mod WalkLaws
 pub mod CallLaws
 pub mod Examined
+pub mod Found
 pub mod Demands

@@ -14,7 +14,7 @@ use Rattle.meaning.specs.Kinds.{Pair, pair}
 use Rattle.meaning.proofs.Free.{free-few}
 use Rattle.field.specs.Field.{Field}
 use Rattle.pairs.specs.declared.listing.Cursor.{Cursor}
-use Rattle.pairs.specs.Listing.{freeOf, withEach, pairsOf, freePairs, allowed, examined, pairTriples, foundIn, found, Appended, written}
+use Rattle.pairs.specs.Listing.{freeOf, withEach, pairsOf, freePairs, allowed, examined, pairRecords, foundIn, found, Appended, written}
 use Rattle.pairs.specs.Walk.{nextOf, isLeft, pairsFrom, Walking, Walked}
 use Rattle.pairs.proofs.ListLaws.{append-written, written-none, few-found, found-more}
 
@@ -74,7 +74,7 @@ module _ {F : Field} {s : List ℕ} {most : ℕ} {l₀ l : List ℕ} {pairs item
   is = freeOf s
 
   -- no more than two constraints a pair
-  pub walking-few : items ≤ 2 * pairs
+  pub walking-few : items ≤ pairs
   walking-few = omega (arith, W .many, few-found F s (take pairs (freePairs s)), length-take pairs (freePairs s))
 
   module _ {k : ℕ} (ek : k ≡ length (freeOf s)) (l-is : isLeft pairs most k x ≡ true) where
@@ -106,7 +106,7 @@ module _ {F : Field} {s : List ℕ} {most : ℕ} {l₀ l : List ℕ} {pairs item
         let e : getD (freePairs s) pairs (pair 0 0) ∷ drop (suc pairs) (freePairs s) ≡ pair (getD is (x .first) 0) (getD is (x .second) 0) ∷ pairsFrom is (nextOf (length is) x) = sym (drop-cons (freePairs s) pairs (pair 0 0) some-left) ∙ next-cons in
         let z : drop (suc pairs) (freePairs s) ≡ pairsFrom is (nextOf (length is) x) = cc in z
 
-    found-next : foundIn F s (take (suc pairs) (freePairs s)) ≡ foundIn F s (take pairs (freePairs s)) ++ pairTriples F s (pair (getD is (x .first) 0) (getD is (x .second) 0))
+    found-next : foundIn F s (take (suc pairs) (freePairs s)) ≡ foundIn F s (take pairs (freePairs s)) ++ pairRecords F s (pair (getD is (x .first) 0) (getD is (x .second) 0))
     found-next = rw (take-suc (freePairs s) pairs (pair 0 0) some-left, this-pair) (found-more F s (take pairs (freePairs s)) (pair (getD is (x .first) 0) (getD is (x .second) 0)))
 
     abbrev step : Bool → Cursor
@@ -131,15 +131,15 @@ module _ {F : Field} {s : List ℕ} {most : ℕ} {l₀ l : List ℕ} {pairs item
         go false e = inr (omega arith)
 
     pub walking-turn : {i j r : ℕ} {l′ : List ℕ} {y : Cursor} → i ≡ getD is (x .first) 0 → j ≡ getD is (x .second) 0
-        → Appended (pairTriples F s (pair i j)) l items l′ r → y ≡ nextOf k x → Walking F s most l₀ l′ (pairs + 1) r y
+        → Appended (pairRecords F s (pair i j)) l items l′ r → y ≡ nextOf k x → Walking F s most l₀ l′ (pairs + 1) r y
     walking-turn {i} {j} {r} {l′} {y} ei ej A ey = rw (add-one pairs, ey, ek) record {
       within = left-pairs;
       some = some-left;
       order = next-order;
       close = next-close;
       rest = later;
-      many = rw found-next (omega (arith, A .next, W .many, length-append (foundIn F s (take pairs (freePairs s))) (pairTriples F s (pair (getD is (x .first) 0) (getD is (x .second) 0))), ap (λ (p : Pair). length (pairTriples F s p)) same));
-      list = rw found-next (A .list ∙ rw (W .list, W .many, same) (append-written (pairTriples F s (pair (getD is (x .first) 0) (getD is (x .second) 0))) (foundIn F s (take pairs (freePairs s))) l₀));
+      many = rw found-next (omega (arith, A .next, W .many, length-append (foundIn F s (take pairs (freePairs s))) (pairRecords F s (pair (getD is (x .first) 0) (getD is (x .second) 0))), ap (λ (p : Pair). length (pairRecords F s p)) same));
+      list = rw found-next (A .list ∙ rw (W .list, W .many, same) (append-written (pairRecords F s (pair (getD is (x .first) 0) (getD is (x .second) 0))) (foundIn F s (take pairs (freePairs s))) l₀));
     }
       where
         same : pair i j ≡ pair (getD is (x .first) 0) (getD is (x .second) 0)

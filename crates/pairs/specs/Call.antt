@@ -2,12 +2,15 @@
 use Prim.Native.Nat.{ℕ, _≤_}
 use mathlib.Core.Path.{_≡_}
 use mathlib.Core.Bool.{Bool}
-use mathlib.Core.List.{List, [], _∷_, _++_}
+use mathlib.Core.List.{List, [], _∷_, _++_, List·Memᴰ}
 use lib.Dec.{leb}
 use lib.ListN.{length, take}
 use lib.Ieee.{Float}
 use Rattle.weights.specs.Worth.{zero64}
 use Rattle.scratch.specs.Cleared.{cleared}
+use Rattle.meaning.specs.Kinds.{Pair, pair}
+use Rattle.meaning.specs.Records.{Record}
+use Rattle.meaning.specs.Pair.{bit}
 use Rattle.field.specs.declared.Grade.{Grade}
 use Rattle.field.specs.declared.Refusal.the-variants.{Room}
 use Rattle.field.specs.Answers.{numberOf}
@@ -17,7 +20,8 @@ use Rattle.field.specs.Tests.{readyTests, Ready}
 use Rattle.field.specs.Grade.{gradeOf}
 use Rattle.calls.specs.Call as any
 use Rattle.calls.specs.Call.{called, stage, usual}
-use Rattle.constraints.specs.Triple.{Triple, room, triples, filled}
+use Rattle.margins.specs.Dominance.{Dominates}
+use Rattle.constraints.specs.Record.{room, records, filled}
 use Rattle.pairs.specs.declared.Paired.{Paired}
 use Rattle.pairs.specs.declared.Paired.the-variants.{Done, Refused}
 use Rattle.pairs.specs.Listing.{freeOf, examined, pairCount, found}
@@ -27,7 +31,7 @@ abbrev pub pairedNumber : Paired → ℕ
 pairedNumber (Done g items pairs) = 0
 pairedNumber (Refused r) = numberOf r
 
--- whether the list has room for every constraint: "9 is given exactly if a full answer has more items than its list has room for"
+-- whether the list has room for every record: "9 is given exactly if a full answer has more items than its list has room for"
 abbrev pub fits : Field → List ℕ → ℕ → List ℕ → Bool
 fits F s limit l = leb (length (found F s limit)) (room l)
 
@@ -59,14 +63,22 @@ pairsCall F s limit l f u =
     (usual Refused (lent l f u) (readyTests F s (length f) (length u)) (stage Room (fits F s limit l) (lent (cleared 0 l) (cleared zero64 f) (cleared 0 u)) ∷ [])
     (left (Done (gradeOf F) (length (found F s limit)) (length (examined limit s))) (filled (found F s limit) l) (cleared zero64 f) (cleared 0 u)))
 
--- the first `items` constraints of the list that a call leaves
-abbrev pub listed : ℕ → Left → List Triple
-listed items x = take items (triples (x .lent .list))
+-- the first `items` records of the list that a call leaves
+abbrev pub listed : ℕ → Left → List Record
+listed items x = take items (records (x .lent .list))
 
--- when the call is done, and with what: every test passes and the list has room, and the answer is the grade, the number of constraints and the number of pairs examined
+-- when the call is done, and with what: every test passes and the list has room, and the answer is the grade, the number of records and the number of pairs examined
 pub record DoneSays (F : Field) (s : List ℕ) (limit : ℕ) (l : List ℕ) (f : List Float) (u : List ℕ) (g : Grade) (items pairs : ℕ) : Type 0 where
   pub ready : Ready F s (length f) (length u)
   pub enough : length (found F s limit) ≤ room l
   pub graded : g ≡ gradeOf F
   pub counted : items ≡ length (found F s limit)
   pub pairs-counted : pairs ≡ pairCount limit (length (freeOf s))
+
+-- the rule: (i, j) is examined, and p is a pattern at which f less f at the opposite is above the tolerance for all values of the other free variables
+pub record Ruled (u : ℕ) (F : Field) (s : List ℕ) (limit i j : ℕ) (p : Pair) : Type 0 where
+  pub is-examined : List·Memᴰ (pair i j) (examined limit s)
+  pub first : Bool
+  pub second : Bool
+  pub is : p ≡ pair (bit first) (bit second)
+  pub dominates : Dominates u F s i j first second

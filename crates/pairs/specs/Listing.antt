@@ -1,15 +1,18 @@
--- The pairs that are examined, and the constraints that they give (document 01, "Pair dominance"). Assumes nothing.
+-- The pairs that are examined, and the records that they give (document 01, "Pair dominance"). Assumes nothing.
 use Prim.Native.Nat.{ℕ, suc, _+_, _*_, _-_, _/_, min}
 use mathlib.Core.Bool.{cond}
 use mathlib.Core.List.{List, [], _∷_, _++_, map}
 use mathlib.Core.Path.{_≡_}
-use lib.Dec.{ltb}
+use lib.Dec.{eqb, ltb}
 use lib.ListN.{length, take}
-use Rattle.meaning.specs.Kinds.{Kind, at-least-one, exactly-one, no-more-than-one, greater-than, less-than, equal, Pair, pair}
+use Rattle.meaning.specs.Kinds.{Kind, Pair, pair, joining}
+use Rattle.meaning.specs.Records.{Record, recordOf}
+use Rattle.meaning.specs.Rising.{mergedList}
 use Rattle.meaning.specs.Free.{freeTo}
 use Rattle.field.specs.Field.{Field}
 use Rattle.margins.specs.Model.{pairKinds}
-use Rattle.constraints.specs.Triple.{Triple, triple, room, filled, stored}
+use Rattle.constraints.specs.Record.{room, filled, stored}
+use Rattle.constraints.specs.Keys.{keyOf, unkey}
 
 -- ---- the pairs
 
@@ -41,46 +44,50 @@ examined limit s = take (allowed limit) (freePairs s)
 abbrev pub pairCount : ℕ → ℕ → ℕ
 pairCount limit k = min (allowed limit) (k * (k - 1) / 2)
 
--- ---- the constraints
+-- ---- the records
 
-abbrev pub codeFor : Kind → ℕ
-codeFor at-least-one = 0
-codeFor exactly-one = 1
-codeFor no-more-than-one = 2
-codeFor greater-than = 3
-codeFor less-than = 4
-codeFor equal = 5
+-- the record of a kind on i and j
+abbrev pub recordFor : ℕ → ℕ → Kind → Record
+recordFor i j k = recordOf (joining k i j)
 
--- "Ends keep the order the source passes them"
-abbrev pub tripleFor : ℕ → ℕ → Kind → Triple
-tripleFor i j k = triple i j (codeFor k)
+-- what a pair gives, in one record, or none
+unfoldable pub pairRecords : Field → List ℕ → Pair → List Record
+pairRecords F s p = mergedList (map (recordFor (p .first) (p .second)) (pairKinds F s (p .first) (p .second)))
 
-unfoldable pub pairTriples : Field → List ℕ → Pair → List Triple
-pairTriples F s p = map (tripleFor (p .first) (p .second)) (pairKinds F s (p .first) (p .second))
-
-unfoldable pub foundIn : Field → List ℕ → List Pair → List Triple
+unfoldable pub foundIn : Field → List ℕ → List Pair → List Record
 foundIn F s [] = []
-foundIn F s (p ∷ rest) = pairTriples F s p ++ foundIn F s rest
+foundIn F s (p ∷ rest) = pairRecords F s p ++ foundIn F s rest
 
 -- all that the examined pairs give, in their order
-unfoldable pub found : Field → List ℕ → ℕ → List Triple
+unfoldable pub found : Field → List ℕ → ℕ → List Record
 found F s limit = foundIn F s (examined limit s)
+
+-- ---- numbers
+
+-- the number of the first record, 0 where there is none
+abbrev pub firstKey : List Record → ℕ
+firstKey [] = 0
+firstKey (x ∷ l) = keyOf x
+
+-- the record that a number stands for; 0 stands for none
+unfoldable pub standing : ℕ → List Record
+standing k = cond (eqb k 0) [] (unkey k ∷ [])
 
 -- ---- into the list
 
 -- item number `at`, where the list has room for it
-unfoldable pub appendOne : List ℕ → ℕ → Triple → List ℕ
+unfoldable pub appendOne : List ℕ → ℕ → Record → List ℕ
 appendOne list at x = cond (ltb at (room list)) (stored list at x) list
 
-unfoldable pub appendAll : List ℕ → ℕ → List Triple → List ℕ
+unfoldable pub appendAll : List ℕ → ℕ → List Record → List ℕ
 appendAll list at [] = list
 appendAll list at (x ∷ xs) = appendAll (appendOne list at x) (suc at) xs
 
 -- the list afterwards, and the number of the next item
-pub record Appended (xs : List Triple) (l : List ℕ) (at : ℕ) (l′ : List ℕ) (r : ℕ) : Type 0 where
+pub record Appended (xs : List Record) (l : List ℕ) (at : ℕ) (l′ : List ℕ) (r : ℕ) : Type 0 where
   pub list : l′ ≡ appendAll l at xs
   pub next : r ≡ at + length xs
 
 -- as many of the items as have room
-unfoldable pub written : List Triple → List ℕ → List ℕ
+unfoldable pub written : List Record → List ℕ → List ℕ
 written items list = filled (take (room list) items) list

@@ -1,5 +1,7 @@
-// The walk over the free pairs in rising order, and the list of the constraints that they give.
+// The walk over the free pairs in rising order, and the list of the records that they give.
 use constraints::Kind;
+use constraints::keys::key;
+use constraints::keys::put_key;
 use margins::bounds::Bounds;
 use margins::bounds::Sign;
 use margins::bounds::judged;
@@ -10,7 +12,7 @@ use margins::walking::weight_of;
 use scratch::wide_word;
 ghost use mathlib.Core.Path.{_≡_};
 ghost use mathlib.Core.Bool.{true, cond};
-ghost use mathlib.Core.List.{[], _∷_, map};
+ghost use mathlib.Core.List.{map};
 ghost use Prim.Native.Nat.{_+_, _<_, _≤_};
 ghost use lib.Dec.{eqb};
 ghost use lib.ListN.{length};
@@ -19,9 +21,7 @@ ghost use Rattle.scratch.specs.Lent.{before, after};
 ghost use Rattle.meaning.specs.Free.{isFree};
 ghost use Rattle.field.specs.Field.{given, lent, variables};
 ghost use Rattle.margins.specs.Model.{sumKinds, diffKinds, signsOf, pairSigns, tolerance as toleranceOf};
-ghost use Rattle.constraints.specs.Codes.{codeOf};
-ghost use Rattle.constraints.specs.Triple.{triple};
-ghost use Rattle.pairs.specs.Listing.{allowed, tripleFor, pairTriples, Appended};
+ghost use Rattle.pairs.specs.Listing.{allowed, recordFor, pairRecords, firstKey, standing, Appended};
 ghost use Rattle.pairs.specs.Walk.{Prepared, freeAt, Freed, nextOf, isLeft, Walked};
 
 // Two positions in the list of free variables.
@@ -30,7 +30,7 @@ pub struct Cursor {
     pub second: usize,
 }
 
-// How many pairs were examined, and how many constraints they gave.
+// How many pairs were examined, and how many records they gave.
 pub struct Tally {
     pub pairs: usize,
     pub items: usize,
@@ -105,43 +105,49 @@ fn pair_bounds(
     )
 }
 
-// One constraint behind those that are there, where the list has room; the number of the next.
-fn append(list: &mut [u16], at: usize, i: u16, j: u16, kind: Kind) -> usize
-    requires { ⌜ at ≤ 1000000 ⌝ }
-    ensures { λ r. ⌜ Appended (triple i j (codeOf kind) ∷ []) (before list) at (after list) r ⌝ }
+// The record of a number behind those that are there, where the list has room; 0 stands for none. The number of the next.
+fn append(list: &mut [u16], at: usize, key: u32) -> usize
+    requires { ⌜ at ≤ 250000 ⌝ }
+    requires { ⌜ key < 268435456 ⌝ }
+    ensures { λ r. ⌜ Appended (standing key) (before list) at (after list) r ⌝ }
 {
+    if key == 0 {
+        return at;
+    }
     if at >= list.len() / 3 {
         return at + 1;
     }
-    constraints::put(list, at, i, j, kind);
+    put_key(list, at, key);
     at + 1
 }
 
-// What f at 11 less f at 00 gives.
-fn append_sum(list: &mut [u16], at: usize, i: u16, j: u16, sign: Sign) -> usize
-    requires { ⌜ at ≤ 1000000 ⌝ }
-    ensures { λ r. ⌜ Appended (map (tripleFor i j) (sumKinds sign)) (before list) at (after list) r ⌝ }
+// The number of what f at 11 less f at 00 gives, or 0.
+fn sum_key(i: u16, j: u16, sign: Sign) -> u32
+    requires { ⌜ i < 4096 ⌝ }
+    requires { ⌜ j < 4096 ⌝ }
+    ensures { λ r. ⌜ r ≡ firstKey (map (recordFor i j) (sumKinds sign)) ⌝ }
 {
     match sign {
-        Sign::Above => append(list, at, i, j, Kind::NoMoreThanOne),
-        Sign::Below => append(list, at, i, j, Kind::AtLeastOne),
-        Sign::Neither => at,
+        Sign::Above => key(i, j, Kind::NoMoreThanOne),
+        Sign::Below => key(i, j, Kind::AtLeastOne),
+        Sign::Neither => 0,
     }
 }
 
-// What f at 10 less f at 01 gives.
-fn append_diff(list: &mut [u16], at: usize, i: u16, j: u16, sign: Sign) -> usize
-    requires { ⌜ at ≤ 1000000 ⌝ }
-    ensures { λ r. ⌜ Appended (map (tripleFor i j) (diffKinds sign)) (before list) at (after list) r ⌝ }
+// The number of what f at 10 less f at 01 gives, or 0.
+fn diff_key(i: u16, j: u16, sign: Sign) -> u32
+    requires { ⌜ i < 4096 ⌝ }
+    requires { ⌜ j < 4096 ⌝ }
+    ensures { λ r. ⌜ r ≡ firstKey (map (recordFor i j) (diffKinds sign)) ⌝ }
 {
     match sign {
-        Sign::Above => append(list, at, i, j, Kind::LessThan),
-        Sign::Below => append(list, at, i, j, Kind::GreaterThan),
-        Sign::Neither => at,
+        Sign::Above => key(i, j, Kind::LessThan),
+        Sign::Below => key(i, j, Kind::GreaterThan),
+        Sign::Neither => 0,
     }
 }
 
-// One pair: what it gives goes behind what is there; the number of the next constraint.
+// One pair: what it gives goes behind what is there, in one record; the number of the next.
 fn append_pair(
     c: &[f64],
     rows: &[u16],
@@ -158,16 +164,17 @@ fn append_pair(
     requires { ⌜ Prepared (lent c rows cols q) (now values) (now f) (now u) ⌝ }
     requires { ⌜ (i < variables (lent c rows cols q)) × (j < variables (lent c rows cols q)) ⌝ }
     requires { ⌜ (isFree (now values) i ≡ true) × (isFree (now values) j ≡ true) ⌝ }
-    requires { ⌜ at ≤ 500000 ⌝ }
-    ensures { λ r. ⌜ Appended (pairTriples (given c rows cols q) (before values) (pair i j)) (before list) at (after list) r ⌝ }
+    requires { ⌜ at ≤ 250000 ⌝ }
+    ensures { λ r. ⌜ Appended (pairRecords (given c rows cols q) (before values) (pair i j)) (before list) at (after list) r ⌝ }
 {
     let n = c.len();
     let t = tolerance(f[n + i], f[n + j]);
-    let b = pair_bounds(c, rows, cols, q, values, f, u, i, j, t);
-    let sum = judged(b.sumLow, b.sumHigh, t);
-    let diff = judged(b.diffLow, b.diffHigh, t);
-    let next = append_sum(list, at, i as u16, j as u16, sum);
-    append_diff(list, next, i as u16, j as u16, diff)
+    let bounds = pair_bounds(c, rows, cols, q, values, f, u, i, j, t);
+    let sum = judged(bounds.sumLow, bounds.sumHigh, t);
+    let diff = judged(bounds.diffLow, bounds.diffHigh, t);
+    let a = sum_key(i as u16, j as u16, sum);
+    let b = diff_key(i as u16, j as u16, diff);
+    append(list, at, b | a)
 }
 
 impl Cursor {
@@ -210,7 +217,7 @@ fn capped(limit: usize) -> usize
     if limit < 250000 { limit } else { 250000 }
 }
 
-// The free pairs in rising order, up to the limit, which is 250,000 at most; how many were examined, and how many constraints they gave.
+// The free pairs in rising order, up to the limit, which is 250,000 at most; how many were examined, and how many records they gave.
 pub fn walk_pairs(
     c: &[f64],
     rows: &[u16],

@@ -1,18 +1,14 @@
 -- What two probes find holds in every best completion. Assumes nothing.
 use Prim.Native.Nat.{ℕ, zero, suc, _<_, _≤_}
 use mathlib.Core.Path.{_≡_}
-use mathlib.Core.Logic.{⊎-elim}
-use mathlib.Core.Bool.{Bool, true, false, cond}
-use mathlib.Core.List.{List, [], _∷_, List·Memᴰ, List·Memᴰ·head, List·Memᴰ·tail}
+use mathlib.Core.List.{List}
 use native.Mathlib.Omega.{arith}
-use lib.Dec.{leb}
 use lib.ListN.{length, getD}
 use Rattle.meaning.specs.Field as meaning
-use Rattle.meaning.specs.Kinds.{Kind, at-least-one, exactly-one, no-more-than-one, greater-than, less-than, equal, pair, Constraint, Forbids, Meets}
+use Rattle.meaning.specs.Kinds.{Kind, at-least-one, exactly-one, no-more-than-one, greater-than, less-than, equal, Constraint, joining, Meets}
 use Rattle.meaning.specs.Probe.{Probed, Found, both-equal, both-differ, zero-gives-0, zero-gives-1, one-gives-0, one-gives-1}
-use Rattle.meaning.proofs.Forbidden.{only-pair, either-pair}
 use Rattle.meaning.proofs.Probe.{probe-value, probe-constraint}
-use Rattle.probe.specs.Found.{nothing, value, constraint, joining, between, found}
+use Rattle.probe.specs.Found.{nothing, value, constraint, found}
 
 same-value : {v w : ℕ} → value v ≡ value w → v ≡ w
 same-value e = cc
@@ -46,49 +42,19 @@ found-value i j (suc (suc a)) zero w e = other-value e
 found-value i j (suc (suc a)) (suc zero) w e = other-value e
 found-value i j (suc (suc a)) (suc (suc b)) w e = none-value e
 
--- ---- a kind that may have its ends changed over
-
-abbrev Flips : Kind → Type 0
-Flips k = (a b : ℕ) → Forbids k a b → Forbids k b a
-
-flip-one : (p a b : ℕ) → List·Memᴰ (pair a b) (pair p p ∷ []) → pair b a ≡ pair p p
-flip-one p a b m = let e = only-pair m in rw (e .first, e .second)
-
-flip-at-least : Flips at-least-one
-flip-at-least a b m = List·Memᴰ·head (flip-one 0 a b m)
-
-flip-no-more : Flips no-more-than-one
-flip-no-more a b m = List·Memᴰ·head (flip-one 1 a b m)
-
-flip-exactly : Flips exactly-one
-flip-exactly a b m =
-    ⊎-elim (λ e. List·Memᴰ·head (rw (e .first, e .second))) (λ e. List·Memᴰ·tail (List·Memᴰ·head (rw (e .first, e .second)))) (either-pair m)
-
-flip-equal : Flips equal
-flip-equal a b m =
-    ⊎-elim (λ e. List·Memᴰ·tail (List·Memᴰ·head (rw (e .first, e .second)))) (λ e. List·Memᴰ·head (rw (e .first, e .second))) (either-pair m)
-
--- the lesser end first forbids the same
-meets-between : (x : List ℕ) (k : Kind) (i j : ℕ) → Flips k → Meets x (joining k i j) → Meets x (between k i j)
-meets-between x k i j flips met = go (leb i j)
-  where
-    go : (b : Bool) → Meets x (cond b (joining k i j) (joining k j i))
-    go true = met
-    go false = λ m. met (flips (getD x j 0) (getD x i 0) m)
-
 -- each finding is one of the table's, between i and j
 meets-found : (x : List ℕ) (i j v₀ v₁ : ℕ) → v₀ ≤ 2 → v₁ ≤ 2 → ((k : Kind) → Found v₀ v₁ k → Meets x (joining k i j))
     → (c : Constraint) → found i j v₀ v₁ ≡ constraint c → Meets x c
 unfolding found
 meets-found x i j zero zero s₀ s₁ met c e = value-constraint e
-meets-found x i j zero (suc zero) s₀ s₁ met c e = rw (← same-constraint e) (meets-between x equal i j flip-equal (met equal both-equal))
+meets-found x i j zero (suc zero) s₀ s₁ met c e = rw (← same-constraint e) (met equal both-equal)
 meets-found x i j zero (suc (suc b)) s₀ s₁ met c e = let z : suc (suc b) ≡ 2 = omega arith in rw (← same-constraint e) (met greater-than (rw z zero-gives-0))
-meets-found x i j (suc zero) zero s₀ s₁ met c e = rw (← same-constraint e) (meets-between x exactly-one i j flip-exactly (met exactly-one both-differ))
+meets-found x i j (suc zero) zero s₀ s₁ met c e = rw (← same-constraint e) (met exactly-one both-differ)
 meets-found x i j (suc zero) (suc zero) s₀ s₁ met c e = value-constraint e
 meets-found x i j (suc zero) (suc (suc b)) s₀ s₁ met c e =
-    let z : suc (suc b) ≡ 2 = omega arith in rw (← same-constraint e) (meets-between x at-least-one i j flip-at-least (met at-least-one (rw z zero-gives-1)))
+    let z : suc (suc b) ≡ 2 = omega arith in rw (← same-constraint e) (met at-least-one (rw z zero-gives-1))
 meets-found x i j (suc (suc a)) zero s₀ s₁ met c e =
-    let z : suc (suc a) ≡ 2 = omega arith in rw (← same-constraint e) (meets-between x no-more-than-one i j flip-no-more (met no-more-than-one (rw z one-gives-0)))
+    let z : suc (suc a) ≡ 2 = omega arith in rw (← same-constraint e) (met no-more-than-one (rw z one-gives-0))
 meets-found x i j (suc (suc a)) (suc zero) s₀ s₁ met c e = let z : suc (suc a) ≡ 2 = omega arith in rw (← same-constraint e) (met less-than (rw z one-gives-1))
 meets-found x i j (suc (suc a)) (suc (suc b)) s₀ s₁ met c e = none-constraint e
 

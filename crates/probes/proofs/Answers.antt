@@ -9,7 +9,7 @@ use lib.Ieee.{Float}
 use Rattle.weights.specs.Worth.{zero64}
 use Rattle.scratch.specs.Cleared.{cleared}
 use Rattle.scratch.specs.Region.{region}
-use Rattle.constraints.specs.Triple.{room}
+use Rattle.constraints.specs.Record.{room}
 use Rattle.field.specs.declared.Checked.{Checked}
 use Rattle.field.specs.declared.Checked.the-variants.{Passed, Failed}
 use Rattle.field.specs.declared.Counted.the-variants.{Counts, Refuses}
@@ -24,7 +24,7 @@ use Rattle.field.proofs.Means.{ready-passes}
 use Rattle.calls.specs.Call.{run}
 use Rattle.calls.proofs.Usual as usual
 use Rattle.twin.specs.Twin.{valuesAt}
-use Rattle.probes.specs.Call.{Left, left, allConstraints, fits, candidatesCall}
+use Rattle.probes.specs.Call.{Left, left, allRecords, fits, candidatesCall}
 use Rattle.probes.specs.Standing.{settled}
 use Rattle.probes.proofs.Standing.{AllHeld}
 
@@ -38,7 +38,7 @@ module _ (F : Field) (s cands t k : List ℕ) (f : List Float) (u : List ℕ) (l
   done-answer k₁ u₁ a b d A eg et lt ef lf eu lu =
       rw (eq-eqb _ _ long, le-leb _ _ (A .fits), eg, A .count, A .list-is, et, lt, long, A .values-are, ef, lf, eu, lu) refl
 
-  pub full-answer : {x : Left} (a e b d : ℕ) → room k < length (allConstraints F s cands)
+  pub full-answer : {x : Left} (a e b d : ℕ) → room k < length (allRecords F s cands)
       → x ≡ left (Refuses Room) (replicate a 0) (replicate e 0) (replicate b zero64) (replicate d 0) → a ≡ length t → e ≡ length k → b ≡ length f → d ≡ length u
       → x ≡ settled F s cands t k f u
   unfolding fits run

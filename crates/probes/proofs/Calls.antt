@@ -7,9 +7,10 @@ use native.Mathlib.Omega.{arith}
 use lib.ListN.{length, getD}
 use lib.Ieee.{Float}
 use Rattle.meaning.specs.Field as meaning
-use Rattle.meaning.specs.Kinds.{Meets}
-use Rattle.constraints.specs.Triple.{Triple, constraintOf}
-use Rattle.constraints.specs.Sorted.{Rising}
+use Rattle.meaning.specs.Kinds.{Pair}
+use Rattle.meaning.specs.Records.{Record, AllProper, MeetsRecord, Bans}
+use Rattle.meaning.specs.Rising.{Rising}
+use Rattle.constraints.specs.Record.{Fit}
 use Rattle.field.specs.declared.Counted.the-variants.{Counts}
 use Rattle.field.specs.declared.Grade.{Grade}
 use Rattle.field.specs.declared.Grade.the-variants.{Exact}
@@ -17,7 +18,8 @@ use Rattle.field.specs.Field.{Field, variables, Shaped, StartFor}
 use Rattle.field.specs.Grade.{Serves}
 use Rattle.field.specs.Reading.{wholeOf}
 use Rattle.field.specs.Tests.{Finite}
-use Rattle.probes.specs.Call.{allConstraints, allValues, Left, candidatesCall}
+use Rattle.field.proofs.Exact.{exact-means}
+use Rattle.probes.specs.Call.{allRecords, allValues, Left, candidatesCall}
 use Rattle.probes.specs.Rule.{FreeCandidates, Given, GivesValue, Finds, FindsValue, LastGives, NoneGives}
 use Rattle.probes.specs.Says.{listed, valueAt, DoneSays}
 use Rattle.probes.proofs.Gathered as gathered
@@ -40,17 +42,20 @@ module _ (F : Field) (s cands t k : List ℕ) (f : List Float) (u : List ℕ) wh
     pub start : StartFor (variables F) s
     start = said .ready .sound .start
 
-    pub list-is : listed count call ≡ allConstraints F s cands
+    pub list-is : listed count call ≡ allRecords F s cands
     list-is = list-holds F s cands t k f u g count e
 
     value-is : (j : ℕ) → valueAt j call ≡ getD (allValues F s cands) j 0
     value-is j = ap (λ (l : Left). valueAt j l) (done-leaves F s cands t k f u g count e)
 
-    pub list-finds : (x : Triple) → List·Memᴰ x (listed count call) ↔ Finds F s cands x
-    list-finds x = rw list-is (gathered.list-finds F s cands x)
+    pub list-finds : (i j : ℕ) (p : Pair) → Bans (listed count call) i j p ↔ Finds F s cands i j p
+    list-finds i j p = rw list-is (gathered.list-finds F s cands i j p)
 
     pub list-rising : Rising (listed count call)
     list-rising = rw list-is (gathered.list-rising F s cands)
+
+    pub list-fits : FreeCandidates s cands → (r : Record) → List·Memᴰ r (listed count call) → Fit (variables F) r
+    list-fits free r m = gathered.list-fits F s cands free (start .long) r (rw list-is at m)
 
     pub value-finds : (j : ℕ) → j < variables F → (w : ℕ) → w < 2 → (valueAt j call ≡ w) ↔ LastGives (λ i v. FindsValue F s i j v) cands (length cands) w
     value-finds j below w small = rw (value-is j) (gathered.value-finds F s cands j below w small)
@@ -67,10 +72,18 @@ module _ (F : Field) (s cands t k : List ℕ) (f : List Float) (u : List ℕ) wh
     pub shaped : Shaped F
     shaped = said e .ready .sound .shaped
 
+    pub no-full-set : (r : Record) → List·Memᴰ r (listed count call) → r .set ≢ 15
+    no-full-set r m =
+        exact.no-full-set shaped (exact-means F (shaped .rows-long) .0 (sym (said e .graded)) .exact) (start e) cands free r (rw (list-is e) at m)
+
     -- in every unit that serves
     module _ {unit : ℕ} (serving : Serves unit F) where
-      pub list-exact : (x : Triple) → List·Memᴰ x (listed count call) ↔ Given (wholeOf unit F) s (λ i. List·Memᴰ i cands) x
-      list-exact x = rw (list-is e) (exact.list-exact shaped (serving .exact) (start e) cands free x)
+      pub list-exact : (i j : ℕ) (p : Pair) → Bans (listed count call) i j p ↔ Given (wholeOf unit F) s (λ i. List·Memᴰ i cands) i j p
+      list-exact i j p = rw (list-is e) (exact.list-exact shaped (serving .exact) (start e) cands free i j p)
+
+      pub list-only : (l : List Record) → AllProper l → Rising l → ((i j : ℕ) (p : Pair) → Bans l i j p ↔ Given (wholeOf unit F) s (λ i. List·Memᴰ i cands) i j p)
+          → l ≡ listed count call
+      list-only l a r h = exact.list-only shaped (serving .exact) (start e) cands free l a r h ∙ sym (list-is e)
 
       pub values-exact : (j : ℕ) → j < variables F → (w : ℕ) → w < 2
           → (valueAt j call ≡ w) ↔ LastGives (λ i v. GivesValue (wholeOf unit F) s i j v) cands (length cands) w
@@ -84,5 +97,5 @@ module _ (F : Field) (s cands t k : List ℕ) (f : List Float) (u : List ℕ) wh
         best-has-values j below small =
             exact.best-has-values shaped (serving .exact) (start e) cands free best j below (omega (arith, value-is e j)) ∙ sym (value-is e j)
 
-        pub best-meets-all : (c : Triple) → List·Memᴰ c (listed count call) → Meets x (constraintOf c)
-        best-meets-all c m = exact.best-meets-all shaped (serving .exact) (start e) cands free best c (rw (list-is e) at m)
+        pub best-meets-all : (r : Record) → List·Memᴰ r (listed count call) → MeetsRecord x r
+        best-meets-all r m = exact.best-meets-all shaped (serving .exact) (start e) cands free best r (rw (list-is e) at m)

@@ -12,10 +12,10 @@ use lib.ListN.{length, getD, take}
 use Rattle.meaning.specs.Free.{isFree, freeTo}
 use Rattle.meaning.proofs.Free.{free-at, free-rises}
 use Rattle.meaning.proofs.Values.{below-or-at, inside}
-use Rattle.constraints.specs.Triple.{Triple}
+use Rattle.meaning.specs.Records.{Covered}
 use Rattle.field.specs.Field.{Field}
 use Rattle.ranking.specs.Ranking.{ranks}
-use Rattle.probes.specs.Call.{allConstraints}
+use Rattle.probes.specs.Call.{allRecords}
 use Rattle.probes.specs.Rule.{FreeCandidates, LastGives, NoneGives, GreatestGives, NoFreeGives}
 use Rattle.probes.proofs.Members.{at-in, PlaceOf, in-at, every-in}
 use Rattle.probes.proofs.Gathered.{more-candidates}
@@ -49,9 +49,8 @@ front-more (suc a) zero l h m = absurd (omega arith)
 front-more (suc a) (suc b) [] h m = m
 front-more (suc a) (suc b) (x ∷ l) h m = ⊎-elim (λ e. List·Memᴰ·head e) (λ r. List·Memᴰ·tail (front-more a b l (omega arith) r)) (List·Memᴰ·cases-cons m)
 
--- more candidates, by a larger limit, find every constraint that fewer find
-pub larger-finds : (F : Field) (s : List ℕ) (limit more : ℕ) → limit ≤ more → (x : Triple)
-    → List·Memᴰ x (allConstraints F s (take limit (ranks F s))) → List·Memᴰ x (allConstraints F s (take more (ranks F s)))
+-- more candidates, by a larger limit, forbid every pair that fewer forbid
+pub larger-finds : (F : Field) (s : List ℕ) (limit more : ℕ) → limit ≤ more → Covered (allRecords F s (take limit (ranks F s))) (allRecords F s (take more (ranks F s)))
 larger-finds F s limit more h = more-candidates F s (take limit (ranks F s)) (take more (ranks F s)) (λ i m. front-more limit more (ranks F s) h m)
 
 -- ---- the later one is the greater one

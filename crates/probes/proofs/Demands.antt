@@ -13,8 +13,8 @@ use lib.Ieee.{Float}
 use Rattle.weights.specs.Worth.{zero64}
 use Rattle.scratch.specs.Cleared.{cleared}
 use Rattle.scratch.proofs.Means.{le-is, eq-is, both-is}
-use Rattle.constraints.specs.Triple.{room, triples, filled}
-use Rattle.constraints.proofs.Triples.{filled-rest, triples-filled}
+use Rattle.constraints.specs.Record.{room, records, filled}
+use Rattle.constraints.proofs.Records.{filled-rest, records-filled}
 use Rattle.field.specs.declared.Counted.the-variants.{Counts, Refuses}
 use Rattle.field.specs.declared.Grade.{Grade}
 use Rattle.field.specs.declared.Refusal.{Refusal}
@@ -31,7 +31,7 @@ use Rattle.calls.proofs.Call as any
 use Rattle.calls.proofs.Usual as usual
 use Rattle.calls.proofs.Usual.{this-stage, other-stage}
 use Rattle.calls.proofs.Values.{never-room}
-use Rattle.probes.specs.Call.{allConstraints, allValues, Left, left, fits, candidatesTable, result, candidatesCall}
+use Rattle.probes.specs.Call.{allRecords, allValues, Left, left, fits, candidatesTable, result, candidatesCall}
 use Rattle.probes.specs.Says.{DoneSays}
 
 module _ (F : Field) (s cands t k : List ℕ) (f : List Float) (u : List ℕ) where
@@ -41,21 +41,21 @@ module _ (F : Field) (s cands t k : List ℕ) (f : List Float) (u : List ℕ) wh
 
   -- ---- what 9 asks
 
-  fit-is : (fits F s cands t k ≡ true) ↔ ((length t ≡ variables F) × (length (allConstraints F s cands) ≤ room k))
+  fit-is : (fits F s cands t k ≡ true) ↔ ((length t ≡ variables F) × (length (allRecords F s cands) ≤ room k))
   unfolding fits
-  fit-is = both-is _ _ (eq-is (length t) (variables F)) (le-is (length (allConstraints F s cands)) (room k))
+  fit-is = both-is _ _ (eq-is (length t) (variables F)) (le-is (length (allRecords F s cands)) (room k))
 
-  no-fit : fits F s cands t k ≡ false → (length t ≢ variables F) ⊎ (room k < length (allConstraints F s cands))
+  no-fit : fits F s cands t k ≡ false → (length t ≢ variables F) ⊎ (room k < length (allRecords F s cands))
   unfolding fits
-  no-fit e = go (eqb (length t) (variables F)) (leb (length (allConstraints F s cands)) (room k)) refl refl e
+  no-fit e = go (eqb (length t) (variables F)) (leb (length (allRecords F s cands)) (room k)) refl refl e
     where
-      go : (a b : Bool) → eqb (length t) (variables F) ≡ a → leb (length (allConstraints F s cands)) (room k) ≡ b → a && b ≡ false
-          → (length t ≢ variables F) ⊎ (room k < length (allConstraints F s cands))
+      go : (a b : Bool) → eqb (length t) (variables F) ≡ a → leb (length (allRecords F s cands)) (room k) ≡ b → a && b ≡ false
+          → (length t ≢ variables F) ⊎ (room k < length (allRecords F s cands))
       go false b p q z = inl (eqb-false _ _ p)
       go true false p q z = inr (leb-false _ _ q)
       go true true p q z = let y : _≡_ {A = ℕ} 0 1 = cc in absurd (omega arith)
 
-  fit-no : (length t ≢ variables F) ⊎ (room k < length (allConstraints F s cands)) → fits F s cands t k ≡ false
+  fit-no : (length t ≢ variables F) ⊎ (room k < length (allRecords F s cands)) → fits F s cands t k ≡ false
   unfolding fits
   fit-no (inl n) = rw (ne-eqb _ _ n) refl
   fit-no (inr m) = rw (lt-leb _ _ m) (last (eqb (length t) (variables F)))
@@ -76,9 +76,9 @@ module _ (F : Field) (s cands t k : List ℕ) (f : List Float) (u : List ℕ) wh
   unfolding candidatesCall
   refused-leaves r n e = usual.refused-leaves Refuses _ _ _ _ same-refuses counts-apart r (other-stage n no-stage) e
 
-  -- 9 is given exactly if the tests before it pass, and the value list is not n long or more constraints are found, without repeats, than the list has room for.
+  -- 9 is given exactly if the tests before it pass, and the value list is not n long or the records, merged by pair, are more than the list has room for.
   pub room-when : (candidatesCall F s cands t k f u .answer ≡ Refuses Room)
-      ↔ (Ready F s (length f) (length u) × ((length t ≢ variables F) ⊎ (room k < length (allConstraints F s cands))))
+      ↔ (Ready F s (length f) (length u) × ((length t ≢ variables F) ⊎ (room k < length (allRecords F s cands))))
   unfolding candidatesCall
   room-when =
       let w = usual.last-when Refuses _ _ Room _ _ same-refuses counts-apart (never-room F s (length f) (length u)) (fits F s cands t k) in
@@ -94,7 +94,7 @@ module _ (F : Field) (s cands t k : List ℕ) (f : List Float) (u : List ℕ) wh
   -- ---- done
 
   passed : (candidatesCall F s cands t k f u .answer ≡ result F s cands k f u .answer)
-      ↔ (Ready F s (length f) (length u) × ((length t ≡ variables F) × (length (allConstraints F s cands) ≤ room k)))
+      ↔ (Ready F s (length f) (length u) × ((length t ≡ variables F) × (length (allRecords F s cands) ≤ room k)))
   unfolding candidatesCall table
   passed =
       usual.done-when Refuses _ _ _ _ same-refuses counts-apart (group-is (readyTests F s (length f) (length u)) _ (ready-passes F s (length f) (length u)) (last-is Room _ fit-is))
@@ -103,7 +103,7 @@ module _ (F : Field) (s cands t k : List ℕ) (f : List Float) (u : List ℕ) wh
   unfolding candidatesCall
   ended e = usual.done-leaves Refuses _ _ _ _ same-refuses counts-apart (λ r z. counts-apart r (sym e ∙ z))
 
-  -- The call is done exactly if every test passes, and then gives the grade and the number of constraints.
+  -- The call is done exactly if every test passes, and then gives the grade and the number of records.
   pub done-when : (g : Grade) (items : ℕ) → (candidatesCall F s cands t k f u .answer ≡ Counts g items) ↔ DoneSays F s cands t k f u g items
   done-when g items = (
     λ e.
@@ -111,23 +111,23 @@ module _ (F : Field) (s cands t k : List ℕ) (f : List Float) (u : List ℕ) wh
         let q : result F s cands k f u .answer ≡ Counts g items = w ∙ e in
         let p = passed .0 (sym w) in
         let eg : g ≡ gradeOf F = cc in
-        let ei : items ≡ length (allConstraints F s cands) = cc in
+        let ei : items ≡ length (allRecords F s cands) = cc in
         record { ready = p .0; values-long = p .1 .0; enough = p .1 .1; graded = eg; counted = ei },
     λ h. rw (h .graded, h .counted) (passed .1 (h .ready, (h .values-long, h .enough))),
   )
 
   module _ (g : Grade) (items : ℕ) (e : candidatesCall F s cands t k f u .answer ≡ Counts g items) where
-    -- Then the probe values are in the value list, the constraints at the front of their list, and both scratches are all zeros.
-    pub done-leaves : candidatesCall F s cands t k f u ≡ left (Counts g items) (allValues F s cands) (filled (allConstraints F s cands) k) (cleared zero64 f) (cleared 0 u)
+    -- Then the probe values are in the value list, the records at the front of their list, and both scratches are all zeros.
+    pub done-leaves : candidatesCall F s cands t k f u ≡ left (Counts g items) (allValues F s cands) (filled (allRecords F s cands) k) (cleared zero64 f) (cleared 0 u)
     done-leaves =
         let d = done-when g items .0 e in
         rw (d .graded, d .counted) (ended e)
 
-    -- The first triples of the list are the constraints, no more and no fewer, and elements past the last of them are unchanged.
-    pub list-holds : take items (triples (candidatesCall F s cands t k f u .lent .constraints)) ≡ allConstraints F s cands
+    -- The first records of the list are those, no more and no fewer, and elements past the last of them are unchanged.
+    pub list-holds : take items (records (candidatesCall F s cands t k f u .lent .constraints)) ≡ allRecords F s cands
     list-holds =
-        rw (ap (λ (x : Left). x .lent .constraints) done-leaves, done-when g items .0 e .counted, triples-filled (allConstraints F s cands) k)
-        (take-at (allConstraints F s cands) (triples (drop (3 * length (allConstraints F s cands)) k)) (length (allConstraints F s cands)) refl)
+        rw (ap (λ (x : Left). x .lent .constraints) done-leaves, done-when g items .0 e .counted, records-filled (allRecords F s cands) k)
+        (take-at (allRecords F s cands) (records (drop (3 * length (allRecords F s cands)) k)) (length (allRecords F s cands)) refl)
 
     pub past-unchanged : drop (3 * items) (candidatesCall F s cands t k f u .lent .constraints) ≡ drop (3 * items) k
-    past-unchanged = rw (ap (λ (x : Left). x .lent .constraints) done-leaves, done-when g items .0 e .counted) (filled-rest (allConstraints F s cands) k)
+    past-unchanged = rw (ap (λ (x : Left). x .lent .constraints) done-leaves, done-when g items .0 e .counted) (filled-rest (allRecords F s cands) k)

@@ -1,15 +1,17 @@
 -- On exact fields the lists of the probe calls are what document 01's rule gives over whole numbers, for any free candidates. Assumes nothing.
-use Prim.Native.Nat.{ℕ, _<_, _≤_}
+use Prim.Native.Nat.{ℕ, zero, suc, _<_, _≤_}
 use mathlib.Core.Path.{_≡_, refl, sym, ap, _∙_, subst}
 use mathlib.Core.Logic.{_≢_, _↔_}
-use mathlib.Core.List.{List, List·Memᴰ}
+use mathlib.Core.List.{List, List·Memᴰ, List·Memᴰ·head, List·Memᴰ·tail}
 use native.Mathlib.Omega.{arith}
 use lib.ListN.{length, getD, set}
 use Rattle.meaning.specs.Field as meaning
-use Rattle.meaning.specs.Kinds.{Constraint, Meets}
+use Rattle.meaning.specs.Kinds.{Pair, pair, Constraint, joining}
+use Rattle.meaning.specs.Records.{Record, pairsIn, AllProper, MeetsRecord, Excludes, Bans}
+use Rattle.meaning.specs.Rising.{Rising}
 use Rattle.meaning.specs.Probe.{Probed}
-use Rattle.constraints.specs.Triple.{Triple, constraintOf}
-use Rattle.constraints.specs.Sorted.{Rising}
+use Rattle.meaning.proofs.Bans.{bans-of}
+use Rattle.meaning.proofs.Theorems.{best-completion-exists}
 use Rattle.field.specs.Field.{Field, variables, Shaped, StartFor}
 use Rattle.field.specs.Grade.{ExactIn}
 use Rattle.field.specs.Reading.{wholeOf}
@@ -18,14 +20,26 @@ use Rattle.run.proofs.Theorems as run
 use Rattle.workspace.proofs.Theorems.{start-with}
 use Rattle.probe.specs.Found.{found}
 use Rattle.probe.proofs.Found.{none-value, none-constraint, found-value, value-holds, constraint-holds}
-use Rattle.finding.specs.Finds.{tripleOf, finding}
-use Rattle.finding.proofs.Codes.{triple-says}
-use Rattle.probes.specs.Call.{allConstraints, allValues}
-use Rattle.probes.specs.Rule.{FreeCandidates, ordered, BothGive, Given, GivesValue, Finds, FindsValue, LastGives, NoneGives}
+use Rattle.finding.specs.Finds.{finding}
+use Rattle.probes.specs.Call.{allRecords, allValues}
+use Rattle.probes.specs.Rule.{FreeCandidates, BothGive, Given, GivesValue, Finds, FindsValue, LastGives, NoneGives}
 use Rattle.probes.proofs.Members.{at-in}
+use Rattle.probes.proofs.Excluded.{meets-apart}
 use Rattle.probes.proofs.Table.{left, tabled, table-finds, value-found, found-of, looked}
 use Rattle.probes.proofs.Later.{last-as, none-as}
 use Rattle.probes.proofs.Gathered.{list-finds, rules-any-field, value-finds, none-finds}
+
+-- ---- a set of all four bits
+
+all-in : (a b : ℕ) → a < 2 → b < 2 → List·Memᴰ (pair a b) (pairsIn 15)
+unfolding pairsIn
+all-in zero zero h g = List·Memᴰ·head refl
+all-in zero (suc zero) h g = List·Memᴰ·tail (List·Memᴰ·head refl)
+all-in (suc zero) zero h g = List·Memᴰ·tail (List·Memᴰ·tail (List·Memᴰ·head refl))
+all-in (suc zero) (suc zero) h g = List·Memᴰ·tail (List·Memᴰ·tail (List·Memᴰ·tail (List·Memᴰ·head refl)))
+all-in (suc (suc a)) b h g = absurd (omega arith)
+all-in zero (suc (suc b)) h g = absurd (omega arith)
+all-in (suc zero) (suc (suc b)) h g = absurd (omega arith)
 
 -- ---- on an exact field
 
@@ -75,11 +89,11 @@ module _ {u : ℕ} {F : Field} (shaped : Shaped F) (exact : ExactIn u F) {s : Li
   -- ---- any free candidates
 
   module _ (cands : List ℕ) (free : FreeCandidates s cands) where
-    -- a constraint that the executable rule finds is given over whole numbers, and the other way round
-    finds-given : {x : Triple} → Finds F s cands x ↔ Given (wholeOf u F) s (λ i. List·Memᴰ i cands) x
-    finds-given {x} = (to, from)
+    -- a pair that the executable rule forbids is forbidden over whole numbers, and the other way round
+    finds-given : {a b : ℕ} {p : Pair} → Finds F s cands a b p ↔ Given (wholeOf u F) s (λ i. List·Memᴰ i cands) a b p
+    finds-given {a} {b} {p} = (to, from)
       where
-        to : Finds F s cands x → Given (wholeOf u F) s (λ i. List·Memᴰ i cands) x
+        to : Finds F s cands a b p → Given (wholeOf u F) s (λ i. List·Memᴰ i cands) a b p
         to h =
             let i = h .candidate in
             let j = h .variable in
@@ -95,29 +109,32 @@ module _ {u : ℕ} {F : Field} (shaped : Shaped F) (exact : ExactIn u F) {s : Li
               both = both-left i here j (l .other) (h .below) (l .free);
               kind = t .kind;
               finds = t .finds;
-              is = h .is ∙ ap tripleOf (t .is);
+              order = h .order;
+              excludes = subst (λ (c : Constraint). Excludes c a (p .first) b (p .second)) (t .is) (h .excludes);
             }
 
-        from : Given (wholeOf u F) s (λ i. List·Memᴰ i cands) x → Finds F s cands x
+        from : Given (wholeOf u F) s (λ i. List·Memᴰ i cands) a b p → Finds F s cands a b p
         from h = record {
           candidate = h .candidate;
           chosen = h .chosen;
           variable = h .variable;
           below = h .both .below;
-          said = ordered (h .kind) (h .candidate) (h .variable);
+          said = joining (h .kind) (h .candidate) (h .variable);
           finds = left-both (h .candidate) (free (h .candidate) (h .chosen)) (h .both) ∙ table-finds (h .candidate) (h .variable) (h .finds);
-          is = h .is;
+          order = h .order;
+          excludes = h .excludes;
         }
 
-    -- DEMAND 2. A triple is in the list exactly if two probes of a candidate give it.
-    pub list-exact : (x : Triple) → List·Memᴰ x (allConstraints F s cands) ↔ Given (wholeOf u F) s (λ i. List·Memᴰ i cands) x
-    list-exact x =
-        let e = list-finds F s cands x in
-        ((λ m. finds-given .0 (e .0 m)), λ h. e .1 (finds-given .1 h))
+    -- DEMAND 2. A pair is forbidden by the list exactly if two probes of a candidate forbid it.
+    pub list-exact : (i j : ℕ) (p : Pair) → Bans (allRecords F s cands) i j p ↔ Given (wholeOf u F) s (λ i. List·Memᴰ i cands) i j p
+    list-exact i j p =
+        let e = list-finds F s cands i j p in
+        ((λ f. finds-given .0 (e .0 f)), λ h. e .1 (finds-given .1 h))
 
-    -- It is the one list, sorted and without repeats, that holds these.
-    pub list-only : (l : List Triple) → Rising l → ((x : Triple) → List·Memᴰ x l ↔ Given (wholeOf u F) s (λ i. List·Memᴰ i cands) x) → l ≡ allConstraints F s cands
-    list-only l r h = rules-any-field F s cands l r (λ x. ((λ m. finds-given .1 (h x .0 m)), λ y. h x .1 (finds-given .0 y)))
+    -- It is the one list of records, rising by pair, that forbids these.
+    pub list-only : (l : List Record) → AllProper l → Rising l → ((i j : ℕ) (p : Pair) → Bans l i j p ↔ Given (wholeOf u F) s (λ i. List·Memᴰ i cands) i j p)
+        → l ≡ allRecords F s cands
+    list-only l a r h = rules-any-field F s cands l a r (λ i j p. ((λ f. finds-given .1 (h i j p .0 f)), λ y. h i j p .1 (finds-given .0 y)))
 
     given : (j : ℕ) → j < variables F → (k v : ℕ) → k < length cands → FindsValue F s (getD cands k 0) j v ↔ GivesValue (wholeOf u F) s (getD cands k 0) j v
     given j below k v h = value-exact (getD cands k 0) (free (getD cands k 0) (at-in cands k h)) j v below
@@ -149,13 +166,19 @@ module _ {u : ℕ} {F : Field} (shaped : Shaped F) (exact : ExactIn u F) {s : Li
           let l = looked F s i j (λ z. none-value z) (h .gives) in
           value-holds (exact .standard) (start .long) best i here (probed i here 0 (omega arith)) (probed i here 1 (omega arith)) j w (l .finds)
 
-      -- and meets every constraint of the list.
-      pub best-meets-all : (t : Triple) → List·Memᴰ t (allConstraints F s cands) → Meets x (constraintOf t)
-      best-meets-all t m =
-          let h = list-finds F s cands t .0 m in
+      -- and meets every record of the list.
+      pub best-meets-all : (r : Record) → List·Memᴰ r (allRecords F s cands) → MeetsRecord x r
+      best-meets-all r m q =
+          let h = list-finds F s cands (r .lower) (r .higher) (pair (getD x (r .lower) 0) (getD x (r .higher) 0)) .0 (bans-of m q) in
           let i = h .candidate in
           let here = free i (h .chosen) in
           let l = looked F s i (h .variable) (λ z. none-constraint z) (h .finds) in
-          subst (λ (c : Constraint). Meets x c) (sym (ap constraintOf (h .is) ∙ triple-says (h .said)))
-          (constraint-holds (exact .standard) (start .long) best i here (probed i here 0 (omega arith)) (probed i here 1 (omega arith)) (h .variable)
-          (left-small i here 0 (omega arith) (h .variable)) (left-small i here 1 (omega arith) (h .variable)) (h .said) (l .finds))
+          let met = constraint-holds (exact .standard) (start .long) best i here (probed i here 0 (omega arith)) (probed i here 1 (omega arith)) (h .variable)
+          (left-small i here 0 (omega arith) (h .variable)) (left-small i here 1 (omega arith) (h .variable)) (h .said) (l .finds) in
+          meets-apart x (h .said) (r .lower) (r .higher) met (h .excludes)
+
+    -- There are best completions, and the values of each at a record's ends are a pair that it does not forbid: so no set has all four.
+    pub no-full-set : (r : Record) → List·Memᴰ r (allRecords F s cands) → r .set ≢ 15
+    no-full-set r m e =
+        let b = best-completion-exists (wholeOf u F) s (start .small) in
+        best-meets-all (b .1) r m (rw e (all-in _ _ (b .1 .completion .full (r .lower)) (b .1 .completion .full (r .higher))))

@@ -10,10 +10,11 @@ use Rattle.weights.specs.Worth.{zero64}
 use Rattle.scratch.specs.Cleared.{cleared}
 use Rattle.meaning.specs.Field as meaning
 use Rattle.meaning.specs.Free.{freeTo}
-use Rattle.meaning.specs.Kinds.{Meets}
+use Rattle.meaning.specs.Kinds.{Pair}
+use Rattle.meaning.specs.Records.{Record, AllProper, MeetsRecord, Bans}
+use Rattle.meaning.specs.Rising.{Rising}
 use Rattle.meaning.proofs.Values.{inside}
-use Rattle.constraints.specs.Triple.{Triple, room, filled, constraintOf}
-use Rattle.constraints.specs.Sorted.{Rising}
+use Rattle.constraints.specs.Record.{room, filled, Fit}
 use Rattle.field.specs.declared.Counted.the-variants.{Counts, Refuses}
 use Rattle.field.specs.declared.Grade.{Grade}
 use Rattle.field.specs.declared.Grade.the-variants.{Exact}
@@ -24,7 +25,7 @@ use Rattle.field.specs.Table.{FirstToFail}
 use Rattle.field.specs.Tests.{Ready}
 use Rattle.field.specs.Grade.{Serves}
 use Rattle.field.specs.Reading.{wholeOf}
-use Rattle.probes.specs.Call.{allConstraints, allValues, Left, left, candidatesTable, probeCall}
+use Rattle.probes.specs.Call.{allRecords, allValues, Left, left, candidatesTable, probeCall}
 use Rattle.probes.specs.Rule.{FreeCandidates, Given, GivesValue, Finds, FindsValue, GreatestGives, NoFreeGives}
 use Rattle.probes.specs.Says.{listed, valueAt, DoneSays}
 use Rattle.probes.proofs.Demands as any
@@ -32,7 +33,7 @@ use Rattle.probes.proofs.Calls as call
 use Rattle.probes.proofs.Candidates.{in-free, full-free, greatest-gives, none-free-gives}
 
 -- what counts as a candidate may be said in another way
-given-as : {G : meaning.Field} {s : List ℕ} {C D : ℕ → Type 0} {x : Triple} → ((i : ℕ) → C i → D i) → Given G s C x → Given G s D x
+given-as : {G : meaning.Field} {s : List ℕ} {C D : ℕ → Type 0} {i j : ℕ} {p : Pair} → ((i : ℕ) → C i → D i) → Given G s C i j p → Given G s D i j p
 given-as alike h = record {
   candidate = h .candidate;
   chosen = alike (h .candidate) (h .chosen);
@@ -42,7 +43,8 @@ given-as alike h = record {
   both = h .both;
   kind = h .kind;
   finds = h .finds;
-  is = h .is;
+  order = h .order;
+  excludes = h .excludes;
 }
 
 module _ (F : Field) (s t k : List ℕ) (f : List Float) (u : List ℕ) where
@@ -69,9 +71,9 @@ module _ (F : Field) (s t k : List ℕ) (f : List Float) (u : List ℕ) where
   unfolding probeCall
   probe-refused-leaves = any.refused-leaves F s free t k f u
 
-  -- 9 is given exactly if the tests before it pass, and the value list is not n long or more constraints are found, without repeats, than the list has room for.
+  -- 9 is given exactly if the tests before it pass, and the value list is not n long or the records, merged by pair, are more than the list has room for.
   pub probe-room-when : (probeCall F s t k f u .answer ≡ Refuses Room)
-      ↔ (Ready F s (length f) (length u) × ((length t ≢ variables F) ⊎ (room k < length (allConstraints F s (freeTo s (variables F))))))
+      ↔ (Ready F s (length f) (length u) × ((length t ≢ variables F) ⊎ (room k < length (allRecords F s (freeTo s (variables F))))))
   unfolding probeCall
   probe-room-when = any.room-when F s free t k f u
 
@@ -83,7 +85,7 @@ module _ (F : Field) (s t k : List ℕ) (f : List Float) (u : List ℕ) where
 
   -- ---- done
 
-  -- The call is done exactly if every test passes, and then gives the grade and the number of constraints.
+  -- The call is done exactly if every test passes, and then gives the grade and the number of records.
   pub probe-done-when : (g : Grade) (count : ℕ) → (probeCall F s t k f u .answer ≡ Counts g count) ↔ DoneSays F s (freeTo s (variables F)) t k f u g count
   unfolding probeCall
   probe-done-when = any.done-when F s free t k f u
@@ -93,14 +95,14 @@ module _ (F : Field) (s t k : List ℕ) (f : List Float) (u : List ℕ) where
     unfolding probeCall
     long = call.start F s free t k f u e .long
 
-    -- Then the probe values are in the value list, the constraints at the front of their list, and both scratches are all zeros.
+    -- Then the probe values are in the value list, the records at the front of their list, and both scratches are all zeros.
     pub probe-done-leaves : probeCall F s t k f u
-        ≡ left (Counts g count) (allValues F s (freeTo s (variables F))) (filled (allConstraints F s (freeTo s (variables F))) k) (cleared zero64 f) (cleared 0 u)
+        ≡ left (Counts g count) (allValues F s (freeTo s (variables F))) (filled (allRecords F s (freeTo s (variables F))) k) (cleared zero64 f) (cleared 0 u)
     unfolding probeCall
     probe-done-leaves = any.done-leaves F s free t k f u g count e
 
-    -- The first triples of the list are the constraints, no more and no fewer, and elements past the last of them are unchanged.
-    pub probe-list-holds : listed count (probeCall F s t k f u) ≡ allConstraints F s (freeTo s (variables F))
+    -- The first records of the list are those, no more and no fewer, and elements past the last of them are unchanged.
+    pub probe-list-holds : listed count (probeCall F s t k f u) ≡ allRecords F s (freeTo s (variables F))
     unfolding probeCall
     probe-list-holds = call.list-is F s free t k f u e
 
@@ -108,14 +110,20 @@ module _ (F : Field) (s t k : List ℕ) (f : List Float) (u : List ℕ) where
     unfolding probeCall
     probe-past-unchanged = any.past-unchanged F s free t k f u g count e
 
-    -- On every field a triple is in the list exactly if the executable rule finds it with a free variable; the list is sorted, without repeats.
-    pub probe-list-finds : (x : Triple) → List·Memᴰ x (listed count (probeCall F s t k f u)) ↔ Finds F s (freeTo s (variables F)) x
+    -- On every field a pair is forbidden by the list exactly if the executable rule finds with a free variable a constraint that forbids it;
+    pub probe-list-finds : (i j : ℕ) (p : Pair) → Bans (listed count (probeCall F s t k f u)) i j p ↔ Finds F s (freeTo s (variables F)) i j p
     unfolding probeCall
     probe-list-finds = call.list-finds F s free t k f u e
 
+    -- the list is in rising order, one record for one pair;
     pub probe-list-rising : Rising (listed count (probeCall F s t k f u))
     unfolding probeCall
     probe-list-rising = call.list-rising F s free t k f u e
+
+    -- each record is one that propagation takes.
+    pub probe-list-fits : (r : Record) → List·Memᴰ r (listed count (probeCall F s t k f u)) → Fit (variables F) r
+    unfolding probeCall
+    probe-list-fits = call.list-fits F s free t k f u e are-free
 
     -- On every field a value below 2 stands at j exactly if the greatest free variable that gives j one by the executable rule gives it, and 2 exactly if none does.
     pub probe-value-finds : (j : ℕ) → j < variables F → (w : ℕ) → w < 2
@@ -138,15 +146,32 @@ module _ (F : Field) (s t k : List ℕ) (f : List Float) (u : List ℕ) where
     unfolding probeCall
     probe-start-left-out = call.start-left-out F s free t k f u e
 
-  -- ---- on an exact field, over whole numbers, in every unit that serves
+  -- ---- on an exact field
+
+  -- No record has a set of all four bits.
+  pub probe-no-full-set : {count : ℕ} → probeCall F s t k f u .answer ≡ Counts Exact count → (r : Record) → List·Memᴰ r (listed count (probeCall F s t k f u)) → r .set ≢ 15
+  unfolding probeCall
+  probe-no-full-set e = call.no-full-set F s free t k f u are-free e
+
+  -- ---- over whole numbers, in every unit that serves
 
   module _ {count : ℕ} (e : probeCall F s t k f u .answer ≡ Counts Exact count) {unit : ℕ} (serving : Serves unit F) where
-    -- DEMAND 2. A triple is in the list exactly if the probes of a free variable give it.
-    pub probe-list-exact : (x : Triple) → List·Memᴰ x (listed count (probeCall F s t k f u)) ↔ Given (wholeOf unit F) s (λ i. getD s i 0 ≡ 2) x
+    given-free : {i j : ℕ} {p : Pair} → Given (wholeOf unit F) s (λ i. List·Memᴰ i free) i j p ↔ Given (wholeOf unit F) s (λ i. getD s i 0 ≡ 2) i j p
+    given-free = (given-as are-free, given-as (λ i q. in-free s (variables F) i (omega (arith, inside s i q, long e)) q))
+
+    -- DEMAND 2. A pair is forbidden by the list exactly if the probes of a free variable forbid it.
+    pub probe-list-exact : (i j : ℕ) (p : Pair) → Bans (listed count (probeCall F s t k f u)) i j p ↔ Given (wholeOf unit F) s (λ i. getD s i 0 ≡ 2) i j p
     unfolding probeCall
-    probe-list-exact x =
-        let z = call.list-exact F s free t k f u are-free e serving x in
-        ((λ m. given-as are-free (z .0 m)), λ h. z .1 (given-as (λ i q. in-free s (variables F) i (omega (arith, inside s i q, long e)) q) h))
+    probe-list-exact i j p =
+        let z = call.list-exact F s free t k f u are-free e serving i j p in
+        ((λ m. given-free .0 (z .0 m)), λ h. z .1 (given-free .1 h))
+
+    -- It is the one list of records, rising by pair, that forbids these.
+    pub probe-list-only : (l : List Record) → AllProper l → Rising l → ((i j : ℕ) (p : Pair) → Bans l i j p ↔ Given (wholeOf unit F) s (λ i. getD s i 0 ≡ 2) i j p)
+        → l ≡ listed count (probeCall F s t k f u)
+    unfolding probeCall
+    probe-list-only l a r h =
+        call.list-only F s free t k f u are-free e serving l a r (λ i j p. ((λ m. given-free .1 (h i j p .0 m)), λ g. h i j p .1 (given-free .0 g)))
 
     -- A value below 2 stands at j exactly if the greatest free variable whose two probes give j one value gives it, and 2 exactly if none does.
     pub probe-values-exact : (j : ℕ) → j < variables F → (w : ℕ) → w < 2
@@ -164,12 +189,12 @@ module _ (F : Field) (s t k : List ℕ) (f : List Float) (u : List ℕ) where
         let y = none-free-gives s (variables F) (long e) in
         ((λ q. y .0 (z .0 q)), λ h. z .1 (y .1 h))
 
-    -- DEMAND 3. Every best completion of the start values has every value of the answer, and meets every constraint.
+    -- DEMAND 3. Every best completion of the start values has every value of the answer, and meets every record.
     module _ {x : List ℕ} (best : meaning.Best (wholeOf unit F) s x) where
       pub probe-best-has-values : (j : ℕ) → j < variables F → valueAt j (probeCall F s t k f u) < 2 → getD x j 0 ≡ valueAt j (probeCall F s t k f u)
       unfolding probeCall
       probe-best-has-values = call.best-has-values F s free t k f u are-free e serving best
 
-      pub probe-best-meets-all : (c : Triple) → List·Memᴰ c (listed count (probeCall F s t k f u)) → Meets x (constraintOf c)
+      pub probe-best-meets-all : (r : Record) → List·Memᴰ r (listed count (probeCall F s t k f u)) → MeetsRecord x r
       unfolding probeCall
       probe-best-meets-all = call.best-meets-all F s free t k f u are-free e serving best

@@ -5,6 +5,7 @@ pub mod Answers
 pub mod Demands
 pub mod Members
 pub mod Later
+pub mod Excluded
 pub mod Table
 pub mod Gathered
 pub mod Exact

@@ -1,4 +1,4 @@
--- The ranks are the free variables, so that a limit of at least their number finds the constraints of the full probe. Assumes nothing.
+-- The ranks are the free variables, so that a limit of at least their number finds the records of the full probe. Assumes nothing.
 use Prim.Native.Nat.{ℕ, _≤_}
 use mathlib.Core.Path.{_≡_, refl, ap, _∙_}
 use mathlib.Core.Logic.{⊎-elim}
@@ -17,7 +17,7 @@ use Rattle.field.specs.Tests.{readyTests}
 use Rattle.calls.specs.Call.{run}
 use Rattle.ranking.specs.Ranking.{massOf, ahead, insert, ordered, ranks}
 use Rattle.ranking.proofs.Ordered.{Every, every-from, ordered-every, ordered-length}
-use Rattle.probes.specs.Call.{allConstraints, fits, candidatesCall}
+use Rattle.probes.specs.Call.{allRecords, fits, candidatesCall}
 use Rattle.probes.specs.Says.{SameButValues}
 use Rattle.probes.specs.Standing.{settled}
 use Rattle.probes.proofs.Members.{at-in, every-in}
@@ -57,19 +57,19 @@ module _ (F : Field) (s : List ℕ) where
   unfolding ranks
   ranks-long = ordered-length (ahead (massOf F s)) (freeTo s (variables F))
 
-  -- a limit of at least their number finds the same constraints as the full probe
-  pub limit-all : (limit : ℕ) → length (freeTo s (variables F)) ≤ limit → allConstraints F s (take limit (ranks F s)) ≡ allConstraints F s (freeTo s (variables F))
-  limit-all limit h = ap (allConstraints F s) (take-all limit (ranks F s) (omega (arith, ranks-long, h))) ∙ same-candidates F s (ranks F s) (freeTo s (variables F)) (λ i. (ranks-free i, free-ranks i))
+  -- a limit of at least their number finds the same records as the full probe
+  pub limit-all : (limit : ℕ) → length (freeTo s (variables F)) ≤ limit → allRecords F s (take limit (ranks F s)) ≡ allRecords F s (freeTo s (variables F))
+  limit-all limit h = ap (allRecords F s) (take-all limit (ranks F s) (omega (arith, ranks-long, h))) ∙ same-candidates F s (ranks F s) (freeTo s (variables F)) (λ i. (ranks-free i, free-ranks i))
 
--- calls that find the same constraints agree but for the probe values
-settled-same : (b : Bool) (F : Field) (s cands other t k : List ℕ) (f : List Float) (u : List ℕ) → fits F s other t k ≡ b → allConstraints F s cands ≡ allConstraints F s other
+-- calls that find the same records agree but for the probe values
+settled-same : (b : Bool) (F : Field) (s cands other t k : List ℕ) (f : List Float) (u : List ℕ) → fits F s other t k ≡ b → allRecords F s cands ≡ allRecords F s other
     → SameButValues (settled F s cands t k f u) (settled F s other t k f u)
 unfolding run fits
 settled-same true F s cands other t k f u w e = rw (e, w) (record { answers = refl; lists = refl; both-floats = refl; both-words = refl })
 settled-same false F s cands other t k f u w e = rw (e, w) (record { answers = refl; lists = refl; both-floats = refl; both-words = refl })
 
 pub calls-same : (x : Checked) (F : Field) (s cands other t k : List ℕ) (f : List Float) (u : List ℕ) → x ≡ tested (readyTests F s (length f) (length u))
-    → allConstraints F s cands ≡ allConstraints F s other → SameButValues (candidatesCall F s cands t k f u) (candidatesCall F s other t k f u)
+    → allRecords F s cands ≡ allRecords F s other → SameButValues (candidatesCall F s cands t k f u) (candidatesCall F s other t k f u)
 calls-same Passed F s cands other t k f u is e =
     rw (← settled-call F s cands t k f u is refl refl, ← settled-call F s other t k f u is refl refl) (settled-same (fits F s other t k) F s cands other t k f u refl e)
 calls-same (Failed r) F s cands other t k f u is e =

@@ -1,6 +1,6 @@
 -- What `probe_limited` promises: the three demands over `probeLimitedCall`, as FullCall has them over `probeCall`, and the limit. Assumes nothing.
 use Prim.Native.Nat.{ℕ, _*_, _<_, _≤_}
-use mathlib.Core.Path.{_≡_, refl, sym, ap, _∙_, subst}
+use mathlib.Core.Path.{_≡_, refl, sym, ap, _∙_}
 use mathlib.Core.Logic.{_≢_, _↔_, _⊎_}
 use mathlib.Core.List.{List, [], List·Memᴰ}
 use native.Mathlib.Omega.{arith}
@@ -10,10 +10,12 @@ use Rattle.weights.specs.Worth.{zero64}
 use Rattle.scratch.specs.Cleared.{cleared}
 use Rattle.meaning.specs.Field as meaning
 use Rattle.meaning.specs.Free.{freeTo}
-use Rattle.meaning.specs.Kinds.{Meets}
-use Rattle.constraints.specs.Triple.{Triple, room, filled, constraintOf}
-use Rattle.constraints.specs.Sorted.{Rising, sortedSet}
-use Rattle.constraints.proofs.Triples.{filled-none}
+use Rattle.meaning.specs.Kinds.{Pair}
+use Rattle.meaning.specs.Records.{Record, AllProper, MeetsRecord, Bans, Covered}
+use Rattle.meaning.specs.Rising.{Rising, mergedList}
+use Rattle.meaning.proofs.Rising.{holder}
+use Rattle.constraints.specs.Record.{room, filled, Fit}
+use Rattle.constraints.proofs.Records.{filled-none}
 use Rattle.field.specs.declared.Counted.the-variants.{Counts, Refuses}
 use Rattle.field.specs.declared.Grade.{Grade}
 use Rattle.field.specs.declared.Grade.the-variants.{Exact}
@@ -29,10 +31,10 @@ use Rattle.ranking.specs.Rightly.{RightlyRanked}
 use Rattle.ranking.specs.EdgeMass.{RankedByMass}
 use Rattle.ranking.proofs.Theorems.{ranks-only}
 use Rattle.ranking.proofs.ExactMass.{ranks-exact}
-use Rattle.finding.specs.Finds.{constraintsOf, valuesOf}
-use Rattle.probes.specs.Call.{allConstraints, allValues, Left, left, candidatesTable, probeCall, probeLimitedCall}
+use Rattle.finding.specs.Finds.{recordsOf, valuesOf}
+use Rattle.probes.specs.Call.{allRecords, allValues, Left, left, candidatesTable, probeCall, probeLimitedCall}
 use Rattle.probes.specs.Rule.{FreeCandidates, Given, GivesValue, Finds, FindsValue, LastGives, NoneGives}
-use Rattle.probes.specs.Says.{listed, valueAt, DoneSays, SameButValues}
+use Rattle.probes.specs.Says.{listed, valueAt, DoneSays, SameButValues, KeptIn}
 use Rattle.probes.proofs.Demands as any
 use Rattle.probes.proofs.Calls as call
 use Rattle.probes.proofs.Candidates.{limited-free, larger-finds}
@@ -63,9 +65,9 @@ module _ (F : Field) (s : List ℕ) (limit : ℕ) (t k : List ℕ) (f : List Flo
   unfolding probeLimitedCall
   limited-refused-leaves = any.refused-leaves F s chosen t k f u
 
-  -- 9 is given exactly if the tests before it pass, and the value list is not n long or more constraints are found, without repeats, than the list has room for.
+  -- 9 is given exactly if the tests before it pass, and the value list is not n long or the records, merged by pair, are more than the list has room for.
   pub limited-room-when : (probeLimitedCall F s limit t k f u .answer ≡ Refuses Room)
-      ↔ (Ready F s (length f) (length u) × ((length t ≢ variables F) ⊎ (room k < length (allConstraints F s (take limit (ranks F s))))))
+      ↔ (Ready F s (length f) (length u) × ((length t ≢ variables F) ⊎ (room k < length (allRecords F s (take limit (ranks F s))))))
   unfolding probeLimitedCall
   limited-room-when = any.room-when F s chosen t k f u
 
@@ -77,20 +79,20 @@ module _ (F : Field) (s : List ℕ) (limit : ℕ) (t k : List ℕ) (f : List Flo
 
   -- ---- done
 
-  -- The call is done exactly if every test passes, and then gives the grade and the number of constraints.
+  -- The call is done exactly if every test passes, and then gives the grade and the number of records.
   pub limited-done-when : (g : Grade) (count : ℕ) → (probeLimitedCall F s limit t k f u .answer ≡ Counts g count) ↔ DoneSays F s (take limit (ranks F s)) t k f u g count
   unfolding probeLimitedCall
   limited-done-when = any.done-when F s chosen t k f u
 
   module _ {g : Grade} {count : ℕ} (e : probeLimitedCall F s limit t k f u .answer ≡ Counts g count) where
-    -- Then the probe values are in the value list, the constraints at the front of their list, and both scratches are all zeros.
+    -- Then the probe values are in the value list, the records at the front of their list, and both scratches are all zeros.
     pub limited-done-leaves : probeLimitedCall F s limit t k f u
-        ≡ left (Counts g count) (allValues F s (take limit (ranks F s))) (filled (allConstraints F s (take limit (ranks F s))) k) (cleared zero64 f) (cleared 0 u)
+        ≡ left (Counts g count) (allValues F s (take limit (ranks F s))) (filled (allRecords F s (take limit (ranks F s))) k) (cleared zero64 f) (cleared 0 u)
     unfolding probeLimitedCall
     limited-done-leaves = any.done-leaves F s chosen t k f u g count e
 
-    -- The first triples of the list are the constraints, no more and no fewer, and elements past the last of them are unchanged.
-    pub limited-list-holds : listed count (probeLimitedCall F s limit t k f u) ≡ allConstraints F s (take limit (ranks F s))
+    -- The first records of the list are those, no more and no fewer, and elements past the last of them are unchanged.
+    pub limited-list-holds : listed count (probeLimitedCall F s limit t k f u) ≡ allRecords F s (take limit (ranks F s))
     unfolding probeLimitedCall
     limited-list-holds = call.list-is F s chosen t k f u e
 
@@ -98,9 +100,15 @@ module _ (F : Field) (s : List ℕ) (limit : ℕ) (t k : List ℕ) (f : List Flo
     unfolding probeLimitedCall
     limited-past-unchanged = any.past-unchanged F s chosen t k f u g count e
 
+    -- The list is in rising order, one record for one pair;
     pub limited-list-rising : Rising (listed count (probeLimitedCall F s limit t k f u))
     unfolding probeLimitedCall
     limited-list-rising = call.list-rising F s chosen t k f u e
+
+    -- each record is one that propagation takes.
+    pub limited-list-fits : (r : Record) → List·Memᴰ r (listed count (probeLimitedCall F s limit t k f u)) → Fit (variables F) r
+    unfolding probeLimitedCall
+    limited-list-fits = call.list-fits F s chosen t k f u e are-free
 
     -- "without the start values"
     pub limited-start-left-out : (j : ℕ) → j < variables F → getD s j 0 ≢ 2 → valueAt j (probeLimitedCall F s limit t k f u) ≡ 2
@@ -113,10 +121,10 @@ module _ (F : Field) (s : List ℕ) (limit : ℕ) (t k : List ℕ) (f : List Flo
       unfolding probeLimitedCall
       front-is = ap (take limit) (ranks-only F s (call.finite-weights F s chosen t k f u e) L ranked)
 
-      -- a triple is in the list exactly if the executable rule finds it with one of the first `limit` of them;
-      pub limited-list-finds : (x : Triple) → List·Memᴰ x (listed count (probeLimitedCall F s limit t k f u)) ↔ Finds F s (take limit L) x
+      -- a pair is forbidden by the list exactly if the executable rule finds with one of the first `limit` of them a constraint that forbids it;
+      pub limited-list-finds : (i j : ℕ) (p : Pair) → Bans (listed count (probeLimitedCall F s limit t k f u)) i j p ↔ Finds F s (take limit L) i j p
       unfolding probeLimitedCall
-      limited-list-finds x = rw front-is (call.list-finds F s chosen t k f u e x)
+      limited-list-finds i j p = rw front-is (call.list-finds F s chosen t k f u e i j p)
 
       -- a value below 2 stands at j exactly if the last of these that gives j one by the executable rule gives it, and 2 exactly if none does.
       pub limited-value-finds : (j : ℕ) → j < variables F → (w : ℕ) → w < 2
@@ -129,7 +137,15 @@ module _ (F : Field) (s : List ℕ) (limit : ℕ) (t k : List ℕ) (f : List Flo
       unfolding probeLimitedCall
       limited-none-finds j below = rw front-is (call.none-finds F s chosen t k f u e j below)
 
-  -- ---- on an exact field, over whole numbers, in every unit that serves
+  -- ---- on an exact field
+
+  -- No record has a set of all four bits.
+  pub limited-no-full-set : {count : ℕ} → probeLimitedCall F s limit t k f u .answer ≡ Counts Exact count
+      → (r : Record) → List·Memᴰ r (listed count (probeLimitedCall F s limit t k f u)) → r .set ≢ 15
+  unfolding probeLimitedCall
+  limited-no-full-set e = call.no-full-set F s chosen t k f u are-free e
+
+  -- ---- over whole numbers, in every unit that serves
 
   module _ {count : ℕ} (e : probeLimitedCall F s limit t k f u .answer ≡ Counts Exact count) {unit : ℕ} (serving : Serves unit F) where
     -- A list is ranked by edge mass exactly if it is the ranks.
@@ -147,10 +163,16 @@ module _ (F : Field) (s : List ℕ) (limit : ℕ) (t k : List ℕ) (f : List Flo
       first-is : take limit L ≡ chosen
       first-is = ap (take limit) (by-mass L .1 ranked)
 
-      -- DEMAND 2. A triple is in the list exactly if the probes of one of the first `limit` of them give it.
-      pub limited-list-exact : (x : Triple) → List·Memᴰ x (listed count (probeLimitedCall F s limit t k f u)) ↔ Given (wholeOf unit F) s (λ i. List·Memᴰ i (take limit L)) x
+      -- DEMAND 2. A pair is forbidden by the list exactly if the probes of one of the first `limit` of them forbid it.
+      pub limited-list-exact : (i j : ℕ) (p : Pair) → Bans (listed count (probeLimitedCall F s limit t k f u)) i j p ↔ Given (wholeOf unit F) s (λ i. List·Memᴰ i (take limit L)) i j p
       unfolding probeLimitedCall
-      limited-list-exact x = rw first-is (call.list-exact F s chosen t k f u are-free e serving x)
+      limited-list-exact i j p = rw first-is (call.list-exact F s chosen t k f u are-free e serving i j p)
+
+      -- It is the one list of records, rising by pair, that forbids these.
+      pub limited-list-only : (l : List Record) → AllProper l → Rising l
+          → ((i j : ℕ) (p : Pair) → Bans l i j p ↔ Given (wholeOf unit F) s (λ i. List·Memᴰ i (take limit L)) i j p) → l ≡ listed count (probeLimitedCall F s limit t k f u)
+      unfolding probeLimitedCall
+      limited-list-only l a r h = call.list-only F s chosen t k f u are-free e serving l a r (λ i j p. rw first-is at (h i j p))
 
       -- A value below 2 stands at j exactly if the last of these whose two probes give j one value gives it, and 2 exactly if none does.
       pub limited-values-exact : (j : ℕ) → j < variables F → (w : ℕ) → w < 2
@@ -163,33 +185,37 @@ module _ (F : Field) (s : List ℕ) (limit : ℕ) (t k : List ℕ) (f : List Flo
       unfolding probeLimitedCall
       limited-none-exact j below = rw first-is (call.none-exact F s chosen t k f u are-free e serving j below)
 
-    -- DEMAND 3. Every best completion of the start values has every value of the answer, and meets every constraint.
+    -- DEMAND 3. Every best completion of the start values has every value of the answer, and meets every record.
     module _ {x : List ℕ} (best : meaning.Best (wholeOf unit F) s x) where
       pub limited-best-has-values : (j : ℕ) → j < variables F → valueAt j (probeLimitedCall F s limit t k f u) < 2 → getD x j 0 ≡ valueAt j (probeLimitedCall F s limit t k f u)
       unfolding probeLimitedCall
       limited-best-has-values = call.best-has-values F s chosen t k f u are-free e serving best
 
-      pub limited-best-meets-all : (c : Triple) → List·Memᴰ c (listed count (probeLimitedCall F s limit t k f u)) → Meets x (constraintOf c)
+      pub limited-best-meets-all : (r : Record) → List·Memᴰ r (listed count (probeLimitedCall F s limit t k f u)) → MeetsRecord x r
       unfolding probeLimitedCall
       limited-best-meets-all = call.best-meets-all F s chosen t k f u are-free e serving best
 
 -- ---- the limit
 
--- "A limit of 0 gives empty lists": no constraint, every probe value 2, and the list of constraints as it was.
+-- "A limit of 0 gives empty lists": no record, every probe value 2, and the list of constraints as it was.
 pub limit-none : (F : Field) (s t k : List ℕ) (f : List Float) (u : List ℕ) → Ready F s (length f) (length u) → length t ≡ variables F
     → probeLimitedCall F s 0 t k f u ≡ left (Counts (gradeOf F) 0) (replicate (variables F) 2) k (cleared zero64 f) (cleared 0 u)
-unfolding probeLimitedCall allConstraints constraintsOf sortedSet allValues valuesOf
+unfolding probeLimitedCall allRecords recordsOf mergedList allValues valuesOf
 limit-none F s t k f u ready long =
     let done = any.done-when F s [] t k f u (gradeOf F) 0 .1 (record { ready = ready; values-long = long; enough = omega arith; graded = refl; counted = refl }) in
     any.done-leaves F s [] t k f u (gradeOf F) 0 done ∙ ap (λ (z : List ℕ). left (Counts (gradeOf F) 0) (replicate (variables F) 2) z (cleared zero64 f) (cleared 0 u)) (filled-none k)
 
--- A larger limit finds every constraint that a smaller one finds, where both are done.
+-- A larger limit keeps or enlarges each record, where both are done.
 pub larger-limit : (F : Field) (s : List ℕ) (limit more : ℕ) → limit ≤ more
     → (t k : List ℕ) (f : List Float) (u t′ k′ : List ℕ) (f′ : List Float) (u′ : List ℕ) {g g′ : Grade} {count count′ : ℕ}
     → probeLimitedCall F s limit t k f u .answer ≡ Counts g count → probeLimitedCall F s more t′ k′ f′ u′ .answer ≡ Counts g′ count′
-    → (x : Triple) → List·Memᴰ x (listed count (probeLimitedCall F s limit t k f u)) → List·Memᴰ x (listed count′ (probeLimitedCall F s more t′ k′ f′ u′))
-larger-limit F s limit more h t k f u t′ k′ f′ u′ e e′ x m =
-    rw (limited-list-holds F s more t′ k′ f′ u′ e′) (larger-finds F s limit more h x (rw (limited-list-holds F s limit t k f u e) at m))
+    → (r : Record) → List·Memᴰ r (listed count (probeLimitedCall F s limit t k f u)) → KeptIn (listed count′ (probeLimitedCall F s more t′ k′ f′ u′)) r
+larger-limit F s limit more h t k f u t′ k′ f′ u′ {count = count} {count′ = count′} e e′ r m =
+    let a = listed count (probeLimitedCall F s limit t k f u) in
+    let b = listed count′ (probeLimitedCall F s more t′ k′ f′ u′) in
+    let covered : Covered a b = rw (limited-list-holds F s limit t k f u e, limited-list-holds F s more t′ k′ f′ u′ e′) (larger-finds F s limit more h) in
+    let z = holder (λ x n. limited-list-fits F s limit t k f u e x n .proper) (limited-list-rising F s more t′ k′ f′ u′ e′) covered m in
+    record { by = z .by; among = z .among; same-lower = z .on .lower; same-higher = z .on .higher; pairs = z .pairs }
 
 -- With a limit of at least the number of free variables the limited call answers and leaves what the full one does, but for the probe values.
 pub limited-as-full : (F : Field) (s : List ℕ) (limit : ℕ) (t k : List ℕ) (f : List Float) (u : List ℕ) → length (freeTo s (variables F)) ≤ limit

@@ -8,7 +8,7 @@ use lib.ListN.{length, getD, replicate}
 use lib.Seq.{ext-getD}
 use Rattle.scratch.specs.Region.{region}
 use Rattle.scratch.proofs.Region.{length-region, region-at}
-use Rattle.constraints.specs.Triple.{room, filled}
+use Rattle.constraints.specs.Record.{room, filled}
 use Rattle.found.specs.declared.Merged.{Merged}
 use Rattle.found.specs.declared.Merged.the-variants.{Holds, Full}
 use Rattle.field.specs.Field.{Field, variables}
@@ -20,7 +20,7 @@ use Rattle.twin.specs.Twin.{firstAt, valuesAt}
 use Rattle.twin.proofs.Framed.{remembers-front}
 use Rattle.walking.specs.Walk.{candidatesAt, Walkable, Walked, holds, full}
 use Rattle.walking.proofs.Turned.{values-long}
-use Rattle.probes.specs.Call.{allConstraints, allValues}
+use Rattle.probes.specs.Call.{allRecords, allValues}
 use Rattle.probes.specs.Standing.{Noned, Bytes, Standing}
 
 clash : {A : Type 0} → _≡_ {A = ℕ} 0 1 → A
@@ -97,19 +97,19 @@ module _ {F : Field} {s : List ℕ} {f : List Float} {u u′ : List ℕ} {many c
 
 -- what is held where there was room
 pub record AllHeld (F : Field) (s cands list₀ : List ℕ) (held : ℕ) (list u : List ℕ) : Type 0 where
-  pub count : held ≡ length (allConstraints F s cands)
-  pub fits : length (allConstraints F s cands) ≤ room list₀
-  pub list-is : list ≡ filled (allConstraints F s cands) list₀
+  pub count : held ≡ length (allRecords F s cands)
+  pub fits : length (allRecords F s cands) ≤ room list₀
+  pub list-is : list ≡ filled (allRecords F s cands) list₀
   pub values-are : region (valuesAt F) (variables F) u ≡ allValues F s cands
 
 module _ (F : Field) (s cands list₀ list u : List ℕ) where
   pub all-held : {r : Merged} {held : ℕ} → Walked F s cands list₀ r list u → r ≡ Holds held → AllHeld F s cands list₀ held list u
-  unfolding allConstraints allValues
+  unfolding allRecords allValues
   all-held (holds fits list values) e = record { count = cc; fits = fits; list-is = list; values-are = values }
   all-held (full more) e = clash (cc)
 
-  pub none-held : {r : Merged} → Walked F s cands list₀ r list u → r ≡ Full → room list₀ < length (allConstraints F s cands)
-  unfolding allConstraints
+  pub none-held : {r : Merged} → Walked F s cands list₀ r list u → r ≡ Full → room list₀ < length (allRecords F s cands)
+  unfolding allRecords
   none-held (holds fits list values) e = clash (cc)
   none-held (full more) e = more
 

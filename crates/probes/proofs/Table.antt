@@ -1,23 +1,23 @@
 -- What is found of a variable: by document 01's table, of a free variable other than the probed one. Assumes nothing.
 use Prim.Native.Nat.{ℕ, zero, suc, _<_, _≤_}
-use mathlib.Core.Path.{_≡_, refl, sym, _∙_, subst}
-use mathlib.Core.Logic.{_≢_, _⊎_, inl, inr}
+use mathlib.Core.Path.{_≡_, refl, sym, _∙_, ap}
+use mathlib.Core.Logic.{_≢_}
 use mathlib.Core.Bool.{Bool, true, false, cond}
 use mathlib.Core.List.{List}
 use native.Mathlib.Omega.{arith}
 use native.Mathlib.Decide.{ℕ-discrete}
 use borrow.Author.Tests.{eq-eqb, ne-eqb}
-use lib.Dec.{eqb, leb}
+use lib.Dec.{eqb}
 use lib.ListN.{getD, set}
-use Rattle.meaning.specs.Kinds.{Kind, at-least-one, exactly-one, no-more-than-one, greater-than, less-than, equal, Constraint}
+use Rattle.meaning.specs.Kinds.{Kind, at-least-one, exactly-one, no-more-than-one, greater-than, less-than, equal, Constraint, joining}
 use Rattle.meaning.specs.Probe.{Found, both-equal, both-differ, zero-gives-0, zero-gives-1, one-gives-0, one-gives-1}
 use Rattle.field.specs.Field.{Field}
 use Rattle.run.specs.Run.{closure}
 use Rattle.probe.specs.Call.{newAt}
-use Rattle.probe.specs.Found.{Finding, nothing, value, constraint, joining, between, found}
+use Rattle.probe.specs.Found.{Finding, nothing, value, constraint, found}
 use Rattle.probe.proofs.Found.{none-constraint}
 use Rattle.finding.specs.Finds.{givesAt, findingOf, finding}
-use Rattle.probes.specs.Rule.{ordered, Tabled}
+use Rattle.probes.specs.Rule.{Tabled}
 
 -- ---- the executable table is document 01's
 
@@ -39,7 +39,7 @@ tabled i j (suc (suc a)) zero l m e = let z : suc (suc a) ≡ 2 = omega arith in
 tabled i j (suc (suc a)) (suc zero) l m e = let z : suc (suc a) ≡ 2 = omega arith in record { kind = less-than; finds = rw z one-gives-1; is = sym (same-constraint e) }
 tabled i j (suc (suc a)) (suc (suc b)) l m e = none-constraint e
 
-pub table-finds : (i j : ℕ) {a b : ℕ} {k : Kind} → Found a b k → found i j a b ≡ constraint (ordered k i j)
+pub table-finds : (i j : ℕ) {a b : ℕ} {k : Kind} → Found a b k → found i j a b ≡ constraint (joining k i j)
 unfolding found
 table-finds i j both-equal = refl
 table-finds i j both-differ = refl
@@ -92,26 +92,20 @@ looked F s i j {d} some e = go (ℕ-discrete i j) (ℕ-discrete (getD s j 0) 2)
 -- ---- its ends are the two variables
 
 pub record Between (i j : ℕ) (c : Constraint) : Type 0 where
-  pub ends : ((c .first ≡ i) × (c .second ≡ j)) ⊎ ((c .first ≡ j) × (c .second ≡ i))
+  pub from : c .first ≡ i
+  pub to : c .second ≡ j
 
-lesser : (k : Kind) (i j : ℕ) → Between i j (between k i j)
-lesser k i j = go (leb i j)
-  where
-    go : (b : Bool) → Between i j (cond b (joining k i j) (joining k j i))
-    go true = record { ends = inl (refl, refl) }
-    go false = record { ends = inr (refl, refl) }
-
-turn-between : {i j : ℕ} {c d : Constraint} → constraint c ≡ constraint d → Between i j c → Between i j d
-turn-between {i} {j} e b = subst (Between i j) (same-constraint e) b
+joins : {i j : ℕ} (k : Kind) {c : Constraint} → constraint (joining k i j) ≡ constraint c → Between i j c
+joins k e = let q = sym (same-constraint e) in record { from = ap (λ (c : Constraint). c .first) q; to = ap (λ (c : Constraint). c .second) q }
 
 pub found-between : (i j a b : ℕ) {c : Constraint} → found i j a b ≡ constraint c → Between i j c
 unfolding found
 found-between i j zero zero e = value-constraint e
-found-between i j zero (suc zero) e = turn-between e (lesser equal i j)
-found-between i j zero (suc (suc b)) e = turn-between e (record { ends = inl (refl, refl) })
-found-between i j (suc zero) zero e = turn-between e (lesser exactly-one i j)
+found-between i j zero (suc zero) e = joins equal e
+found-between i j zero (suc (suc b)) e = joins greater-than e
+found-between i j (suc zero) zero e = joins exactly-one e
 found-between i j (suc zero) (suc zero) e = value-constraint e
-found-between i j (suc zero) (suc (suc b)) e = turn-between e (lesser at-least-one i j)
-found-between i j (suc (suc a)) zero e = turn-between e (lesser no-more-than-one i j)
-found-between i j (suc (suc a)) (suc zero) e = turn-between e (record { ends = inl (refl, refl) })
+found-between i j (suc zero) (suc (suc b)) e = joins at-least-one e
+found-between i j (suc (suc a)) zero e = joins no-more-than-one e
+found-between i j (suc (suc a)) (suc zero) e = joins less-than e
 found-between i j (suc (suc a)) (suc (suc b)) e = none-constraint e

@@ -8,8 +8,9 @@ use lib.Ieee.{Float}
 use Rattle.weights.specs.Worth.{zero64}
 use Rattle.scratch.specs.Cleared.{cleared}
 use Rattle.meaning.specs.Free.{freeTo}
-use Rattle.constraints.specs.Triple.{Triple, room, filled}
-use Rattle.constraints.specs.Sorted.{sortedSet}
+use Rattle.meaning.specs.Records.{Record}
+use Rattle.meaning.specs.Rising.{mergedList}
+use Rattle.constraints.specs.Record.{room, filled}
 use Rattle.field.specs.declared.Counted.{Counted}
 use Rattle.field.specs.declared.Counted.the-variants.{Counts, Refuses}
 use Rattle.field.specs.declared.Refusal.the-variants.{Room}
@@ -20,13 +21,13 @@ use Rattle.field.specs.Grade.{gradeOf}
 use Rattle.calls.specs.Call as any
 use Rattle.calls.specs.Call.{Stage, stage, called, usual}
 use Rattle.ranking.specs.Ranking.{ranks}
-use Rattle.finding.specs.Finds.{constraintsOf, valuesOf}
+use Rattle.finding.specs.Finds.{recordsOf, valuesOf}
 
 -- ---- what the candidates find
 
--- "Constraints come sorted and without repeats"
-unfoldable pub allConstraints : Field → List ℕ → List ℕ → List Triple
-allConstraints F s cands = sortedSet (constraintsOf F s cands (length cands))
+-- "lists are merged by pair", and rise by it
+unfoldable pub allRecords : Field → List ℕ → List ℕ → List Record
+allRecords F s cands = mergedList (recordsOf F s cands (length cands))
 
 -- "where two candidates give one variable a value, the later one wins"
 unfoldable pub allValues : Field → List ℕ → List ℕ → List ℕ
@@ -53,7 +54,7 @@ left r t k f u = any.left r (lent t k f u)
 
 -- "9 is given exactly if a full answer has more items than its list has room for, or the probe value list is not n long"
 unfoldable pub fits : Field → List ℕ → List ℕ → List ℕ → List ℕ → Bool
-fits F s cands t k = eqb (length t) (variables F) && leb (length (allConstraints F s cands)) (room k)
+fits F s cands t k = eqb (length t) (variables F) && leb (length (allRecords F s cands)) (room k)
 
 -- tests 1 to 6 and 8, then 9
 unfoldable pub candidatesTable : Field → List ℕ → List ℕ → List ℕ → List ℕ → ℕ → ℕ → List Test
@@ -66,7 +67,7 @@ later F s cands t k f u = stage Room (fits F s cands t k) (lent (cleared 0 t) (c
 -- "On success, elements past an answer list's last item are unchanged"; "After passing 8, scratch ends as all zeros"
 abbrev pub result : Field → List ℕ → List ℕ → List ℕ → List Float → List ℕ → Left
 result F s cands k f u =
-    left (Counts (gradeOf F) (length (allConstraints F s cands))) (allValues F s cands) (filled (allConstraints F s cands) k) (cleared zero64 f) (cleared 0 u)
+    left (Counts (gradeOf F) (length (allRecords F s cands))) (allValues F s cands) (filled (allRecords F s cands) k) (cleared zero64 f) (cleared 0 u)
 
 -- the call over any list of candidates
 unfoldable pub candidatesCall : Field → List ℕ → List ℕ → List ℕ → List ℕ → List Float → List ℕ → Left

@@ -1,35 +1,26 @@
 -- What the lists of the probe calls mean (document 01, "Probe"), over whole numbers, and over the floats of any field. Assumes nothing.
-use Prim.Native.Nat.{ℕ, _<_, _≤_}
+use Prim.Native.Nat.{ℕ, _<_}
 use mathlib.Core.Path.{_≡_}
 use mathlib.Core.Logic.{_≢_}
 use mathlib.Core.List.{List, List·Memᴰ}
 use lib.ListN.{getD}
 use Rattle.meaning.specs.Field as meaning
-use Rattle.meaning.specs.Kinds.{Kind, at-least-one, exactly-one, no-more-than-one, greater-than, less-than, equal, Constraint}
+use Rattle.meaning.specs.Kinds.{Kind, Pair, Constraint, joining}
+use Rattle.meaning.specs.Records.{Excludes}
 use Rattle.meaning.specs.Probe.{Probed, Found}
-use Rattle.constraints.specs.Triple.{Triple}
 use Rattle.field.specs.Field.{Field, variables}
-use Rattle.probe.specs.Found.{value, constraint, joining, between}
-use Rattle.finding.specs.Finds.{tripleOf, finding}
+use Rattle.probe.specs.Found.{value, constraint}
+use Rattle.finding.specs.Finds.{finding}
 
 -- every candidate is free
 abbrev pub FreeCandidates : List ℕ → List ℕ → Type 0
 FreeCandidates s cands = (i : ℕ) → List·Memᴰ i cands → getD s i 0 ≡ 2
 
--- the ends of a constraint as the source passes them: the lesser first, but the probed one first where the kind tells the ends apart
-abbrev pub ordered : Kind → ℕ → ℕ → Constraint
-ordered at-least-one i j = between at-least-one i j
-ordered exactly-one i j = between exactly-one i j
-ordered no-more-than-one i j = between no-more-than-one i j
-ordered greater-than i j = joining greater-than i j
-ordered less-than i j = joining less-than i j
-ordered equal i j = between equal i j
-
--- c is the constraint of a kind of the table, with the ends in the source's order, where the probes of i give j a and b
+-- c is the constraint of a kind of the table, where the probes of i give j a and b
 pub record Tabled (i j a b : ℕ) (c : Constraint) : Type 0 where
   pub kind : Kind
   pub finds : Found a b kind
-  pub is : c ≡ ordered kind i j
+  pub is : c ≡ joining kind i j
 
 -- ---- over whole numbers
 
@@ -45,8 +36,9 @@ pub record BothGive (G : meaning.Field) (s : List ℕ) (i j a b : ℕ) : Type 0 
   pub gives₀ : getD closed₀ j 0 ≡ a
   pub gives₁ : getD closed₁ j 0 ≡ b
 
--- x is the constraint that the probes of a candidate find with another variable, where C says what a candidate is
-pub record Given (G : meaning.Field) (s : List ℕ) (C : ℕ → Type 0) (x : Triple) : Type 0 where
+-- the constraint that the probes of a candidate find with another variable forbids that i and j, the lower first, have the values p, where C
+-- says what a candidate is
+pub record Given (G : meaning.Field) (s : List ℕ) (C : ℕ → Type 0) (i j : ℕ) (p : Pair) : Type 0 where
   pub candidate : ℕ
   pub chosen : C candidate
   pub variable : ℕ
@@ -55,7 +47,8 @@ pub record Given (G : meaning.Field) (s : List ℕ) (C : ℕ → Type 0) (x : Tr
   pub both : BothGive G s candidate variable at-zero at-one
   pub kind : Kind
   pub finds : Found at-zero at-one kind
-  pub is : x ≡ tripleOf (ordered kind candidate variable)
+  pub order : i < j
+  pub excludes : Excludes (joining kind candidate variable) i (p .first) j (p .second)
 
 -- "If both probes of i give j, a variable other than i, the same value, that is a probe value"
 pub record GivesValue (G : meaning.Field) (s : List ℕ) (i j w : ℕ) : Type 0 where
@@ -64,26 +57,20 @@ pub record GivesValue (G : meaning.Field) (s : List ℕ) (i j w : ℕ) : Type 0 
 
 -- ---- over the floats of any field
 
--- x is a constraint that the executable rule finds
-pub record Finds (F : Field) (s cands : List ℕ) (x : Triple) : Type 0 where
+-- a constraint that the executable rule finds forbids that i and j, the lower first, have the values p
+pub record Finds (F : Field) (s cands : List ℕ) (i j : ℕ) (p : Pair) : Type 0 where
   pub candidate : ℕ
   pub chosen : List·Memᴰ candidate cands
   pub variable : ℕ
   pub below : variable < variables F
   pub said : Constraint
   pub finds : finding F s candidate variable ≡ constraint said
-  pub is : x ≡ tripleOf said
+  pub order : i < j
+  pub excludes : Excludes said i (p .first) j (p .second)
 
 -- i gives j the value w by the executable rule
 abbrev pub FindsValue : Field → List ℕ → ℕ → ℕ → ℕ → Type 0
 FindsValue F s i j w = finding F s i j ≡ value w
-
--- not "kind above 5, equal ends, or an end not below n", as propagation asks of each constraint
-pub record Proper (n : ℕ) (x : Triple) : Type 0 where
-  pub known : x .code ≤ 5
-  pub apart : x .first ≢ x .second
-  pub first-below : x .first < n
-  pub second-below : x .second < n
 
 -- ---- the later one wins
 

@@ -1,19 +1,21 @@
 -- What an answer of the probe calls says, and how what they leave is read. Assumes nothing.
 use Prim.Native.Nat.{ℕ, _≤_}
 use mathlib.Core.Path.{_≡_}
-use mathlib.Core.List.{List}
+use mathlib.Core.List.{List, List·Memᴰ}
 use lib.ListN.{length, getD, take}
 use lib.Ieee.{Float}
-use Rattle.constraints.specs.Triple.{Triple, room, triples}
+use Rattle.meaning.specs.Kinds.{Pair}
+use Rattle.meaning.specs.Records.{Record, pairsIn}
+use Rattle.constraints.specs.Record.{room, records}
 use Rattle.field.specs.declared.Grade.{Grade}
 use Rattle.field.specs.Field.{Field, variables}
 use Rattle.field.specs.Tests.{Ready}
 use Rattle.field.specs.Grade.{gradeOf}
-use Rattle.probes.specs.Call.{allConstraints, Left}
+use Rattle.probes.specs.Call.{allRecords, Left}
 
--- the first `items` constraints of the list that a call leaves
-abbrev pub listed : ℕ → Left → List Triple
-listed items x = take items (triples (x .lent .constraints))
+-- the first `items` records of the list that a call leaves
+abbrev pub listed : ℕ → Left → List Record
+listed items x = take items (records (x .lent .constraints))
 
 -- the value for j that it leaves
 abbrev pub valueAt : ℕ → Left → ℕ
@@ -23,9 +25,9 @@ valueAt j x = getD (x .lent .values) j 0
 pub record DoneSays (F : Field) (s cands t k : List ℕ) (f : List Float) (u : List ℕ) (g : Grade) (items : ℕ) : Type 0 where
   pub ready : Ready F s (length f) (length u)
   pub values-long : length t ≡ variables F
-  pub enough : length (allConstraints F s cands) ≤ room k
+  pub enough : length (allRecords F s cands) ≤ room k
   pub graded : g ≡ gradeOf F
-  pub counted : items ≡ length (allConstraints F s cands)
+  pub counted : items ≡ length (allRecords F s cands)
 
 -- two results agree but for the probe values, where the later of two candidates wins
 pub record SameButValues (x y : Left) : Type 0 where
@@ -33,3 +35,11 @@ pub record SameButValues (x y : Left) : Type 0 where
   pub lists : x .lent .constraints ≡ y .lent .constraints
   pub both-floats : x .lent .floats ≡ y .lent .floats
   pub both-words : x .lent .words ≡ y .lent .words
+
+-- "keeps or enlarges each record": a record of l on the variables of x forbids every pair that x forbids
+pub record KeptIn (l : List Record) (x : Record) : Type 0 where
+  pub by : Record
+  pub among : List·Memᴰ by l
+  pub same-lower : x .lower ≡ by .lower
+  pub same-higher : x .higher ≡ by .higher
+  pub pairs : (p : Pair) → List·Memᴰ p (pairsIn (x .set)) → List·Memᴰ p (pairsIn (by .set))

@@ -9,28 +9,29 @@ use native.Mathlib.Omega.{arith}
 use native.Mathlib.Decide.{decLt}
 use lib.Dec.{leb}
 use lib.ListN.{length, getD, List·getD-eq-default}
-use Rattle.scratch.proofs.Means.{lt-is, le-is, eq-is, ne-is, both-is, every-is}
+use Rattle.scratch.proofs.Means.{lt-is, le-is, eq-is, both-is, every-is}
 use Rattle.field.specs.declared.Checked.the-variants.{Passed}
 use Rattle.field.specs.declared.Refusal.the-variants.{Variables, Start, Argument, Scratch}
 use Rattle.field.specs.Table.{tested}
 use Rattle.field.specs.Tests.{bytesSmall, fewVariables, startFits, wordsFit}
 use Rattle.field.proofs.Table.{last-is, pass-is}
-use Rattle.constraints.specs.Triple.{Triple, room, tripleAt}
-use Rattle.literals.specs.Listed.{Fit, Listed, Ready}
+use Rattle.meaning.specs.Records.{Record}
+use Rattle.constraints.specs.Record.{room, recordAt, Fit}
+use Rattle.literals.specs.Listed.{Listed, Ready}
 use Rattle.propagation.specs.Tests.{fits, allFit, constraintsFit, propagationTests}
 
-pub fits-is : (n : ℕ) (x : Triple) → (fits n x ≡ true) ↔ Fit n x
+pub fits-is : (n : ℕ) (x : Record) → (fits n x ≡ true) ↔ Fit n x
 fits-is n x =
-    let t = both-is _ _ (le-is (x .code) 5) (both-is _ _ (ne-is (x .first) (x .second)) (both-is _ _ (lt-is (x .first) n) (lt-is (x .second) n))) in (
-      λ e. let p = t .0 e in record { code = p .0; apart = p .1 .0; first = p .1 .1 .0; second = p .1 .1 .1 },
-      λ f. t .1 (f .code, (f .apart, (f .first, f .second))),
+    let t = both-is _ _ (lt-is 0 (x .set)) (both-is _ _ (lt-is (x .set) 16) (both-is _ _ (lt-is (x .lower) (x .higher)) (lt-is (x .higher) n))) in (
+      λ e. let p = t .0 e in record { proper = record { some = p .0; four = p .1 .0 }; rising = p .1 .1 .0; below = p .1 .1 .1 },
+      λ f. t .1 (f .proper .some, (f .proper .four, (f .rising, f .below))),
     )
 
 -- 7
 pub listed-is : (n : ℕ) (list : List ℕ) → (constraintsFit n list ≡ true) ↔ Listed n list
 unfolding constraintsFit allFit
 listed-is n list =
-    let every = every-is (λ t. fits n (tripleAt list t)) (λ t. Fit n (tripleAt list t)) (room list) (λ t. fits-is n (tripleAt list t)) in
+    let every = every-is (λ t. fits n (recordAt list t)) (λ t. Fit n (recordAt list t)) (room list) (λ t. fits-is n (recordAt list t)) in
     let t = both-is _ _ (le-is (length list) 196608) (both-is _ _ (eq-is (length list % 3) 0) every) in
     let d = div-add-mod' (length list) 3 in (
       λ e. let p = t .0 e in record { few = p .0; whole = omega (arith, p .1 .0); fit = p .1 .1 },

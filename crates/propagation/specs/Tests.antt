@@ -1,6 +1,6 @@
 -- The tests that propagation makes (document 01, "Answers, tested in this order"). Assumes nothing.
 use Prim.Native.Nat.{ℕ, _%_}
-use mathlib.Core.Bool.{Bool, not, _&&_}
+use mathlib.Core.Bool.{Bool, _&&_}
 use mathlib.Core.List.{List, [], _∷_}
 use lib.Dec.{leb, ltb, eqb}
 use lib.ListN.{length}
@@ -8,14 +8,15 @@ use Rattle.scratch.specs.All.{allBelow}
 use Rattle.field.specs.declared.Refusal.the-variants.{Variables, Start, Argument, Scratch}
 use Rattle.field.specs.Table.{Test, test}
 use Rattle.field.specs.Tests.{fewVariables, startFits, wordsFit}
-use Rattle.constraints.specs.Triple.{Triple, room, tripleAt}
+use Rattle.meaning.specs.Records.{Record}
+use Rattle.constraints.specs.Record.{room, recordAt}
 
--- 7: "a constraint with kind above 5, equal ends, or an end not below n"
-abbrev pub fits : ℕ → Triple → Bool
-fits n x = leb (x .code) 5 && (not (eqb (x .first) (x .second)) && (ltb (x .first) n && ltb (x .second) n))
+-- 7: "a set of 0 or above 15, or ends that aren't rising", and an end not below n
+abbrev pub fits : ℕ → Record → Bool
+fits n x = ltb 0 (x .set) && (ltb (x .set) 16 && (ltb (x .lower) (x .higher) && ltb (x .higher) n))
 
 unfoldable pub allFit : ℕ → List ℕ → Bool
-allFit n list = allBelow (λ t. fits n (tripleAt list t)) (room list)
+allFit n list = allBelow (λ t. fits n (recordAt list t)) (room list)
 
 -- 7: "more than 65,536 constraints or a list not of whole triples"
 unfoldable pub constraintsFit : ℕ → List ℕ → Bool

@@ -4,27 +4,27 @@ use field::Refusal;
 ghost use mathlib.Core.Path.{_≡_};
 ghost use Prim.Native.Nat.{_+_, _*_, _<_};
 ghost use Rattle.scratch.specs.Lent.{before};
-ghost use Rattle.constraints.specs.Triple.{triple};
+ghost use Rattle.meaning.specs.Records.{recordOn};
 ghost use Rattle.field.specs.Table.{tested};
 ghost use Rattle.propagation.specs.Tests.{fits as fitsIn, allFit, constraintsFit, propagationTests};
 
-// Whether three numbers are a constraint between two variables.
-fn fits(n: usize, first: usize, second: usize, code: usize) -> bool
-    ensures { λ r. ⌜ r ≡ fitsIn n (triple first second code) ⌝ }
+// Whether three numbers are a record of two variables in rising order, with a set of one to four pairs.
+fn fits(n: usize, lower: usize, higher: usize, set: usize) -> bool
+    ensures { λ r. ⌜ r ≡ fitsIn n (recordOn lower higher set) ⌝ }
 {
-    if code > 5 {
+    if set == 0 {
         return false;
     }
-    if first == second {
+    if set > 15 {
         return false;
     }
-    if first >= n {
+    if lower >= higher {
         return false;
     }
-    second < n
+    higher < n
 }
 
-// Whether every triple of the list is one.
+// Whether every three numbers of the list are one.
 fn all_fit(n: usize, list: &[u16]) -> bool
     ensures { λ r. ⌜ r ≡ allFit n (before list) ⌝ }
 {
@@ -32,10 +32,10 @@ fn all_fit(n: usize, list: &[u16]) -> bool
     let mut t: usize = 0;
     while t < k {
         let i = 3 * t;
-        let first = scratch::wide_short(list[i]);
-        let second = scratch::wide_short(list[i + 1]);
-        let code = scratch::wide_short(list[i + 2]);
-        if !fits(n, first, second, code) {
+        let lower = scratch::wide_short(list[i]);
+        let higher = scratch::wide_short(list[i + 1]);
+        let set = scratch::wide_short(list[i + 2]);
+        if !fits(n, lower, higher, set) {
             return false;
         }
         t += 1;

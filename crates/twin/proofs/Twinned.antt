@@ -7,7 +7,7 @@ use native.Mathlib.Nat.{le-refl}
 use native.Mathlib.Omega.{arith}
 use lib.Ieee.{Float}
 use lib.ListN.{length, getD, set, take}
-use Rattle.constraints.specs.Triple.{Triple}
+use Rattle.meaning.specs.Records.{Record}
 use Rattle.found.specs.Holding.{Gathering}
 use Rattle.meaning.specs.Free.{frees}
 use Rattle.meaning.proofs.Values.{inside}
@@ -20,7 +20,7 @@ use Rattle.probing.proofs.Probing.{probed-below}
 use Rattle.workspace.specs.Restored.{Touched}
 use Rattle.workspace.proofs.Theorems.{start-with, probe-values, probe-restores, restored-floats, restored-remembers}
 use Rattle.probe.specs.Found.{nothing}
-use Rattle.finding.specs.Finds.{wins, givesAt, findingOf, finding, constraintsTo}
+use Rattle.finding.specs.Finds.{wins, givesAt, findingOf, finding, recordsTo}
 use Rattle.finding.specs.Emit.{layTo, Layable, bench, findingIn, emitTo, chosenTo, Emittable}
 use Rattle.finding.proofs.Entered.{gathering-same}
 use Rattle.finding.specs.Enters.{Enters}
@@ -203,8 +203,8 @@ module _ {F : Field} {s : List ℕ} {f : List Float} {u : List ℕ} {many i k en
                 ∙ ⊎-elim (λ m. absurd (a .0 (m .place) (m .high) (list₃ (m .place) (m .high) ∙ m .holds))) (λ b. b) (H .forced j h))
                 (lay-at asks k (le-refl k) j (omega (arith, s-long)))
 
-            gathers₄ : {S : List Triple} {lo held : ℕ} {list₀ list : List ℕ} → keptAt F + n ≤ lo → Gathering S lo end held list₀ list u
-                → Gathering (constraintsTo (finding F s i) S n) lo r held list₀ list u₄
+            gathers₄ : {S : List Record} {lo held : ℕ} {list₀ list : List ℕ} → keptAt F + n ≤ lo → Gathering S lo end held list₀ list u
+                → Gathering (recordsTo (finding F s i) S n) lo r held list₀ list u₄
             gathers₄ a G =
                 let G₁ = gathering-same {u′ = u₁} G long₁ (λ t b c. behind₁ t (omega arith)) in
                 let G₃ = enters-gathers enters₃ rest₃ (omega arith) G₁ in

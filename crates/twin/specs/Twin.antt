@@ -5,14 +5,14 @@ use mathlib.Core.Logic.{_≢_, _⊎_}
 use mathlib.Core.List.{List}
 use lib.Ieee.{Float}
 use lib.ListN.{length, getD, set}
-use Rattle.constraints.specs.Triple.{Triple}
+use Rattle.meaning.specs.Records.{Record}
 use Rattle.found.specs.Holding.{Gathering}
 use Rattle.field.specs.Field.{Field, variables}
 use Rattle.run.specs.Cells.{base}
 use Rattle.run.specs.Run.{closure}
 use Rattle.probing.specs.Remembered.{Remembers}
 use Rattle.workspace.specs.Restored.{From}
-use Rattle.finding.specs.Finds.{wins, givesAt, finding, constraintsTo}
+use Rattle.finding.specs.Finds.{wins, givesAt, finding, recordsTo}
 
 -- where the values that the probe at 0 gives are remembered, 2 for none: behind the queue and the list of what is strict
 abbrev pub firstAt : Field → ℕ
@@ -65,5 +65,5 @@ pub record Twinned (F : Field) (s : List ℕ) (f : List Float) (many i : ℕ) (u
   pub first : (j : ℕ) → j < variables F → getD u (firstAt F + j) 0 ≡ 2
   pub values : (j : ℕ) → j < variables F → getD u (valuesAt F + j) 0 ≡ wins (finding F s i j) (getD u₀ (valuesAt F + j) 0)
   pub between : (j : ℕ) → j < variables F → getD u (valuesAt F + variables F + j) 0 ≡ getD u₀ (valuesAt F + variables F + j) 0
-  pub gathers : {S : List Triple} {lo held : ℕ} {list₀ list : List ℕ} → keptAt F + variables F ≤ lo
-      → Gathering S lo end held list₀ list u₀ → Gathering (constraintsTo (finding F s i) S (variables F)) lo r held list₀ list u
+  pub gathers : {S : List Record} {lo held : ℕ} {list₀ list : List ℕ} → keptAt F + variables F ≤ lo
+      → Gathering S lo end held list₀ list u₀ → Gathering (recordsTo (finding F s i) S (variables F)) lo r held list₀ list u

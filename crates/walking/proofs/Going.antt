@@ -8,9 +8,9 @@ use lib.Ieee.{Float}
 use lib.ListN.{length, getD}
 use Rattle.scratch.specs.Region.{region}
 use Rattle.scratch.proofs.Region.{length-region}
-use Rattle.constraints.specs.Triple.{room}
-use Rattle.constraints.specs.Sorted.{sortedSet}
-use Rattle.constraints.proofs.Triples.{length-filled}
+use Rattle.constraints.specs.Record.{room}
+use Rattle.meaning.specs.Rising.{mergedList}
+use Rattle.constraints.proofs.Records.{length-filled}
 use Rattle.found.specs.declared.Merged.{Merged}
 use Rattle.found.specs.declared.Merged.the-variants.{Holds, Full}
 use Rattle.found.specs.Joint.{Held}
@@ -26,7 +26,7 @@ pub list-long : {F : Field} {s : List ℕ} {f : List Float} {many : ℕ} {cands 
     → Walks F s f many cands k list₀ list held u end → length list ≡ length list₀
 list-long {list₀ = list₀} W =
     let H = W .gathers .holding in
-    ap length (H .is) ∙ length-filled (sortedSet (W .gathers .flushed)) list₀ (omega (arith, H .fits, div-mul-le-self (length list₀) 3))
+    ap length (H .is) ∙ length-filled (mergedList (W .gathers .flushed)) list₀ (omega (arith, H .fits, div-mul-le-self (length list₀) 3))
 
 pub less-next : {h count : ℕ} → h < count → count - (h + 1) < count - h
 less-next l = omega arith

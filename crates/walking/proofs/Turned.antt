@@ -13,20 +13,23 @@ use lib.ListN.{length, getD, take, replicate}
 use lib.Seq.{ext-getD, take-take}
 use Rattle.scratch.specs.Region.{region}
 use Rattle.scratch.proofs.Region.{length-region, region-at}
-use Rattle.constraints.specs.Triple.{Triple, room}
-use Rattle.constraints.specs.Sorted.{sortedSet}
+use Rattle.meaning.specs.Records.{Record, AllProper}
+use Rattle.meaning.specs.Rising.{mergedList}
+use Rattle.constraints.specs.Record.{room}
 use Rattle.sorting.specs.Numbers.{distinctAt}
 use Rattle.sorting.proofs.Numbers.{distinct-front, distinct-long}
+use Rattle.sorting.proofs.Joining.{words-proper}
 use Rattle.found.specs.declared.Merged.{Merged}
 use Rattle.found.specs.declared.Merged.the-variants.{Holds, Full}
 use Rattle.found.specs.Flush.{Left, left, flushed}
 use Rattle.found.specs.Holding.{Gathering}
 use Rattle.found.proofs.Gathering.{gathering-start, gathering-flush, gathering-full, gathering-done, gathering-count}
+use Rattle.found.proofs.Tops.{proper-both}
 use Rattle.found.proofs.Holding.{stays-full, words-left}
 use Rattle.field.specs.Field.{Field, variables}
 use Rattle.rows.proofs.Upto.{length-upTo, getD-upTo}
 use Rattle.places.proofs.Slices.{front-getD}
-use Rattle.finding.specs.Finds.{wins, finding, valuesAfter, constraintsOf, valuesOf}
+use Rattle.finding.specs.Finds.{wins, finding, valuesAfter, recordsOf, valuesOf}
 use Rattle.finding.proofs.Entering.{to-more}
 use Rattle.twin.specs.Twin.{firstAt, valuesAt, Twinnable, Twinned}
 use Rattle.twin.proofs.Framed.{remembers-front}
@@ -54,11 +57,11 @@ module _ (F : Field) (s cands : List ℕ) where
   value-next k j h = getD-upTo (λ j. wins (finding F s (getD cands k 0) j) (getD (valuesOf F s cands k) j 0)) (length (valuesOf F s cands k)) j 0 (omega (arith, values-long k))
 
 -- what was found stays found
-found-more : (F : Field) (s cands : List ℕ) (k d : ℕ) (x : Triple) → List·Memᴰ x (constraintsOf F s cands k) → List·Memᴰ x (constraintsOf F s cands (k + d))
-unfolding constraintsOf
+found-more : (F : Field) (s cands : List ℕ) (k d : ℕ) (x : Record) → List·Memᴰ x (recordsOf F s cands k) → List·Memᴰ x (recordsOf F s cands (k + d))
+unfolding recordsOf
 found-more F s cands k zero x m = rw (add-zero k) m
 found-more F s cands k (suc d) x m =
-    rw (add-suc k d) (to-more (finding F s (getD cands (k + d) 0)) (constraintsOf F s cands (k + d)) (variables F) x (found-more F s cands k d x m))
+    rw (add-suc k d) (to-more (finding F s (getD cands (k + d) 0)) (recordsOf F s cands (k + d)) (variables F) x (found-more F s cands k d x m))
 
 -- ---- the start
 
@@ -79,7 +82,7 @@ module _ {F : Field} {s : List ℕ} {f : List Float} {u : List ℕ} {many count 
       }
 
   pub walks-start : (list : List ℕ) → Walks F s f many (region (candidatesAt F) count u) 0 list list 0 u (gatherAt F)
-  unfolding constraintsOf
+  unfolding recordsOf
   walks-start list = record { stands = stands-start; gathers = gathering-start (gatherAt F) list u (omega (arith, W .space)) }
 
 -- ---- one candidate more
@@ -116,9 +119,9 @@ module _ {F : Field} {s : List ℕ} {f : List Float} {many : ℕ} {cands : List 
         free = W .free;
       }
 
-      pub gathers-twin : {list₀ list : List ℕ} {held : ℕ} → Gathering (constraintsOf F s cands k) (gatherAt F) end held list₀ list u
-          → Gathering (constraintsOf F s cands (k + 1)) (gatherAt F) r held list₀ list u′
-      unfolding constraintsOf
+      pub gathers-twin : {list₀ list : List ℕ} {held : ℕ} → Gathering (recordsOf F s cands k) (gatherAt F) end held list₀ list u
+          → Gathering (recordsOf F s cands (k + 1)) (gatherAt F) r held list₀ list u′
+      unfolding recordsOf
       gathers-twin G = rw (add-one k, ← is-candidate) (T .gathers (le-refl (gatherAt F)) G)
 
 module _ {F : Field} {s : List ℕ} {f : List Float} {many : ℕ} {cands : List ℕ} {k : ℕ} {list₀ list : List ℕ} {held : ℕ} {u : List ℕ} {end : ℕ}
@@ -130,7 +133,7 @@ module _ {F : Field} {s : List ℕ} {f : List Float} {many : ℕ} {cands : List 
   -- ---- a flush
 
   walks-front : {list′ u′ : List ℕ} {held′ end′ : ℕ} → take (gatherAt F) u′ ≡ take (gatherAt F) u → length u′ ≡ length u
-      → Gathering (constraintsOf F s cands k) (gatherAt F) end′ held′ list₀ list′ u′ → Walks F s f many cands k list₀ list′ held′ u′ end′
+      → Gathering (recordsOf F s cands k) (gatherAt F) end′ held′ list₀ list′ u′ → Walks F s f many cands k list₀ list′ held′ u′ end′
   walks-front {u′ = u′} front long G =
       let S = W .stands in
       let cut : (w : List ℕ) → take (firstAt F) (take (gatherAt F) w) ≡ take (firstAt F) w = λ w. take-take (firstAt F) (gatherAt F) w (omega arith) in record {
@@ -147,11 +150,14 @@ module _ {F : Field} {s : List ℕ} {f : List Float} {many : ℕ} {cands : List 
         gathers = G;
       }
 
+  found-proper : AllProper (recordsOf F s cands k)
+  found-proper x m = let G = W .gathers in proper-both (words-proper (G .keys)) (λ y h. G .holding .small y h .proper) x (G .all .to x m)
+
   -- no room for what was found so far is no room for all
-  all-full : k ≤ length cands → room list₀ < length (sortedSet (constraintsOf F s cands k)) → room list₀ < length (sortedSet (constraintsOf F s cands (length cands)))
+  all-full : k ≤ length cands → room list₀ < length (mergedList (recordsOf F s cands k)) → room list₀ < length (mergedList (recordsOf F s cands (length cands)))
   all-full h l =
       let e : k + (length cands - k) ≡ length cands = omega arith in
-      rw e at (stays-full (room list₀) (constraintsOf F s cands k) (constraintsOf F s cands (k + (length cands - k))) l (λ x m. found-more F s cands k (length cands - k) x m))
+      rw e at (stays-full (room list₀) (recordsOf F s cands k) (recordsOf F s cands (k + (length cands - k))) found-proper l (λ x m. found-more F s cands k (length cands - k) x m))
 
   module _ {x : Left} (e : x ≡ flushed list held u (gatherAt F) end) where
     flushed-words : x .words ≡ distinctAt (gatherAt F) end u
@@ -163,7 +169,7 @@ module _ {F : Field} {s : List ℕ} {f : List Float} {many : ℕ} {cands : List 
         walks-front (ap (take (gatherAt F)) flushed-words ∙ distinct-front (gatherAt F) end u (omega (arith, K .order, K .room)))
         (ap length flushed-words ∙ distinct-long (gatherAt F) end u K) (gathering-flush (W .gathers) e a)
 
-    pub walks-full : k ≤ length cands → x .answer ≡ Full → room list₀ < length (sortedSet (constraintsOf F s cands (length cands)))
+    pub walks-full : k ≤ length cands → x .answer ≡ Full → room list₀ < length (mergedList (recordsOf F s cands (length cands)))
     walks-full h a = all-full h (gathering-full (W .gathers) e a)
 
   -- ---- room for one candidate
@@ -189,13 +195,13 @@ module _ {F : Field} {s : List ℕ} {f : List Float} {many : ℕ} {cands : List 
         go true q = rw (roomed-by true q) (omega (arith, leb-true (variables F) (length u - end) q, W .gathers .keys .room))
         go false q = walks-flush (roomed-by false q) a .stands .space
 
-    pub roomed-full : k ≤ length cands → x .answer ≡ Full → room list₀ < length (sortedSet (constraintsOf F s cands (length cands)))
+    pub roomed-full : k ≤ length cands → x .answer ≡ Full → room list₀ < length (mergedList (recordsOf F s cands (length cands)))
     roomed-full h a = go (leb (variables F) (length u - end)) refl
       where
-        held-full : Holds held ≡ Full → room list₀ < length (sortedSet (constraintsOf F s cands (length cands)))
+        held-full : Holds held ≡ Full → room list₀ < length (mergedList (recordsOf F s cands (length cands)))
         held-full z = let y : _≡_ {A = ℕ} 0 1 = cc in absurd (omega arith)
 
-        go : (b : Bool) → leb (variables F) (length u - end) ≡ b → room list₀ < length (sortedSet (constraintsOf F s cands (length cands)))
+        go : (b : Bool) → leb (variables F) (length u - end) ≡ b → room list₀ < length (mergedList (recordsOf F s cands (length cands)))
         go true q = held-full (sym (ap (λ (z : Left). z .answer) (roomed-by true q)) ∙ a)
         go false q = walks-full (roomed-by false q) h a
 

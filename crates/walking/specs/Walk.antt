@@ -7,15 +7,15 @@ use lib.Dec.{leb}
 use lib.Ieee.{Float}
 use lib.ListN.{length, getD}
 use Rattle.scratch.specs.Region.{region}
-use Rattle.constraints.specs.Triple.{room, filled}
-use Rattle.constraints.specs.Sorted.{sortedSet}
+use Rattle.constraints.specs.Record.{room, filled}
+use Rattle.meaning.specs.Rising.{mergedList}
 use Rattle.found.specs.declared.Merged.{Merged}
 use Rattle.found.specs.declared.Merged.the-variants.{Holds, Full}
 use Rattle.found.specs.Flush.{Left, left, flushed}
 use Rattle.found.specs.Holding.{Gathering}
 use Rattle.field.specs.Field.{Field, variables}
 use Rattle.probing.specs.Remembered.{Remembers}
-use Rattle.finding.specs.Finds.{constraintsOf, valuesOf}
+use Rattle.finding.specs.Finds.{recordsOf, valuesOf}
 use Rattle.twin.specs.Twin.{firstAt, valuesAt}
 
 -- where the candidates stand, behind the probe values
@@ -40,7 +40,7 @@ roomed list held u lo hi n = cond (leb n (length u - hi)) (left (Holds held) lis
 unfoldable pub endAfter : ℕ → ℕ → ℕ → ℕ → ℕ
 endAfter long lo hi n = cond (leb n (long - hi)) hi lo
 
--- how many constraints are held
+-- how many records are held
 unfoldable pub heldOf : Merged → ℕ
 heldOf (Holds k) = k
 heldOf Full = 0
@@ -68,10 +68,10 @@ pub record Stands (F : Field) (s : List ℕ) (f : List Float) (many : ℕ) (cand
   pub within : length cands ≤ variables F
   pub free : (h : ℕ) → h < length cands → getD s (getD cands h 0) 0 ≡ 2
 
--- and every constraint found so far stands in the list or among the words
+-- and the record of every constraint found so far stands in the list or among the words
 pub record Walks (F : Field) (s : List ℕ) (f : List Float) (many : ℕ) (cands : List ℕ) (k : ℕ) (list₀ list : List ℕ) (held : ℕ) (u : List ℕ) (end : ℕ) : Type 0 where
   pub stands : Stands F s f many cands k u
-  pub gathers : Gathering (constraintsOf F s cands k) (gatherAt F) end held list₀ list u
+  pub gathers : Gathering (recordsOf F s cands k) (gatherAt F) end held list₀ list u
 
 -- all candidates are done, and the probe values stand in their place
 abbrev pub Valued : Field → List ℕ → List ℕ → List ℕ → Type 0
@@ -79,8 +79,8 @@ Valued F s cands u = valuesLeft F u ≡ valuesOf F s cands (length cands)
 
 -- all candidates are done, and the list holds what was found; or it has no room for that
 pub data Walked (F : Field) (s cands list₀ : List ℕ) : Merged → List ℕ → List ℕ → Type 0 where
-  holds : {list u : List ℕ} → length (sortedSet (constraintsOf F s cands (length cands))) ≤ room list₀
-      → list ≡ filled (sortedSet (constraintsOf F s cands (length cands))) list₀
+  holds : {list u : List ℕ} → length (mergedList (recordsOf F s cands (length cands))) ≤ room list₀
+      → list ≡ filled (mergedList (recordsOf F s cands (length cands))) list₀
       → Valued F s cands u
-      → Walked F s cands list₀ (Holds (length (sortedSet (constraintsOf F s cands (length cands))))) list u
-  full : {list u : List ℕ} → room list₀ < length (sortedSet (constraintsOf F s cands (length cands))) → Walked F s cands list₀ Full list u
+      → Walked F s cands list₀ (Holds (length (mergedList (recordsOf F s cands (length cands))))) list u
+  full : {list u : List ℕ} → room list₀ < length (mergedList (recordsOf F s cands (length cands))) → Walked F s cands list₀ Full list u

@@ -36,7 +36,7 @@ fn end_after(long: usize, lo: usize, hi: usize, n: usize) -> usize
     lo
 }
 
-// How many constraints are held.
+// How many records are held.
 fn held_of(merged: Merged) -> usize
     ensures { λ r. ⌜ r ≡ heldOf merged ⌝ }
 {

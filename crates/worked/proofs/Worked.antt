@@ -10,8 +10,9 @@ use Rattle.meaning.specs.Passes as passes
 use Rattle.meaning.specs.Literal as literal
 use Rattle.meaning.specs.Free.{frees, freeTo}
 use Rattle.expansion.specs.Sum as expansion
-use Rattle.constraints.specs.Triple.{flat, filled, triples}
-use Rattle.constraints.specs.Sorted as sorted
+use Rattle.meaning.specs.Records as records
+use Rattle.meaning.specs.Rising as rising
+use Rattle.constraints.specs.Record as flat
 use Rattle.field.specs.Tests.{endsBelow, allRise, allFinite, bytesSmall, fewVariables, listsMatch, inOrder, isFine, firstFrom, wrongAt, faultOf, offDiagonal, weightsFinite, startFits, floatsFit, wordsFit, shapeTests, looseTests, standardTests, readyTests}
 use Rattle.field.specs.Grade.{weighs, allWeigh, serves, firstOf, unitOf, isExact, gradeOf}
 use Rattle.calls.specs.Call.{called, run as staged, keeping}
@@ -53,7 +54,7 @@ pub worked : map given cases ≡ map expected cases
 unfolding given expected
     called staged keeping values.valuesBy
     probe.probeOneCall probe.probeOne probe.newOnly probe.newAt probe.probeTests probe.mayProbe
-    probes.probeCall probes.probeLimitedCall probes.candidatesCall probes.fits probes.allValues probes.allConstraints
+    probes.probeCall probes.probeLimitedCall probes.candidatesCall probes.fits probes.allValues probes.allRecords
     pairs.pairsCall anchors.anchorsCall anchors.anchorTests
     propagation.propagateCall literals.propagationTests literals.constraintsFit literals.allFit
     readyTests standardTests looseTests shapeTests fewVariables listsMatch inOrder isFine firstFrom wrongAt faultOf offDiagonal weightsFinite startFits floatsFit wordsFit
@@ -68,16 +69,16 @@ unfolding given expected
     effect.untouched effect.hasNoEffect working.fixAt working.fixTo working.withNoEffect working.preprocess
     rounds.laidAt rounds.laidOver rounds.probeValues rounds.round rounds.rounds rounds.heavy frees freeTo
     ranking.massAtEnd ranking.massAtEntry ranking.massTo ranking.massOf ranking.ahead ranking.insert ranking.ordered ranking.ranks
-    found finds.added finds.wins finds.givesAt finds.findingOf finds.finding finds.constraintsTo finds.valuesAfter finds.constraintsOf finds.valuesOf
-    sorted.before sorted.insert sorted.sortedSet flat filled over triples
+    found finds.added finds.wins finds.givesAt finds.findingOf finds.finding finds.recordsTo finds.valuesAfter finds.recordsOf finds.valuesOf
+    rising.before rising.insert rising.mergedList records.pairsIn records.rulesOf flat.flat flat.filled flat.records over
     margins.atEnd margins.overEnds margins.mergedWeight margins.widen margins.neighbour margins.boundsTo margins.boundsOf margins.signOf margins.signsOf
     margins.sumKinds margins.diffKinds margins.pairSigns margins.pairKinds
-    listing.withEach listing.pairsOf listing.pairTriples listing.foundIn listing.found
+    listing.withEach listing.pairsOf listing.pairRecords listing.foundIn listing.found
     expansion.splitOf expansion.kept expansion.inFront expansion.carried expansion.plus expansion.comesToZero
     sums.balanceAt sums.balanceOver sums.balanceOf sums.balanced sums.weightAt sums.weightOver sums.weightOf
     anchored.against anchored.leadOver anchored.leads anchored.turnable anchored.allTurnable anchored.anchorIn anchored.marksAt anchored.newAt
     anchored.anchorAt anchored.anchorsTo anchored.anchorsOf
-    passes.visit passes.pass passes.passes passes.closure literal.implications literal.implied literal.stands literal.propagate
+    passes.visit passes.pass passes.passes passes.closure literal.implied literal.stands literal.propagate
     reason.reasonCall reason.hasValue reason.fits ground.reasonOf ground.reasonList ground.groundOf ground.inHalfUnits ground.times
     until.basis until.stopOf until.scanned until.until rests.rests listed.listedOf listed.listedTo listed.isListed listed.joinsTo
     add sub mul neg le lt eq ne ofInt ofBits

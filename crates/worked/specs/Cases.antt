@@ -7,11 +7,11 @@ use lib.Ieee.{Float, fin}
 use lib.ListN.{length, replicate}
 use Rattle.weights.specs.Worth.{zero64}
 use Rattle.scratch.specs.Cleared.{cleared}
-use Rattle.constraints.specs.Triple.{room}
+use Rattle.constraints.specs.Record.{room}
 use Rattle.field.specs.declared.Grade.{Grade}
 use Rattle.field.specs.declared.Grade.the-variants.{Exact, Inexact}
 use Rattle.field.specs.declared.Refusal.{Refusal}
-use Rattle.field.specs.declared.Refusal.the-variants.{Row, Column, Repeat, Order, Clash, Inexact as NotExact, Unforced}
+use Rattle.field.specs.declared.Refusal.the-variants.{Row, Column, Repeat, Order, Argument, Clash, Inexact as NotExact, Unforced}
 use Rattle.field.specs.declared.Checked.{Checked}
 use Rattle.field.specs.declared.Checked.the-variants.{Passed, Failed}
 use Rattle.field.specs.declared.Answer.the-variants.{Done}
@@ -32,7 +32,7 @@ use Rattle.reason.specs.declared.Ground.{Ground}
 use Rattle.reason.specs.declared.Ground.the-variants.{Given, Lower, Upper}
 use Rattle.reason.specs.declared.Reasoned.the-variants as reasoned
 use Rattle.reason.specs.Call as reason
-use Rattle.worked.specs.Fields.{nought, half, sixteenth, above-limit, minus-half, minus-one, two, minus-two, four, minus-five, six, alone, joined, apart, opposed, swallowing, unbalanced, two-parts, overflowing, on-diagonal, with-zero, parted, popped, one-term, two-pairs, linked, at-tolerance, placed, cancelling, both-ways, waiting, heavy-rate, one, least, minus-nought, huge, minus-huge, in-chain}
+use Rattle.worked.specs.Fields.{nought, half, sixteenth, above-limit, minus-half, minus-one, two, minus-two, four, minus-five, six, alone, joined, apart, opposed, swallowing, unbalanced, two-parts, overflowing, on-diagonal, with-zero, parted, popped, one-term, two-pairs, three-pairs, four-pairs, linked, at-tolerance, placed, cancelling, both-ways, waiting, heavy-rate, one, least, minus-nought, huge, minus-huge, in-chain}
 
 -- a call, the field with its grade, the start values, what else it is given, and what it answers
 pub data Case : Type 0 where
@@ -43,16 +43,18 @@ pub data Case : Type 0 where
   rounds : Field → Grade → List ℕ → List ℕ → Case
   -- the probed variable and value, and the values found
   probes-one : Field → Grade → List ℕ → ℕ → ℕ → List ℕ → Case
-  -- the values and the constraints found
+  -- the values and the records found
   probes-all : Field → Grade → List ℕ → List ℕ → List ℕ → Case
   -- the limit of candidates besides
   probes-some : Field → Grade → List ℕ → ℕ → List ℕ → List ℕ → Case
-  -- the constraints found, how many they are, and how many pairs were examined
+  -- the records found, how many they are, and how many pairs were examined
   compares : Field → Grade → List ℕ → List ℕ → ℕ → ℕ → Case
   -- the least size, and the anchors
   anchors-at : Field → Grade → List ℕ → ℕ → List ℕ → Case
-  -- no field: start values and constraints, the answer, and what is in the start values afterwards
+  -- no field: start values and records, the answer, and what is in the start values afterwards
   propagates : List ℕ → List ℕ → Checked → List ℕ → Case
+  -- propagation is refused with 7, and all that was lent stays
+  argues : List ℕ → List ℕ → Case
   -- the closure is refused, and all that was lent stays
   refuses : Field → Refusal → Case
   -- the variable, its ground, the unit k, which is 2^(k - 20), and the neighbours listed
@@ -62,9 +64,9 @@ pub data Case : Type 0 where
 
 -- ---- the list
 
--- "Equal(0,1), ExactlyOne(0,1)"
+-- "Equal(0,1), ExactlyOne(0,1)": 01 and 10, then 00 and 11
 abbrev pub both : List ℕ
-both = 0 ∷ 1 ∷ 5 ∷ 0 ∷ 1 ∷ 1 ∷ []
+both = 0 ∷ 1 ∷ 6 ∷ 0 ∷ 1 ∷ 9 ∷ []
 
 abbrev pub cases : List Case
 cases =
@@ -86,10 +88,10 @@ cases =
     ∷ closes (joined (minus-five ∷ minus-one ∷ []) four) Exact (2 ∷ 2 ∷ []) (1 ∷ 0 ∷ []) 0
     ∷ closes (joined (minus-five ∷ minus-one ∷ []) four) Exact (0 ∷ 2 ∷ []) (0 ∷ 1 ∷ []) 0
     -- "i. c=(-1,-1), (0,1) 4: probe gives ExactlyOne(0,1), no value; pairs give nothing."
-    ∷ probes-all (joined (minus-one ∷ minus-one ∷ []) four) Exact (2 ∷ 2 ∷ []) (2 ∷ 2 ∷ []) (0 ∷ 1 ∷ 1 ∷ [])
+    ∷ probes-all (joined (minus-one ∷ minus-one ∷ []) four) Exact (2 ∷ 2 ∷ []) (2 ∷ 2 ∷ []) (0 ∷ 1 ∷ 9 ∷ [])
     ∷ compares (joined (minus-one ∷ minus-one ∷ []) four) Exact (2 ∷ 2 ∷ []) [] 0 1
     -- "j. c=(-1,-1), (0,1) 6: pairs give NoMoreThanOne(0,1)."
-    ∷ compares (joined (minus-one ∷ minus-one ∷ []) six) Exact (2 ∷ 2 ∷ []) (0 ∷ 1 ∷ 2 ∷ []) 1 1
+    ∷ compares (joined (minus-one ∷ minus-one ∷ []) six) Exact (2 ∷ 2 ∷ []) (0 ∷ 1 ∷ 8 ∷ []) 1 1
     -- "k. Equal(0,1), ExactlyOne(0,1), x0=1: 10. l. Both, nothing given: done, unchanged."
     ∷ propagates (1 ∷ 2 ∷ []) both (Failed Clash) (1 ∷ 2 ∷ [])
     ∷ propagates (2 ∷ 2 ∷ []) both Passed (2 ∷ 2 ∷ [])
@@ -126,8 +128,8 @@ cases =
     ∷ probes-one apart Exact (2 ∷ 2 ∷ 2 ∷ []) 0 1 (1 ∷ 0 ∷ 1 ∷ [])
     ∷ probes-one apart Exact (2 ∷ 2 ∷ 1 ∷ []) 0 1 (1 ∷ 0 ∷ 2 ∷ [])
     -- of two pairs a limit of 1 takes the heavier, and a limit of 0 none
-    ∷ probes-all two-pairs Exact (2 ∷ 2 ∷ 2 ∷ 2 ∷ []) (2 ∷ 2 ∷ 2 ∷ 2 ∷ []) (0 ∷ 1 ∷ 1 ∷ 2 ∷ 3 ∷ 1 ∷ [])
-    ∷ probes-some two-pairs Exact (2 ∷ 2 ∷ 2 ∷ 2 ∷ []) 1 (2 ∷ 2 ∷ 2 ∷ 2 ∷ []) (2 ∷ 3 ∷ 1 ∷ [])
+    ∷ probes-all two-pairs Exact (2 ∷ 2 ∷ 2 ∷ 2 ∷ []) (2 ∷ 2 ∷ 2 ∷ 2 ∷ []) (0 ∷ 1 ∷ 9 ∷ 2 ∷ 3 ∷ 9 ∷ [])
+    ∷ probes-some two-pairs Exact (2 ∷ 2 ∷ 2 ∷ 2 ∷ []) 1 (2 ∷ 2 ∷ 2 ∷ 2 ∷ []) (2 ∷ 3 ∷ 9 ∷ [])
     ∷ probes-some two-pairs Exact (2 ∷ 2 ∷ 2 ∷ 2 ∷ []) 0 (2 ∷ 2 ∷ 2 ∷ 2 ∷ []) []
     -- too small a component, one with a start value, a stored zero that joins nothing, and a sum that rounding would make 0
     ∷ anchors-at (joined (minus-half ∷ minus-half ∷ []) two) Exact (2 ∷ 2 ∷ []) 3 []
@@ -177,6 +179,26 @@ cases =
     -- c=(2^53,1,-2^53): mask 4 before mask 6 at -2^53 + 1; c=(1e308,1e308,-1e308): mask 4, with masks 3 and 7 infinite
     ∷ completes (in-chain (fin false 1 (pos 53) ∷ one ∷ fin true 1 (pos 53) ∷ [])) Inexact (2 ∷ 2 ∷ 2 ∷ []) (0 ∷ 0 ∷ 1 ∷ [])
     ∷ completes (in-chain (huge ∷ huge ∷ minus-huge ∷ [])) Inexact (2 ∷ 2 ∷ 2 ∷ []) (0 ∷ 0 ∷ 1 ∷ [])
+    -- C-17: what both probes of two variables say is one record, and what both differences of a pair give is one
+    ∷ probes-all (joined (one ∷ nought ∷ []) minus-two) Exact (2 ∷ 2 ∷ []) (2 ∷ 2 ∷ []) (0 ∷ 1 ∷ 4 ∷ [])
+    ∷ compares (joined (minus-five ∷ minus-one ∷ []) four) Exact (2 ∷ 2 ∷ []) (0 ∷ 1 ∷ 3 ∷ []) 1 1
+    -- three pairs of values on an exact field, and all four on an inexact one; on both the value x0 = 0 is found besides
+    ∷ probes-all three-pairs Exact (2 ∷ 2 ∷ 2 ∷ []) (0 ∷ 2 ∷ 2 ∷ []) (0 ∷ 1 ∷ 10 ∷ 0 ∷ 2 ∷ 2 ∷ 1 ∷ 2 ∷ 14 ∷ [])
+    ∷ probes-all four-pairs Inexact (2 ∷ 2 ∷ 2 ∷ []) (0 ∷ 2 ∷ 2 ∷ []) (1 ∷ 2 ∷ 15 ∷ [])
+    -- 10 and 11: x0=1 forbids both values of x1, x1=1 gives x0, and x0=0 gives nothing
+    ∷ propagates (1 ∷ 2 ∷ []) (0 ∷ 1 ∷ 12 ∷ []) (Failed Clash) (1 ∷ 2 ∷ [])
+    ∷ propagates (2 ∷ 1 ∷ []) (0 ∷ 1 ∷ 12 ∷ []) Passed (0 ∷ 1 ∷ [])
+    ∷ propagates (0 ∷ 2 ∷ []) (0 ∷ 1 ∷ 12 ∷ []) Passed (0 ∷ 2 ∷ [])
+    -- all four: accepted, and a clash once either variable has a value
+    ∷ propagates (2 ∷ 2 ∷ []) (0 ∷ 1 ∷ 15 ∷ []) Passed (2 ∷ 2 ∷ [])
+    ∷ propagates (1 ∷ 2 ∷ []) (0 ∷ 1 ∷ 15 ∷ []) (Failed Clash) (1 ∷ 2 ∷ [])
+    ∷ propagates (2 ∷ 0 ∷ []) (0 ∷ 1 ∷ 15 ∷ []) (Failed Clash) (2 ∷ 0 ∷ [])
+    -- 7: ends that do not rise, an empty set, a set above 15, an end not below n
+    ∷ argues (2 ∷ 2 ∷ []) (1 ∷ 0 ∷ 6 ∷ [])
+    ∷ argues (2 ∷ 2 ∷ []) (0 ∷ 0 ∷ 6 ∷ [])
+    ∷ argues (2 ∷ 2 ∷ []) (0 ∷ 1 ∷ 0 ∷ [])
+    ∷ argues (2 ∷ 2 ∷ []) (0 ∷ 1 ∷ 16 ∷ [])
+    ∷ argues (2 ∷ 2 ∷ []) (0 ∷ 2 ∷ 6 ∷ [])
     ∷ []
 
 -- ---- what each call leaves, and what the list says
@@ -225,6 +247,7 @@ given (probes-some F g s limit t k) = in-both (probes.probeLimitedCall F s limit
 given (compares F g s k items examined) = in-pairs (pairs.pairsCall F s 250000 (lent k) (floats F) (words F))
 given (anchors-at F g s least l) = in-anchors (anchors.anchorsCall F s least (lent l) (floats F) (words F))
 given (propagates s k r t) = in-literals (propagation.propagateCall s k (constraint-words s k))
+given (argues s k) = in-literals (propagation.propagateCall s k (constraint-words s k))
 given (refuses F r) = in-closing (closure.closureCall F (free F) (floats F) (words F))
 given (explains F s i g k l) = in-reason (reason.reasonCall F s i (lent l) (floats F) (words F))
 given (explains-none F s i r) = in-reason (reason.reasonCall F s i (lent []) (floats F) (words F))
@@ -241,6 +264,7 @@ expected (probes-some F g s limit t k) = in-both (probes.left (Counts g (room k)
 expected (compares F g s k items examined) = in-pairs (pairs.left (paired.Done g items examined) (front k) (cleared zero64 (floats F)) (cleared 0 (words F)))
 expected (anchors-at F g s least l) = in-anchors (anchors.left (Counts g (length l)) (front l) (cleared zero64 (floats F)) (cleared 0 (words F)))
 expected (propagates s k r t) = in-literals (propagation.left r t (cleared 0 (constraint-words s k)))
+expected (argues s k) = in-literals (propagation.left (Failed Argument) s (constraint-words s k))
 expected (refuses F r) = in-closing (closure.left (Refuses r) (free F) (floats F) (words F))
 expected (explains F s i g k l) = in-reason (reason.left (reasoned.Because g k (length l)) (front l) (cleared zero64 (floats F)) (cleared 0 (words F)))
 expected (explains-none F s i r) = in-reason (reason.left (reasoned.Refuses r) (lent []) (cleared zero64 (floats F)) (cleared 0 (words F)))

@@ -147,6 +147,19 @@ one-term =
 abbrev pub in-chain : List Float → Field
 in-chain c = fieldOf c (0 ∷ 1 ∷ []) (1 ∷ 2 ∷ []) (nought ∷ nought ∷ [])
 
+-- c=(4,0.5,4), (2,0) -8, (0,1) 1, (1,2) -6: the probes forbid three pairs of values of 1 and 2
+abbrev pub three-pairs : Field
+three-pairs = fieldOf (four ∷ half ∷ four ∷ []) (2 ∷ 0 ∷ 1 ∷ []) (0 ∷ 1 ∷ 2 ∷ []) (fin true 1 (pos 3) ∷ one ∷ fin true 3 (pos 1) ∷ [])
+
+-- c=(4,-0.5,0.5), (0,1) -1, (2,1) 2^62, (0,2) 1, (1,2) -2^62: large weights swallow small ones, and the probes forbid all four pairs of values of 1 and 2
+abbrev pub four-pairs : Field
+four-pairs =
+    fieldOf
+    (four ∷ minus-half ∷ half ∷ [])
+    (0 ∷ 2 ∷ 0 ∷ 1 ∷ [])
+    (1 ∷ 1 ∷ 2 ∷ 2 ∷ [])
+    (minus-one ∷ fin false 1 (pos 62) ∷ one ∷ fin true 1 (pos 62) ∷ [])
+
 -- c=(-1,-1,-1,-1), (0,1) 4, (2,3) 8: two pairs, the second with the greater mass
 abbrev pub two-pairs : Field
 two-pairs = fieldOf (minus-one ∷ minus-one ∷ minus-one ∷ minus-one ∷ []) (0 ∷ 2 ∷ []) (1 ∷ 3 ∷ []) (four ∷ fin false 1 (pos 3) ∷ [])

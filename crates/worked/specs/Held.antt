@@ -5,7 +5,7 @@ use mathlib.Core.List.{List, [], _∷_}
 use lib.Dec.{ltb}
 use lib.Ieee.{binary64, fits}
 use Rattle.field.specs.Field.{Field}
-use Rattle.worked.specs.Cases.{Case, closes, completes, preprocesses, rounds, probes-one, probes-all, probes-some, compares, anchors-at, propagates, refuses, explains, explains-none}
+use Rattle.worked.specs.Cases.{Case, closes, completes, preprocesses, rounds, probes-one, probes-all, probes-some, compares, anchors-at, propagates, argues, refuses, explains, explains-none}
 
 -- every element passes
 unfoldable pub every : {A : Type 0} → (A → Bool) → List A → Bool
@@ -31,6 +31,7 @@ held (probes-some F g s limit t k) = heldField F && heldBytes s
 held (compares F g s k items examined) = heldField F && heldBytes s
 held (anchors-at F g s least l) = heldField F && heldBytes s
 held (propagates s k r t) = heldBytes s && every (λ w. ltb w 65536) k
+held (argues s k) = heldBytes s && every (λ w. ltb w 65536) k
 held (refuses F r) = heldField F
 held (explains F s i g k l) = heldField F && heldBytes s
 held (explains-none F s i r) = heldField F && heldBytes s

@@ -115,10 +115,10 @@ fn timed_call(call: &str, field: &Field, budget: Duration) -> (Duration, Duratio
             best(budget, || text.anchors(1).0, || lent.anchors(1).0)
         }
         "pairs" => {
-            let expected = text.pairs().1;
-            lent = Lent::new(field, 3 * expected.len());
+            let expected = records(&text.pairs().1);
+            lent = Lent::new(field, expected.len());
             done(lent.pairs(MOST_PAIRS).1);
-            agree(same_triples(&expected, lent.list()));
+            agree(expected == lent.list());
             best(budget, || text.pairs().0, || lent.pairs(MOST_PAIRS).0)
         }
         "probe_one" => {
@@ -129,18 +129,20 @@ fn timed_call(call: &str, field: &Field, budget: Duration) -> (Duration, Duratio
         }
         "probe" => {
             let (set, values) = text.probe().1;
-            lent = Lent::new(field, 3 * set.constraints.len());
+            let expected = records(&set.constraints);
+            lent = Lent::new(field, expected.len());
             done(lent.probe().1);
-            agree(same_triples(&set.constraints, lent.list()));
+            agree(expected == lent.list());
             agree(text.list(&values) == lent.values());
             best(budget, || text.probe().0, || lent.probe().0)
         }
         "probe_limited" => {
             let most = CANDIDATES;
             let (set, values) = text.probe_limited(most).1;
-            lent = Lent::new(field, 3 * set.constraints.len());
+            let expected = records(&set.constraints);
+            lent = Lent::new(field, expected.len());
             done(lent.probe_limited(most).1);
-            agree(same_triples(&set.constraints, lent.list()));
+            agree(expected == lent.list());
             agree(text.list(&values) == lent.values());
             best(
                 budget,
@@ -156,12 +158,12 @@ fn same_list(rust: &[usize], port: &[u16]) -> bool {
     rust.len() == port.len() && rust.iter().zip(port).all(|(&a, &b)| a == usize::from(b))
 }
 
-fn same_triples(rust: &[Constraint], port: &[u16]) -> bool {
-    3 * rust.len() == port.len()
-        && rust
-            .iter()
-            .zip(port.chunks_exact(3))
-            .all(|(a, b)| a.triple() == (b[0].into(), b[1].into(), b[2].into()))
+/// The records of the text's constraints.
+fn records(rust: &[Constraint]) -> Vec<u16> {
+    stream::merged(rust.iter().map(Constraint::forbidden))
+        .iter()
+        .flat_map(|&(i, j, set)| [i as u16, j as u16, set as u16])
+        .collect()
 }
 
 fn same_field(rust: &Qubo, port: &Field, count: usize) -> bool {

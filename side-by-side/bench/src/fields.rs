@@ -11,7 +11,7 @@ pub struct Field {
     pub start: Vec<u8>,
 }
 
-/// Start values and constraints: first, second, kind.
+/// Start values and records: lower, higher, and the set of a kind.
 #[derive(Clone)]
 pub struct Rules {
     pub shape: &'static str,
@@ -245,14 +245,6 @@ impl Rules {
 
     /// Constraints that a hidden assignment meets, but for a clash; one value in 64 is given, in a chain the first.
     pub fn counted(shape: &'static str, n: usize, count: usize) -> Self {
-        const FORBIDDEN: [[bool; 4]; 6] = [
-            [true, false, false, false],
-            [true, false, false, true],
-            [false, false, false, true],
-            [false, true, false, false],
-            [false, false, true, false],
-            [false, true, true, false],
-        ];
         let mut dice = Dice::new(0xc0de ^ n as u64);
         let hidden: Vec<u8> = (0..n).map(|_| dice.below(2) as u8).collect();
         let mut constraints = Vec::with_capacity(3 * count);
@@ -267,6 +259,7 @@ impl Rules {
                     }
                 },
             };
+            let (a, b) = (a.min(b), a.max(b));
             let seen = usize::from(2 * hidden[a] + hidden[b]);
             let kind = match shape {
                 "clash" => dice.below(6),
@@ -279,12 +272,12 @@ impl Rules {
                 }
                 _ => loop {
                     let kind = dice.below(6);
-                    if !FORBIDDEN[kind][seen] {
+                    if stream::FORBIDDEN[kind] >> seen & 1 == 0 {
                         break kind;
                     }
                 },
             };
-            constraints.extend([a as u16, b as u16, kind as u16]);
+            constraints.extend([a as u16, b as u16, stream::FORBIDDEN[kind] as u16]);
         }
         let start = (0..n)
             .map(|i| {

@@ -110,7 +110,13 @@ impl TextRules {
             constraints: rules
                 .constraints
                 .chunks_exact(3)
-                .map(|t| Constraint::new(t[0].into(), t[1].into(), KINDS[usize::from(t[2])]))
+                .map(|r| {
+                    let kind = stream::FORBIDDEN
+                        .iter()
+                        .position(|&set| set == usize::from(r[2]))
+                        .expect("the set of a kind");
+                    Constraint::new(r[0].into(), r[1].into(), KINDS[kind])
+                })
                 .collect(),
         }
     }

@@ -147,7 +147,7 @@ fn probed_all(
     n: usize,
     (set, values): (variable_reduction::ProbedEquationSet, FixedVarMap),
 ) {
-    done.constraints = Some(set.constraints.iter().map(Constraint::triple).collect());
+    done.constraints = Some(stream::merged(set.constraints.iter().map(Constraint::forbidden)));
     done.found = Some(list_of(n, &values));
 }
 
@@ -166,28 +166,24 @@ fn pairs(case: &Case, qubo: &Qubo, given: &FixedVarMap, done: &mut Done) {
     };
     done.pairs = Some(limit.min(free * free.saturating_sub(1) / 2));
     let all = door::pairs(qubo, given);
-    done.constraints = Some(
-        all.iter()
-            .map(Constraint::triple)
-            .filter(examined)
-            .collect(),
-    );
+    done.constraints = Some(stream::merged(all.iter().map(Constraint::forbidden).filter(examined)));
 }
 
 fn propagation(case: &Case, given: FixedVarMap) -> Option<FixedVarMap> {
-    const KINDS: [ConstraintType; 6] = [
+    // The kind that forbids 00, 01, 10 or 11 alone: one constraint for each bit of a record.
+    const ALONE: [ConstraintType; 4] = [
         ConstraintType::AtLeastOne,
-        ConstraintType::ExactlyOne,
-        ConstraintType::NoMoreThanOne,
         ConstraintType::GreaterThan,
         ConstraintType::LessThan,
-        ConstraintType::Equal,
+        ConstraintType::NoMoreThanOne,
     ];
-    let constraints: Vec<_> = case
-        .constraints
-        .chunks_exact(3)
-        .map(|t| Constraint::new(t[0].into(), t[1].into(), KINDS[usize::from(t[2])]))
-        .collect();
+    let of_record = |r: &[u16]| {
+        let (i, j, set) = (r[0].into(), r[1].into(), r[2]);
+        (0..4).filter_map(move |bit| {
+            (set >> bit & 1 == 1).then(|| Constraint::new(i, j, ALONE[bit]))
+        })
+    };
+    let constraints: Vec<_> = case.constraints.chunks_exact(3).flat_map(of_record).collect();
     door::propagation(case.n(), &constraints, given)
 }
 

@@ -116,8 +116,8 @@ fn done_words(case: &Case, done: &Done, words: &mut Vec<String>) {
     }
     if let Some(constraints) = &done.constraints {
         words.push(format!("count={}", constraints.len()));
-        let triples = constraints.iter().map(|(i, j, k)| format!("{i},{j},{k}"));
-        words.push(format!("constraints={}", joined(triples, ";")));
+        let records = constraints.iter().map(|(i, j, set)| format!("{i},{j},{set}"));
+        words.push(format!("constraints={}", joined(records, ";")));
         words.push("past=kept".to_string());
     }
     if let Some(found) = &done.found {

@@ -100,12 +100,12 @@ fn arguments_broken(case: &Case) -> bool {
     }
     if case.call == Call::Propagation {
         let n = case.n();
-        let triples = case.constraints.chunks(3);
+        let records = case.constraints.chunks(3);
         return !case.constraints.len().is_multiple_of(3)
             || case.constraints.len() / 3 > MOST_CONSTRAINTS
-            || triples.into_iter().any(|t| {
-                t[2] > 5 || t[0] == t[1] || usize::from(t[0]) >= n || usize::from(t[1]) >= n
-            });
+            || records
+                .into_iter()
+                .any(|r| r[2] == 0 || r[2] > 15 || r[0] >= r[1] || usize::from(r[1]) >= n);
     }
     false
 }

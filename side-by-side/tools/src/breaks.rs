@@ -177,7 +177,7 @@ fn break_probe(random: &mut Random, case: &mut Case) {
 fn break_constraints(random: &mut Random, case: &mut Case) {
     let n = case.n() as u16;
     if n > 12 && random.often(60) {
-        let good = [0, 1, 0].iter().cycle();
+        let good = [0, 1, 1].iter().cycle();
         case.constraints = good
             .take(3 * (table::MOST_CONSTRAINTS + 1))
             .copied()
@@ -186,9 +186,9 @@ fn break_constraints(random: &mut Random, case: &mut Case) {
         return;
     }
     let bad = match random.below(6) {
-        0 => vec![0, 1, random.pick(&[6, 7, u16::MAX])],
-        1 => vec![0, 0, 1],
-        2 => vec![n, 0, 2],
+        0 => vec![0, 1, random.pick(&[0, 16, 17, u16::MAX])],
+        1 => vec![0, 0, 6],
+        2 => vec![1, 0, 6],
         3 => vec![0, n, 2],
         4 => vec![0],
         _ => vec![0, 1],

@@ -116,7 +116,7 @@ fn start(random: &mut Random, n: usize) -> Vec<u8> {
         .collect()
 }
 
-/// Constraints that a hidden assignment meets, but for a few.
+/// Records, unsorted and some of one pair, that a hidden assignment meets, but for a few: of the kinds, and of any set.
 fn constraints(random: &mut Random, start: &[u8], small: bool) -> Vec<u16> {
     let n = start.len();
     if n < 2 {
@@ -139,17 +139,24 @@ fn constraints(random: &mut Random, start: &[u8], small: bool) -> Vec<u16> {
     }
     let mut list = Vec::new();
     for _ in 0..count {
-        let i = random.below(n);
-        let j = (i + 1 + random.below(n - 1)) % n;
-        let mut kind = random.below(6);
-        while !random.often(astray)
-            && stream::FORBIDDEN[kind] >> (2 * hidden[i] + hidden[j]) & 1 == 1
-        {
-            kind = random.below(6);
+        let a = random.below(n);
+        let b = (a + 1 + random.below(n - 1)) % n;
+        let (i, j) = (a.min(b), a.max(b));
+        let mut set = any_set(random);
+        while !random.often(astray) && set >> (2 * hidden[i] + hidden[j]) & 1 == 1 {
+            set = any_set(random);
         }
-        list.extend([i as u16, j as u16, kind as u16]);
+        list.extend([i as u16, j as u16, set as u16]);
     }
     list
+}
+
+fn any_set(random: &mut Random) -> usize {
+    if random.often(800) {
+        random.pick(&stream::FORBIDDEN)
+    } else {
+        1 + random.below(15)
+    }
 }
 
 /// Rooms, scratch and parameters that fit, some of them exactly.

@@ -15,8 +15,8 @@ pub type Worked = (
     &'static [u8],
 );
 
-/// Document 01's values a to n, its two run and compared, and document 02's example under C-14.
-pub const WORKED: [Worked; 17] = [
+/// Document 01's values a to n, its two run and compared, and document 02's examples under C-14 and C-17.
+pub const WORKED: [Worked; 18] = [
     ("a", &[], &[], &[]),
     ("b", &[0.0], &[], &[2]),
     ("c", &[0.5], &[], &[2]),
@@ -29,6 +29,7 @@ pub const WORKED: [Worked; 17] = [
     ("j", &[-1.0, -1.0], &[(0, 1, 6.0)], &[2, 2]),
     ("m", &[-0.5, -0.5], &[(0, 1, 2.0)], &[2, 2]),
     ("n", &[-1.0, -5.0], &[(0, 1, 4.0)], &[2, 2]),
+    ("one record", &[1.0, 0.0], &[(0, 1, -2.0)], &[2, 2]),
     ("small", &[1e-10, 0.0], &[], &[2, 2]),
     (
         "swallowed",
@@ -220,14 +221,19 @@ fn sharp(call: Call, cases: &mut Vec<Case>) {
 
 fn worked(call: Call, cases: &mut Vec<Case>) {
     if call == Call::Propagation {
-        // k, then l, then each kind with each single start value.
-        let both = [0, 1, 5, 0, 1, 1];
+        // k, then l, then each set with each single start value, and records of one pair apart and unsorted.
+        let both = [0, 1, 6, 0, 1, 9];
         cases.push(propagation(&[1, 2], &both));
         cases.push(propagation(&[2, 2], &both));
         cases.push(propagation(&[2, 2], &[]));
         cases.push(propagation(&[], &[]));
-        for kind in 0..6 {
+        for start in [[2, 2, 2], [0, 2, 2], [2, 1, 2], [2, 2, 1]] {
+            cases.push(propagation(&start, &[1, 2, 9, 0, 1, 4, 1, 2, 2, 0, 1, 8]));
+            cases.push(propagation(&start, &[0, 1, 12, 1, 2, 11]));
+        }
+        for set in 1..16 {
             for start in [
+                [2, 2],
                 [0, 2],
                 [1, 2],
                 [2, 0],
@@ -237,9 +243,11 @@ fn worked(call: Call, cases: &mut Vec<Case>) {
                 [1, 0],
                 [1, 1],
             ] {
-                cases.push(propagation(&start, &[0, 1, kind]));
-                cases.push(propagation(&start, &[1, 0, kind]));
+                cases.push(propagation(&start, &[0, 1, set]));
             }
+        }
+        for refused in [[1, 0, 6], [0, 1, 0], [0, 1, 16], [0, 0, 6], [0, 2, 6]] {
+            cases.push(propagation(&[2, 2], &refused));
         }
         return;
     }
@@ -298,7 +306,7 @@ fn refusals(call: Call, cases: &mut Vec<Case>) {
             case.start = vec![2, 2, random.pick(&[0, 1, 2, 2])];
         }
         if call == Call::Propagation {
-            case.constraints = vec![0, 1, 1, 1, 2, 5];
+            case.constraints = vec![0, 1, 9, 1, 2, 6];
         }
         ample(&mut case);
         case

@@ -125,33 +125,32 @@ impl Whole {
         found
     }
 
-    /// The probe of each candidate: constraints, sorted and without repeats, and values.
+    /// The probe of each candidate: records, merged by pair and rising by it, and values.
     pub fn probes(
         &self,
         start: &[u8],
         candidates: &[usize],
     ) -> (Vec<(usize, usize, usize)>, Vec<u8>) {
-        let mut constraints = Vec::new();
+        let mut forbidden = Vec::new();
         let mut values = vec![2; start.len()];
         for &i in candidates {
             let (at_0, at_1) = (self.probe(start, i, 0), self.probe(start, i, 1));
             for j in (0..start.len()).filter(|&j| j != i) {
-                let (low, high) = (i.min(j), i.max(j));
+                // Where a probe of i at a gives j a value, (a, the other value) is forbidden.
                 match (at_0[j], at_1[j]) {
-                    (2, 2) => {}
-                    (0, 1) => constraints.push((low, high, 5)),
-                    (1, 0) => constraints.push((low, high, 1)),
-                    (1, 2) => constraints.push((low, high, 0)),
-                    (0, 2) => constraints.push((i, j, 3)),
-                    (2, 1) => constraints.push((i, j, 4)),
-                    (2, 0) => constraints.push((low, high, 2)),
-                    (same, _) => values[j] = same,
+                    (0, 0) => values[j] = 0,
+                    (1, 1) => values[j] = 1,
+                    (v, w) => forbidden.extend(
+                        [v, w]
+                            .iter()
+                            .enumerate()
+                            .filter(|(_, &given)| given < 2)
+                            .map(|(a, &given)| (i, j, 1 << (2 * a + usize::from(1 - given)))),
+                    ),
                 }
             }
         }
-        constraints.sort_unstable();
-        constraints.dedup();
-        (constraints, values)
+        (stream::merged(forbidden), values)
     }
 
     /// The free variables by falling edge mass over entries with both ends free, then rising index, cut at the limit.
@@ -169,7 +168,7 @@ impl Whole {
         free
     }
 
-    /// The pair constraints of the first pairs, by going through all values of the other free variables.
+    /// The records of the first pairs, by going through all values of the other free variables.
     pub fn pairs(&self, start: &[u8], limit: u64) -> (u64, Vec<(usize, usize, usize)>) {
         let free: Vec<_> = (0..start.len()).filter(|&i| start[i] == 2).collect();
         let mut mass: Vec<i64> = self.linear.iter().map(|c| c.abs()).collect();
@@ -197,15 +196,19 @@ impl Whole {
                         (at(1 << i | 1 << j) - at(0), at(1 << i) - at(1 << j))
                     })
                     .collect();
+                let mut set = 0;
                 if both.iter().all(|d| d.0 > tolerance) {
-                    found.push((i, j, 2));
+                    set |= 0b1000;
                 } else if both.iter().all(|d| d.0 < -tolerance) {
-                    found.push((i, j, 0));
+                    set |= 0b0001;
                 }
                 if both.iter().all(|d| d.1 > tolerance) {
-                    found.push((i, j, 4));
+                    set |= 0b0100;
                 } else if both.iter().all(|d| d.1 < -tolerance) {
-                    found.push((i, j, 3));
+                    set |= 0b0010;
+                }
+                if set > 0 {
+                    found.push((i, j, set));
                 }
             }
         }

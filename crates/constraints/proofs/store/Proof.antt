@@ -2,7 +2,7 @@
 use mathlib.Core.Path.{refl}
 use native.Mathlib.Omega.{arith}
 use lib.ListN.{length-set}
-use Rattle.constraints.specs.Triple.{stored}
+use Rattle.constraints.specs.Record.{stored}
 use borrow.Author.Needs.{needs}
 use Rattle.constraints.proofs.store.Statement.{statement}
 use Rattle.constraints.proofs.store.Tie as tie

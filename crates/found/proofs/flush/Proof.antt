@@ -24,7 +24,7 @@ returns c =
     let at-merge = c .before .before in
     let at-distinct = at-merge .before .before .before .before .before in
     let start = at-distinct .before .before .before .before in
-    flush-is (start .pre .1) (at-distinct .distinct .ensures .0) (at-distinct .distinct .ensures .1) (start .args .held) (start .args .list .now) (at-merge .merge .ensures)
+    flush-is (start .pre .1) (at-distinct .distinct .ensures .0) (at-distinct .distinct .ensures .1) (start .args .held) (start .args .list .now) (start .pre .0) (at-merge .merge .ensures)
 
 pub flush-spec : {M : Type 1} → statement M
 flush-spec =

@@ -5,7 +5,7 @@ use std::collections::BTreeMap;
 use std::fs::File;
 use std::io::{self, BufRead, BufReader};
 use stream::line::part;
-use stream::{Call, Case, FORBIDDEN};
+use stream::{Call, Case};
 
 fn main() -> io::Result<()> {
     let words: Vec<String> = std::env::args().skip(1).collect();
@@ -111,17 +111,15 @@ fn same_pairs(ours: &str, theirs: &str) -> Option<bool> {
 }
 
 /// The forbidden pairs as (lower variable, higher variable) with four bits, 00, 01, 10, 11 from the lowest.
-fn forbidden(line: &str) -> Option<BTreeMap<(usize, usize), u8>> {
-    let mut pairs = BTreeMap::new();
+fn forbidden(line: &str) -> Option<BTreeMap<(usize, usize), usize>> {
+    let mut pairs: BTreeMap<_, usize> = BTreeMap::new();
     for item in part(line, "constraints")?
         .split(';')
         .filter(|item| !item.is_empty())
     {
         let parts: Vec<usize> = item.split(',').filter_map(|x| x.parse().ok()).collect();
-        let [i, j, kind] = parts[..] else { return None };
-        let set = *FORBIDDEN.get(kind)?;
-        let turned = (set & 0b1001) | (set & 0b0010) << 1 | (set & 0b0100) >> 1;
-        *pairs.entry((i.min(j), i.max(j))).or_default() |= if i < j { set } else { turned };
+        let [i, j, set] = parts[..] else { return None };
+        *pairs.entry((i, j)).or_default() |= set;
     }
     Some(pairs)
 }

@@ -5,7 +5,7 @@ use std::collections::BTreeMap;
 use std::fs::File;
 use std::io::{self, BufRead, BufReader};
 use stream::line::part;
-use stream::{table, Call, Case, FORBIDDEN, MOST_PAIRS};
+use stream::{table, Call, Case, MOST_PAIRS};
 use tools::whole::Whole;
 
 /// The greatest number of variables whose completions are gone through.
@@ -64,7 +64,7 @@ fn field_call(case: &Case, line: &str) -> Checked {
     let small = case.n() <= MOST;
     let values = digits(line, "values");
     let found = digits(line, "found");
-    let constraints = triples(line);
+    let constraints = records(line);
     let mut defined = 0;
     match case.call {
         Call::Closure => {
@@ -312,9 +312,9 @@ fn agrees(x: usize, values: &[u8]) -> bool {
 }
 
 fn meets(x: usize, constraints: &[(usize, usize, usize)]) -> bool {
-    constraints.iter().all(|&(i, j, kind)| {
+    constraints.iter().all(|&(i, j, set)| {
         let pair = 2 * ((x >> i) & 1) + ((x >> j) & 1);
-        FORBIDDEN[kind] >> pair & 1 == 0
+        set >> pair & 1 == 0
     })
 }
 
@@ -362,7 +362,7 @@ fn variables(line: &str) -> Vec<usize> {
         .collect()
 }
 
-fn triples(line: &str) -> Vec<(usize, usize, usize)> {
+fn records(line: &str) -> Vec<(usize, usize, usize)> {
     items(line, "constraints", ';')
         .map(|item| {
             let parts: Vec<usize> = item.split(',').map(|x| x.parse().unwrap()).collect();

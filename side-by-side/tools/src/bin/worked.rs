@@ -1,4 +1,4 @@
-//! Document 01's values worked by hand, its two that were run, and document 02's examples under C-11, C-13 and C-14.
+//! Document 01's values worked by hand, its two that were run, and document 02's examples under C-11, C-13, C-14 and C-17.
 //! Usage: `worked` writes them as a stream of cases, `worked ANSWERS` checks the answers to it.
 
 use std::io::{self, BufWriter, Write};
@@ -9,7 +9,7 @@ use tools::recorded::{ample, reason_case, worked_case, Worked, FLAT, REASONS, WO
 /// A value's name, the call, and what stands in the answer: its first words, a part's name and content.
 type Expected = (&'static str, Call, &'static str, &'static str, &'static str);
 
-const EXPECTED: [Expected; 63] = [
+const EXPECTED: [Expected; 74] = [
     ("a", Call::Closure, "0 exact ", "values", ""),
     ("b", Call::Closure, "0 exact ", "values", "2"),
     ("b", Call::Preprocess, "0 exact ", "values", "0"),
@@ -19,12 +19,23 @@ const EXPECTED: [Expected; 63] = [
     ("f", Call::Closure, "0 exact ", "values", "22"),
     ("g", Call::Closure, "0 exact ", "values", "10"),
     ("h", Call::Closure, "0 exact ", "values", "01"),
-    ("i", Call::Probe, "0 exact ", "constraints", "0,1,1"),
+    ("i", Call::Probe, "0 exact ", "constraints", "0,1,9"),
     ("i", Call::Probe, "0 exact ", "found", "22"),
     ("i", Call::Pairs, "0 exact ", "constraints", ""),
-    ("j", Call::Pairs, "0 exact ", "constraints", "0,1,2"),
+    ("j", Call::Pairs, "0 exact ", "constraints", "0,1,8"),
+    ("g", Call::Pairs, "0 exact ", "constraints", "0,1,3"),
+    ("one record", Call::Probe, "0 exact ", "constraints", "0,1,4"),
     ("k", Call::Propagation, "10 ", "values", "kept"),
     ("l", Call::Propagation, "0 ", "values", "22"),
+    ("12, x0=1", Call::Propagation, "10 ", "values", "kept"),
+    ("12, x1=1", Call::Propagation, "0 ", "values", "01"),
+    ("12, x0=0", Call::Propagation, "0 ", "values", "02"),
+    ("15", Call::Propagation, "0 ", "values", "22"),
+    ("15, x0=1", Call::Propagation, "10 ", "values", "kept"),
+    ("15, x1=0", Call::Propagation, "10 ", "values", "kept"),
+    ("turned", Call::Propagation, "7 ", "values", "kept"),
+    ("set 0", Call::Propagation, "7 ", "values", "kept"),
+    ("set 16", Call::Propagation, "7 ", "values", "kept"),
     ("m", Call::Preprocess, "0 exact ", "values", "10"),
     ("m", Call::Anchors, "0 exact ", "variables", "0"),
     ("n", Call::Closure, "0 exact ", "values", "01"),
@@ -174,11 +185,30 @@ fn worked_field(name: &str) -> &'static Worked {
         .expect("a worked field")
 }
 
+/// A name, start values and records.
+const PROPAGATED: [(&str, [u8; 2], &[u16]); 11] = [
+    ("k", [1, 2], &[0, 1, 6, 0, 1, 9]),
+    ("l", [2, 2], &[0, 1, 6, 0, 1, 9]),
+    ("12, x0=1", [1, 2], &[0, 1, 12]),
+    ("12, x1=1", [2, 1], &[0, 1, 12]),
+    ("12, x0=0", [0, 2], &[0, 1, 12]),
+    ("15", [2, 2], &[0, 1, 15]),
+    ("15, x0=1", [1, 2], &[0, 1, 15]),
+    ("15, x1=0", [2, 0], &[0, 1, 15]),
+    ("turned", [2, 2], &[1, 0, 6]),
+    ("set 0", [2, 2], &[0, 1, 0]),
+    ("set 16", [2, 2], &[0, 1, 16]),
+];
+
 fn case_of(&(name, call, ..): &Expected) -> Case {
     if call == Call::Propagation {
         let mut case = Case::new(call);
-        case.start = if name == "k" { vec![1, 2] } else { vec![2, 2] };
-        case.constraints = vec![0, 1, 5, 0, 1, 1];
+        let (_, start, constraints) = PROPAGATED
+            .iter()
+            .find(|row| row.0 == name)
+            .expect("a worked list");
+        case.start = start.to_vec();
+        case.constraints = constraints.to_vec();
         ample(&mut case);
         return case;
     }

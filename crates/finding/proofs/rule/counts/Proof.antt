@@ -7,11 +7,11 @@ use Rattle.finding.proofs.rule.counts.Tie as tie
 
 returns : tie.Need-returns
 unfolding countOf
-returns c = (rw (lt-ltb _ 134217728 (c .if1 .taken)), omega arith)
+returns c = (rw (lt-ltb _ 268435456 (c .if1 .taken)), omega arith)
 
 returns-2 : tie.Need-returns-2
 unfolding countOf
-returns-2 c = (rw (le-ltb _ 134217728 (c .if1 .left)), omega arith)
+returns-2 c = (rw (le-ltb _ 268435456 (c .if1 .left)), omega arith)
 
 pub counts-spec : {M : Type 1} → statement M
 counts-spec = tie.close (tie.spec returns returns-2)

@@ -1,7 +1,7 @@
--- `take_last` compares the last item with the last word. Assumes nothing.
+-- `take_last` compares the pairs of the last item and of the last word. Assumes nothing.
 use Prim.Native.Nat.{_-_}
 use native.Mathlib.Omega.{arith}
-use Rattle.constraints.proofs.Triples.{has-room}
+use Rattle.constraints.proofs.Records.{has-room}
 use Rattle.found.proofs.Lasts.{item-small, last-alone, last-above, last-both, last-item}
 use Rattle.found.proofs.merging.take_last.Statement.{statement}
 use Rattle.found.proofs.merging.take_last.Tie as tie
@@ -34,8 +34,8 @@ key-at-requires c κs =
       item-small (a .items) (a .list .now) (start .pre .0) (omega (arith, c .if1 .left)),
     )
 
-sub-t14 : tie.Need-sub-t14
-sub-t14 c = omega (arith, c .before .before .before .before .before .before .pre .1 .1)
+sub-t15 : tie.Need-sub-t15
+sub-t15 c = omega (arith, c .before .before .before .before .before .before .pre .1 .1)
 
 returns-2 : tie.Need-returns-2
 returns-2 c =
@@ -44,11 +44,11 @@ returns-2 c =
     let start = at-if1 .before .before .before .before in
     last-above (start .pre .0) (start .pre .1 .0) (start .pre .1 .1) (omega (arith, at-if1 .if1 .left)) (at-key-at .key-at .ensures) (c .if2 .taken)
 
-sub-t15 : tie.Need-sub-t15
-sub-t15 c = omega (arith, c .before .before .before .if1 .left)
+sub-t17 : tie.Need-sub-t17
+sub-t17 c = omega (arith, c .before .before .before .if1 .left)
 
-sub-t16 : tie.Need-sub-t16
-sub-t16 c = omega (arith, c .before .before .before .before .before .before .before .pre .1 .1)
+sub-t18 : tie.Need-sub-t18
+sub-t18 c = omega (arith, c .before .before .before .before .before .before .before .pre .1 .1)
 
 returns-3 : tie.Need-returns-3
 returns-3 c =
@@ -79,10 +79,10 @@ take-last-spec =
     returns
     sub-key-at
     key-at-requires
-    sub-t14
-    returns-2
     sub-t15
-    sub-t16
+    returns-2
+    sub-t17
+    sub-t18
     returns-3
     sub-t9
     returns-4)

@@ -1,7 +1,7 @@
 -- `append_pair` works out one pair and appends what it gives. Assumes nothing.
 use native.Mathlib.Omega.{arith}
 use Rattle.pairs.proofs.PairLaws.{tolerance-is}
-use Rattle.pairs.proofs.ListLaws.{sum-few, pair-given}
+use Rattle.pairs.proofs.ListLaws.{appended-as, pair-stands, pair-below}
 use borrow.Author.Needs.{needs}
 use Rattle.pairs.proofs.listing.append_pair.Statement.{statement}
 use Rattle.pairs.proofs.listing.append_pair.Tie as tie
@@ -50,46 +50,49 @@ judged-requires c κs = search needs
 judged-requires-2 : tie.Need-judged-requires-2
 judged-requires-2 c κs = search needs
 
-cast-append-sum : tie.Need-cast-append-sum
-cast-append-sum c =
-    let start = c .before .before .before .before .before .before .before .before .before .before .before .before .before .before .before in
-    omega (arith, start .pre .0 .laid .shaped .few-variables, start .pre .1 .0)
+cast-sum-key : tie.Need-cast-sum-key
+cast-sum-key c = let start = c .before .before .before .before .before .before .before .before .before .before .before .before .before .before in omega (arith, start .pre .0 .laid .shaped .few-variables, start .pre .1 .0)
 
-cast-append-sum-2 : tie.Need-cast-append-sum-2
-cast-append-sum-2 c =
-    let start = c .before .before .before .before .before .before .before .before .before .before .before .before .before .before .before in
-    omega (arith, start .pre .0 .laid .shaped .few-variables, start .pre .1 .0)
+cast-sum-key-2 : tie.Need-cast-sum-key-2
+cast-sum-key-2 c = let start = c .before .before .before .before .before .before .before .before .before .before .before .before .before .before in omega (arith, start .pre .0 .laid .shaped .few-variables, start .pre .1 .0)
 
-append-sum-requires : tie.Need-append-sum-requires
-append-sum-requires c κs = omega (arith, c .before .before .before .before .before .before .before .before .before .before .before .before .before .before .before .pre .1 .1 .1)
+sum-key-requires : tie.Need-sum-key-requires
+sum-key-requires c κs = let start = c .before .before .before .before .before .before .before .before .before .before .before .before .before .before in omega (arith, start .pre .0 .laid .shaped .few-variables, start .pre .1 .0)
 
-cast-append-diff : tie.Need-cast-append-diff
-cast-append-diff c =
-    let start = c .before .before .before .before .before .before .before .before .before .before .before .before .before .before .before .before .before .before .before in
-    omega (arith, start .pre .0 .laid .shaped .few-variables, start .pre .1 .0)
+cast-diff-key : tie.Need-cast-diff-key
+cast-diff-key c = let start = c .before .before .before .before .before .before .before .before .before .before .before .before .before .before .before in omega (arith, start .pre .0 .laid .shaped .few-variables, start .pre .1 .0)
 
-cast-append-diff-2 : tie.Need-cast-append-diff-2
-cast-append-diff-2 c =
-    let start = c .before .before .before .before .before .before .before .before .before .before .before .before .before .before .before .before .before .before .before in
-    omega (arith, start .pre .0 .laid .shaped .few-variables, start .pre .1 .0)
+cast-diff-key-2 : tie.Need-cast-diff-key-2
+cast-diff-key-2 c = let start = c .before .before .before .before .before .before .before .before .before .before .before .before .before .before .before in omega (arith, start .pre .0 .laid .shaped .few-variables, start .pre .1 .0)
 
-append-diff-requires : tie.Need-append-diff-requires
-append-diff-requires c κs =
-    let at-append-sum = c .before .before .before in
-    let start = at-append-sum .before .before .before .before .before .before .before .before .before .before .before .before .before .before .before .before in
-    omega (arith, start .pre .1 .1 .1, sum-few _ _ _ (at-append-sum .append-sum .ensures))
+diff-key-requires : tie.Need-diff-key-requires
+diff-key-requires c κs = let start = c .before .before .before .before .before .before .before .before .before .before .before .before .before .before .before in omega (arith, start .pre .0 .laid .shaped .few-variables, start .pre .1 .0)
 
-same-length : tie.Need-same-length
-same-length c = search needs
+append-requires : tie.Need-append-requires
+append-requires c κs =
+    let at-diff-key = c .before in
+    let at-sum-key = at-diff-key .before in
+    let start = at-sum-key .before .before .before .before .before .before .before .before .before .before .before .before .before .before .before in
+    let few = start .pre .0 .laid .shaped .few-variables in (
+      start .pre .1 .1 .1,
+      pair-below (start .args .i) (start .args .j) (omega (arith, few, start .pre .1 .0)) (omega (arith, few, start .pre .1 .0)) _ _ (at-sum-key .sum-key .ensures)
+          (at-diff-key .diff-key .ensures),
+    )
 
 returns : tie.Need-returns
 returns c =
-    let at-append-sum = c .before .before .before .before .before .before in
-    let at-judged2 = at-append-sum .before .before in
+    let at-append = c .before .before in
+    let at-diff-key = at-append .before .before in
+    let at-sum-key = at-diff-key .before in
+    let at-judged2 = at-sum-key .before in
     let at-judged = at-judged2 .before in
     let at-pair-bounds = at-judged .before in
-    pair-given _ _ _ _ _ _ _ _ (at-pair-bounds .pair-bounds .ensures) (at-judged .judged .ensures) (at-judged2 .judged2 .ensures) (at-append-sum .append-sum .ensures)
-    (c .before .before .append-diff .ensures)
+    let start = at-judged2 .before .before .before .before .before .before .before .before .before .before .before .before .before .before in
+    let few = start .pre .0 .laid .shaped .few-variables in
+    appended-as
+    (pair-stands (start .args .i) (start .args .j) (omega (arith, few, start .pre .1 .0)) (omega (arith, few, start .pre .1 .0)) _ _ _ _ (at-pair-bounds .pair-bounds .ensures)
+    (at-judged .judged .ensures) (at-judged2 .judged2 .ensures) (at-sum-key .sum-key .ensures) (at-diff-key .diff-key .ensures))
+    (at-append .append .ensures)
 
 pub append-pair-spec : {M : Type 1} → statement M
 append-pair-spec =
@@ -105,11 +108,12 @@ append-pair-spec =
     pair-bounds-requires
     judged-requires
     judged-requires-2
-    cast-append-sum
-    cast-append-sum-2
-    append-sum-requires
-    cast-append-diff
-    cast-append-diff-2
-    append-diff-requires
-    same-length
+    cast-sum-key
+    cast-sum-key-2
+    sum-key-requires
+    cast-diff-key
+    cast-diff-key-2
+    diff-key-requires
+    append-requires
+    (λ c. search needs)
     returns)

@@ -1,7 +1,7 @@
--- `all_fit` tests one triple a turn. Assumes nothing.
+-- `all_fit` tests one record a turn. Assumes nothing.
 use Rattle.propagation.specs.Tests.{fits, allFit}
-use Rattle.constraints.proofs.Triples.{has-room}
-use Rattle.constraints.specs.Triple.{room, tripleAt}
+use Rattle.constraints.proofs.Records.{has-room}
+use Rattle.constraints.specs.Record.{room, recordAt}
 use Rattle.scratch.proofs.All.{all-start, all-turn, all-stop, all-done}
 use Rattle.scratch.specs.All.{Passing}
 use borrow.Author.Tests.{not-true, not-false}
@@ -13,7 +13,7 @@ use Rattle.propagation.proofs.tests.all_fit.Statement.{statement}
 use Rattle.propagation.proofs.tests.all_fit.Tie as tie
 
 abbrev Inv-loop : tie.InvT-loop
-Inv-loop n list k t₀ t = Passing (λ j. fits n (tripleAt list j)) (room list) t
+Inv-loop n list k t₀ t = Passing (λ j. fits n (recordAt list j)) (room list) t
 
 abbrev μ-loop : tie.MeasureT-loop
 μ-loop n list k t₀ t = k - t

@@ -1,4 +1,4 @@
--- `constraints_fit` tests the length, then every triple. Assumes nothing.
+-- `constraints_fit` tests the length, then every record. Assumes nothing.
 use Rattle.propagation.specs.Tests.{constraintsFit}
 use Rattle.scratch.proofs.All.{and-yes, and-no}
 use borrow.Author.Tests.{le-leb, lt-leb, eq-eqb, ne-eqb}
