@@ -91,6 +91,19 @@ int main(void)
     answer = ombradiec_shift(SLICE(shifted), SLICE(some_rows), SLICE(some_cols), SLICE(quad));
     printf("shift: refusal %d at entry %zu\n", OMBRADIEC_REFUSAL(answer), OMBRADIEC_POSITION(answer));
 
+    double smaller[2] = {-5, -1}, pair[1] = {4}, constant = 9;
+    uint16_t row[1] = {0}, col[1] = {1}, map[1] = {7};
+    start[0] = 1, start[1] = 2;
+    answer = ombradiec_sub_problem(SLICE(smaller), SLICE(row), SLICE(col), SLICE(pair), SLICE(start), SLICE(map), &constant,
+                                   SCRATCH);
+    print("sub_problem", answer, "left, map", OMBRADIEC_LEFT(answer), map[0]);
+    printf("  c %g %g, entry %d %d %g, constant %g\n", smaller[0], smaller[1], row[0], col[0], pair[0], constant);
+    /* nothing is given, and the map has one place for two free variables */
+    answer = ombradiec_sub_problem(SLICE(smaller), SLICE(row), SLICE(col), SLICE(pair), SLICE(free_both), SLICE(map),
+                                   &constant, SCRATCH);
+    print("sub_problem", answer, "left, map", OMBRADIEC_LEFT(answer), map[0]);
+    printf("  c %g %g, constant %g\n", smaller[0], smaller[1], constant);
+
     /* x0 equals x1, and exactly one of them is 1 */
     const uint16_t both[6] = {0, 1, OMBRADIEC_FORBIDS_01 | OMBRADIEC_FORBIDS_10,
                               0, 1, OMBRADIEC_FORBIDS_00 | OMBRADIEC_FORBIDS_11};

@@ -26,7 +26,7 @@ extern "C" {
 #endif
 
 /* What a call answers, in one number: bits 0 to 7 the refusal, 8 to 15 the grade, 16 to 43 the count, 44 to 63 the
- * pairs examined, or of reason 4 times the unit and the ground. A refusal has neither a grade nor counts; of ROW, COLUMN, REPEAT and ORDER the count's bits hold the
+ * pairs examined, of reason 4 times the unit and the ground, of sub_problem the variables left. A refusal has neither a grade nor counts; of ROW, COLUMN, REPEAT and ORDER the count's bits hold the
  * position of the first entry at fault. */
 typedef uint64_t ombradiec_answer;
 
@@ -34,7 +34,8 @@ typedef uint64_t ombradiec_answer;
 #define OMBRADIEC_REFUSAL(answer) ((int)((answer) & 0xff))
 /* 1 if the field is exact, so that no sum rounds; 0 if it is not */
 #define OMBRADIEC_EXACT(answer) ((int)((answer) >> 8 & 0xff))
-/* the items in the answer list; of shift the new number of entries; of closure the free variables with a flat row */
+/* the items in the answer list; of shift and sub_problem the new number of entries; of closure the free variables with a
+ * flat row */
 #define OMBRADIEC_COUNT(answer) ((size_t)((answer) >> 16 & 0xfffffff))
 /* of ROW, COLUMN, REPEAT and ORDER: the position of the first entry at fault, from 0, in the lists given */
 #define OMBRADIEC_POSITION(answer) OMBRADIEC_COUNT(answer)
@@ -43,6 +44,8 @@ typedef uint64_t ombradiec_answer;
 /* of reason: the ground, and k of the unit 2^(k - 20), from 0 to 40 */
 #define OMBRADIEC_GROUND(answer) ((int)((answer) >> 44 & 3))
 #define OMBRADIEC_UNIT(answer) ((int)((answer) >> 46))
+/* of sub_problem: the variables left, which are also the items of the map */
+#define OMBRADIEC_LEFT(answer) ((size_t)((answer) >> 44))
 
 /* The refusals, tested in this order. Those up to SCRATCH change nothing lent; past it all of the scratch ends as zeros.
  * INEXACT and UNFORCED are reason's, and leave its list and its bound.
@@ -128,6 +131,17 @@ ombradiec_answer ombradiec_no_effect(const double *c, size_t c_len, const uint16
 /* Adds half of each diagonal entry to its c, closes the other entries up in place, and counts them. */
 ombradiec_answer ombradiec_shift(double *c, size_t c_len, uint16_t *rows, size_t rows_len, uint16_t *cols,
                                  size_t cols_len, double *q, size_t q_len);
+
+/* Leaves the field without the variables that `start` gives: the free ones renumbered in order, their entries in order, and
+ * in each c what the given variables add; places past the new ends are zero. `map` gets the old number of each new variable,
+ * rising, and `constant`, on OMBRADIEC_DONE alone, what the objective of the given variables comes to. A diagonal is allowed.
+ * The grade is that of the field as it was given; that of the field that is left may be another. On OMBRADIEC_ROOM, where
+ * `map` is shorter than the free variables, the field is unchanged. On an exact field the objective of a completion is that
+ * of its free values in the field left, plus the constant, and best completions correspond one to one. */
+ombradiec_answer ombradiec_sub_problem(double *c, size_t c_len, uint16_t *rows, size_t rows_len, uint16_t *cols,
+                                       size_t cols_len, double *q, size_t q_len, const uint8_t *start,
+                                       size_t start_len, uint16_t *map, size_t map_len, double *constant, double *f,
+                                       size_t f_len, uint32_t *u, size_t u_len);
 
 /* Counts the anchors of the components of at least `least` variables, and puts them at the front of `list`; a diagonal is
  * allowed; on an exact field each anchor alone is 0 in some best completion and 1 in another. */

@@ -56,6 +56,17 @@ impl Reason {
     }
 }
 
+/// What [`sub_problem`](crate::sub_problem) answers beside the field that it leaves.
+#[derive(Clone, Debug, PartialEq)]
+pub struct SubProblem {
+    /// The grade of the field as it was given; that of the field left may be another.
+    pub grade: Grade,
+    /// The old number of each variable left, rising.
+    pub map: Vec<u16>,
+    /// What the objective of the given variables comes to.
+    pub constant: f64,
+}
+
 /// Why a call gave no answer; tested in this order. The four that have a position are one test: they say what is wrong with
 /// the first entry at fault, its row before its column and both before its place; `at` counts
 /// [`Field::entries`](crate::Field::entries) from 0.
@@ -206,7 +217,7 @@ impl fmt::Display for Refusal {
 impl Error for Refusal {}
 
 /// Reads a call's number: bits 0 to 7 the refusal, 8 to 15 the grade, 16 to 43 the count or the position that a refusal names,
-/// 44 to 63 the pairs examined.
+/// 44 to 63 the pairs examined or the variables left.
 pub(crate) fn read(answer: u64) -> Result<Done, Refusal> {
     let count = ((answer >> 16) & 0xfff_ffff) as usize;
     match (answer & 0xff) as u8 {

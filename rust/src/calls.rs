@@ -1,6 +1,6 @@
 //! Each call, safe. In every `unsafe` block each pointer and length are those of one slice or vector that is borrowed for the
 //! call, so the memory is there, and what the library writes to overlaps nothing else. The library asks no more.
-use crate::answer::{read, read_reason, Done, Reason, Refusal};
+use crate::answer::{read, read_reason, Done, Reason, Refusal, SubProblem};
 use crate::field::{Constraint, Field, Scratch, Values};
 use crate::library::*;
 
@@ -147,6 +147,55 @@ pub fn shift(field: &mut Field) -> Result<Done, Refusal> {
     cols.truncate(done.count);
     q.truncate(done.count);
     Ok(done)
+}
+
+/// Leaves the field without the variables that `start` gives: the free ones renumbered in order, their entries, and in each c
+/// what the given variables add. A diagonal is allowed. On an exact field the objective of a completion is that of its free
+/// values in the field left, plus the constant, and best completions correspond one to one.
+///
+/// ```
+/// use ombradiec::{sub_problem, Field, Scratch, Values};
+/// let mut field = Field::new(&[-5.0, -1.0, 3.0], &[(1, 0, 2.0), (0, 1, 4.0), (0, 2, -6.0), (1, 2, 8.0)]);
+/// let mut start = Values::free(3);
+/// start.set(1, Some(true));
+/// let done = sub_problem(&mut field, &start, &mut Scratch::new())?;
+/// assert_eq!(field, Field::new(&[-2.0, 7.0], &[(0, 1, -6.0)]));
+/// assert_eq!((done.map, done.constant), (vec![0, 2], -1.0));
+/// # Ok::<(), ombradiec::Refusal>(())
+/// ```
+pub fn sub_problem(field: &mut Field, start: &Values, scratch: &mut Scratch) -> Result<SubProblem, Refusal> {
+    let (f, u) = scratch.lend(field.variables(), field.quad.len());
+    let mut map = vec![0; field.variables()];
+    let mut constant = 0.0;
+    let Field { linear: c, rows, cols, quad: q } = field;
+    let done = read(unsafe {
+        ombradiec_sub_problem(
+            c.as_mut_ptr(),
+            c.len(),
+            rows.as_mut_ptr(),
+            rows.len(),
+            cols.as_mut_ptr(),
+            cols.len(),
+            q.as_mut_ptr(),
+            q.len(),
+            start.0.as_ptr(),
+            start.0.len(),
+            map.as_mut_ptr(),
+            map.len(),
+            &mut constant,
+            f.as_mut_ptr(),
+            f.len(),
+            u.as_mut_ptr(),
+            u.len(),
+        )
+    })?;
+    let (entries, variables) = (done.count, done.pairs);
+    c.truncate(variables);
+    rows.truncate(entries);
+    cols.truncate(entries);
+    q.truncate(entries);
+    map.truncate(variables);
+    Ok(SubProblem { grade: done.grade, map, constant })
 }
 
 /// Puts one variable of each complement-symmetric component of at least `least` variables, none of which has a start value,

@@ -3,6 +3,7 @@
 //! [`closure`] forces what the signs of the gradient decide; on an exact field every best solution has these values, though
 //! others may be the same in every best solution too. [`components`], [`preprocess`] and [`heavy`] force more: values that
 //! some best solution has. [`reason`] says why the closure forces a value. [`probe`], [`pairs`] and [`anchors`] find constraints and symmetries.
+//! [`sub_problem`] leaves the field of the variables that are still free.
 //!
 //! Each call is proved to meet its promise, for every input; this crate is a thin, safe layer over the archive
 //! `libombradiec.a` (x86-64 Linux), which `rt staticlib ombradiec` makes. It depends on nothing else.
@@ -26,9 +27,9 @@ mod calls;
 mod field;
 mod library;
 
-pub use answer::{Done, Grade, Ground, Reason, Refusal};
+pub use answer::{Done, Grade, Ground, Reason, Refusal, SubProblem};
 pub use calls::{
     anchors, closure, components, heavy, no_effect, pairs, preprocess, probe, probe_limited, probe_one, propagate,
-    reason, shift,
+    reason, shift, sub_problem,
 };
 pub use field::{Constraint, Field, Kind, Scratch, Values};

@@ -74,6 +74,25 @@ extern "C" {
         q: *mut f64,
         q_len: usize,
     ) -> u64;
+    pub fn ombradiec_sub_problem(
+        c: *mut f64,
+        c_len: usize,
+        rows: *mut u16,
+        rows_len: usize,
+        cols: *mut u16,
+        cols_len: usize,
+        q: *mut f64,
+        q_len: usize,
+        start: *const u8,
+        start_len: usize,
+        map: *mut u16,
+        map_len: usize,
+        constant: *mut f64,
+        f: *mut f64,
+        f_len: usize,
+        u: *mut u32,
+        u_len: usize,
+    ) -> u64;
     pub fn ombradiec_anchors(
         c: *const f64,
         c_len: usize,

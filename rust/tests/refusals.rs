@@ -91,6 +91,22 @@ fn another_refusal_leaves_values_as_they_were() {
 }
 
 #[test]
+fn a_smaller_problem_that_is_refused_leaves_the_field() {
+    let mut field = Field::new(&[1.0, 2.0], &[(0, 1, 4.0)]);
+    let before = field.clone();
+    let mut scratch = Scratch::new();
+    assert_eq!(sub_problem(&mut field, &Values::free(3), &mut scratch), Err(Refusal::Start));
+    assert_eq!(field, before);
+    // a diagonal is allowed, and all may be given
+    let mut diagonal = Field::new(&[1.0], &[(0, 0, 4.0)]);
+    let mut start = Values::free(1);
+    start.set(0, Some(true));
+    let done = sub_problem(&mut diagonal, &start, &mut scratch).unwrap();
+    assert_eq!((diagonal, done.map, done.constant), (Field::default(), vec![], 3.0));
+    assert_eq!(done.grade, Grade::Inexact);
+}
+
+#[test]
 fn a_list_without_room_ends_as_zeros() {
     let mut list = [7];
     assert_eq!(no_effect(&Field::new(&[0.0; 2], &[]), &mut list, &mut Scratch::new()), Err(Refusal::Room));

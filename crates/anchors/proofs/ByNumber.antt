@@ -15,7 +15,7 @@ use Rattle.expansion.specs.Overflow.{Valid, Overflows}
 use Rattle.field.specs.declared.Counted.the-variants.{Counts}
 use Rattle.field.specs.declared.Grade.{Grade}
 use Rattle.field.specs.Field.{Field, variables, entries, linearOf, Shaped}
-use Rattle.field.specs.Tests.{Finite}
+use Rattle.field.specs.Tests.{Finite, Admitted}
 use Rattle.field.specs.Grade.{ExactIn}
 use Rattle.field.specs.Reading.{wholeOf}
 use Rattle.places.specs.Places.{places}
@@ -27,7 +27,7 @@ use Rattle.parts.proofs.Marks.{opened-long}
 use Rattle.parts.proofs.Theorems.{components-found}
 use Rattle.anchors.specs.Sums.{balanceOver, balanceOf, balanced, plainOver}
 use Rattle.anchors.specs.Rule.{Leads, Turns, AnchorsBy, no-part, anchored, passed-over, terms}
-use Rattle.anchors.specs.Call.{Admitted, Left, anchorsCall}
+use Rattle.anchors.specs.Call.{Left, anchorsCall}
 use Rattle.anchors.specs.Number.{sumOf, TurnsByNumber, HeldField, gather}
 use Rattle.anchors.proofs.Balance as balance
 use Rattle.anchors.proofs.Number as number

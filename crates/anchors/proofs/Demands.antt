@@ -26,21 +26,22 @@ use Rattle.field.specs.declared.Refusal.{Refusal}
 use Rattle.field.specs.declared.Refusal.the-variants.{Room}
 use Rattle.field.specs.Field.{Field, variables, Shaped}
 use Rattle.field.specs.Table.{FirstToFail}
-use Rattle.field.specs.Tests.{Finite}
+use Rattle.field.specs.Tests.{openTests, Finite, Admitted}
 use Rattle.field.specs.Grade.{gradeOf, ExactIn, Serves}
 use Rattle.field.specs.Reading.{wholeOf}
 use Rattle.field.proofs.Table.{group-is, last-is}
+use Rattle.field.proofs.Means.{admitted-passes}
 use Rattle.calls.specs.Call.{table, no-stage}
 use Rattle.calls.proofs.Answers.{same-refuses, counts-apart}
+use Rattle.calls.proofs.Open.{never-room}
 use Rattle.calls.proofs.Call as any
 use Rattle.calls.proofs.Usual as usual
 use Rattle.calls.proofs.Usual.{this-stage, other-stage}
 use Rattle.parts.specs.Walk.{opened, components}
 use Rattle.anchors.specs.Sums.{balanceOf, balanced, plainSum}
 use Rattle.anchors.specs.Model.{anchorsOf}
-use Rattle.anchors.specs.Call.{anchorTests, fits, anchorTable, Admitted, Left, left, anchorsCall}
+use Rattle.anchors.specs.Call.{fits, anchorTable, Left, left, anchorsCall}
 use Rattle.anchors.specs.Rule.{AnchorsOf, terms, HeldWeights}
-use Rattle.anchors.proofs.Laws.{admitted-passes, never-room}
 use Rattle.anchors.proofs.Ruling.{anchors-ruled, rule-one}
 use Rattle.anchors.proofs.Turning.{either-stands}
 use Rattle.anchors.proofs.Balance.{balanced-is, plain-sum-tells}
@@ -84,7 +85,7 @@ module _ (F : Field) (s : List ℕ) (least : ℕ) (list : List ℕ) (f : List Fl
   unfolding anchorsCall table
   done-when =
       usual.done-when Refuses _ _ _ _ same-refuses counts-apart
-      (group-is (anchorTests F s (length f) (length u)) _ (admitted-passes F s (length f) (length u)) (last-is Room _ (le-is (length (anchorsOf F s least)) (length list))))
+      (group-is (openTests F s (length f) (length u)) _ (admitted-passes F s (length f) (length u)) (last-is Room _ (le-is (length (anchorsOf F s least)) (length list))))
 
   module _ (g : Grade) (k : ℕ) (e : anchorsCall F s least list f u .answer ≡ Counts g k) where
     -- Then the anchors stand at the front of the list, what is past the last is unchanged, and both scratches are all zeros.

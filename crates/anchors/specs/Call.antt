@@ -1,5 +1,5 @@
 -- What the call `anchors` answers and leaves, as one function of what it is given, for every input. Assumes nothing.
-use Prim.Native.Nat.{ℕ, _≤_, _+_, _*_}
+use Prim.Native.Nat.{ℕ}
 use mathlib.Core.Bool.{Bool}
 use mathlib.Core.List.{List, [], _∷_, _++_}
 use lib.ListN.{length}
@@ -10,39 +10,22 @@ use Rattle.scratch.specs.Cleared.{cleared}
 use Rattle.scratch.specs.Over.{over}
 use Rattle.field.specs.declared.Counted.{Counted}
 use Rattle.field.specs.declared.Counted.the-variants.{Counts, Refuses}
-use Rattle.field.specs.declared.Refusal.the-variants.{Start, Scratch, Room}
-use Rattle.field.specs.Field.{Field, variables, entries, Shaped, StartFor}
+use Rattle.field.specs.declared.Refusal.the-variants.{Room}
+use Rattle.field.specs.Field.{Field}
 use Rattle.field.specs.Table.{Test, test}
-use Rattle.field.specs.Tests.{looseTests, startFits, floatsFit, wordsFit, Finite}
+use Rattle.field.specs.Tests.{openTests}
 use Rattle.field.specs.Grade.{gradeOf}
 use Rattle.calls.specs.Call as any
 use Rattle.calls.specs.Call.{called, stage, usual}
 use Rattle.anchors.specs.Model.{anchorsOf}
 
--- 1, 2, 3, 5, 6 and 8
-unfoldable pub anchorTests : Field → List ℕ → ℕ → ℕ → List Test
-anchorTests F s floats words =
-    looseTests F
-    ++ test Start (startFits (variables F) s)
-    ∷ test Scratch (floatsFit (variables F) (entries F) floats)
-    ∷ test Scratch (wordsFit (variables F) (entries F) words)
-    ∷ []
-
--- what passing leaves
-pub record Admitted (F : Field) (s : List ℕ) (floats words : ℕ) : Type 0 where
-  pub shaped : Shaped F
-  pub finite-weights : Finite F
-  pub start : StartFor (variables F) s
-  pub floats-room : 8 * variables F + 4 * entries F + 16 ≤ floats
-  pub words-room : 16 * variables F + 8 * entries F + 16 ≤ words
-
 -- whether the list has room for every anchor: "9 is given exactly if a full answer has more items than its list has room for"
 abbrev pub fits : Field → List ℕ → ℕ → List ℕ → Bool
 fits F s least list = leb (length (anchorsOf F s least)) (length list)
 
--- the whole table: 1, 2, 3, 5, 6, 8 and 9
+-- the whole table: `openTests` and 9
 abbrev pub anchorTable : Field → List ℕ → ℕ → List ℕ → ℕ → ℕ → List Test
-anchorTable F s least list floats words = anchorTests F s floats words ++ test Room (fits F s least list) ∷ []
+anchorTable F s least list floats words = openTests F s floats words ++ test Room (fits F s least list) ∷ []
 
 -- the three lent lists
 pub record Lent : Type 0 where
@@ -60,10 +43,10 @@ Left = any.Left Counted Lent
 abbrev pub left : Counted → List ℕ → List Float → List ℕ → Left
 left r l f u = any.left r (lent l f u)
 
--- tests 1, 2, 3, 5, 6 and 8, then room, then the anchors: "then each answer list is all zeros"; "After passing 8, scratch ends as all zeros";
+-- the tests of `openTests`, then room, then the anchors: "then each answer list is all zeros"; "After passing 8, scratch ends as all zeros";
 -- "elements past an answer list's last item are unchanged"
 unfoldable pub anchorsCall : Field → List ℕ → ℕ → List ℕ → List Float → List ℕ → Left
 anchorsCall F s least list f u =
     called
-    (usual Refuses (lent list f u) (anchorTests F s (length f) (length u)) (stage Room (fits F s least list) (lent (cleared 0 list) (cleared zero64 f) (cleared 0 u)) ∷ [])
+    (usual Refuses (lent list f u) (openTests F s (length f) (length u)) (stage Room (fits F s least list) (lent (cleared 0 list) (cleared zero64 f) (cleared 0 u)) ∷ [])
     (left (Counts (gradeOf F) (length (anchorsOf F s least))) (over (anchorsOf F s least) list) (cleared zero64 f) (cleared 0 u)))

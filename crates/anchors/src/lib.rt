@@ -2,20 +2,21 @@
 mod members;
 mod search;
 mod sums;
-mod tests;
 
 use field::Checked;
 use field::Counted;
 use field::Grade;
 use field::Refusal;
+use field::tests::admitted;
 ghost use mathlib.Core.Path.{_≡_};
 ghost use lib.ListN.{length};
 ghost use Rattle.scratch.specs.Lent.{before, after};
 ghost use Rattle.field.specs.Field.{given, lent};
+ghost use Rattle.field.specs.Tests.{Admitted};
 ghost use Rattle.field.specs.Grade.{gradeOf};
 ghost use Rattle.anchors.specs.Model as model;
 ghost use Rattle.anchors.specs.Cells.{Lists};
-ghost use Rattle.anchors.specs.Call.{Admitted, left, anchorsCall};
+ghost use Rattle.anchors.specs.Call.{left, anchorsCall};
 
 // The variable that leads so far, and its weight.
 struct Leader {
@@ -76,7 +77,7 @@ pub fn anchors(
 ) -> Counted
     ensures { λ r. ⌜ left r (after list) (after f) (after u) ≡ anchorsCall (given c rows cols q) (before start) least (before list) (before f) (before u) ⌝ }
 {
-    let checked = tests::admitted(c, rows, cols, q, start, f.len(), u.len());
+    let checked = admitted(c, rows, cols, q, start, f.len(), u.len());
     if let Checked::Failed(refusal) = checked {
         return Counted::Refuses(refusal);
     }

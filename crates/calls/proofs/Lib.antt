@@ -3,3 +3,4 @@ pub mod Usual
 pub mod Answers
 pub mod ValuesBy
 pub mod Values
+pub mod Open

@@ -19,7 +19,7 @@ use Rattle.field.specs.declared.Checked.the-variants.{Passed, Failed}
 use Rattle.field.specs.Answers.{numberOf, positionOf}
 use Rattle.field.specs.Field.{Field, variables, entries, Before}
 use Rattle.field.specs.Table.{Test, test, tested, FirstToFail, fails, passes}
-use Rattle.field.specs.Tests.{isBefore, inOrder, isFine, firstFrom, wrongAt, faultOf, shapeTests, looseTests, standardTests, readyTests}
+use Rattle.field.specs.Tests.{isBefore, inOrder, isFine, firstFrom, wrongAt, faultOf, shapeTests, looseTests, openTests, standardTests, readyTests}
 use Rattle.field.specs.Faults.{Fine, Reached, Fault, row, column, same, back, Listed, OneFault, Near}
 use Rattle.field.proofs.Means.{few-means, lists-mean, order-means}
 use Rattle.field.proofs.Table.{not-both, same-refusal, refused-exactly, test-no, test-ok, group-no, group-ok}
@@ -364,6 +364,11 @@ shapes-near F r e = shape-near F (refused-exactly (shapeTests F) r .0 e)
 pub loose-near : (F : Field) → Near (looseTests F)
 unfolding looseTests
 loose-near F = near-group _ _ (shapes-near F) (near-test Weights _ _ (omega arith) near-none)
+
+pub open-near : (F : Field) (s : List ℕ) (floats words : ℕ) → Near (openTests F s floats words)
+unfolding openTests
+open-near F s floats words =
+    near-group _ _ (loose-near F) (near-test Start _ _ (omega arith) (near-test Scratch _ _ (omega arith) (near-test Scratch _ _ (omega arith) near-none)))
 
 pub standard-near : (F : Field) (s : List ℕ) → Near (standardTests F s)
 unfolding standardTests

@@ -2,6 +2,7 @@ pub mod Answers
 pub mod Table
 pub mod Means
 pub mod Faults
+pub mod Order
 pub mod Exact
 pub mod Units
 pub mod Measure

@@ -14,7 +14,7 @@ use Rattle.field.specs.declared.Checked.the-variants.{Passed}
 use Rattle.field.specs.declared.Refusal.the-variants.{Variables, Lists, Diagonal, Weights, Start, Scratch}
 use Rattle.field.specs.Field.{Field, variables, entries, rowEnd, columnEnd, Before, Shaped, StartFor}
 use Rattle.field.specs.Table.{tested}
-use Rattle.field.specs.Tests.{endsBelow, risesAt, allRise, allFinite, bytesSmall, fewVariables, listsMatch, inOrder, offDiagonal, weightsFinite, startFits, floatsFit, wordsFit, shapeTests, looseTests, standardTests, readyTests, Loose, Sound, Ready}
+use Rattle.field.specs.Tests.{endsBelow, risesAt, allRise, allFinite, bytesSmall, fewVariables, listsMatch, inOrder, offDiagonal, weightsFinite, startFits, floatsFit, wordsFit, shapeTests, looseTests, openTests, standardTests, readyTests, Loose, Admitted, Sound, Ready}
 use Rattle.field.proofs.Table.{pass-is, last-is, group-is}
 
 -- ---- each test
@@ -135,6 +135,21 @@ loose-passes F =
       (λ e. let p = t .0 e in record { shaped = p .0; finite-weights = record { linear = p .1 .0; quad = p .1 .1 } }),
       λ h. t .1 (h .shaped, (h .finite-weights .linear, h .finite-weights .quad)),
     )
+
+pub admitted-passes : (F : Field) (s : List ℕ) (floats words : ℕ) → (tested (openTests F s floats words) ≡ Passed) ↔ Admitted F s floats words
+unfolding openTests
+admitted-passes F s floats words =
+    let t = group-is (looseTests F) _ (loose-passes F)
+    (pass-is Start _ _ (start-means (variables F) s) (pass-is Scratch _ _ (floats-mean (variables F) (entries F) floats) (last-is Scratch _ (words-mean (variables F) (entries F) words)))) in (
+      (λ e.
+          let p = t .0 e in
+          record { shaped = p .0 .shaped; finite-weights = p .0 .finite-weights; start = p .1 .0; floats-room = p .1 .1 .0; words-room = p .1 .1 .1 }),
+      λ h. t .1 (record { shaped = h .shaped; finite-weights = h .finite-weights }, (h .start, (h .floats-room, h .words-room))),
+    )
+
+-- what passing leaves, without the start values and the scratch
+pub admitted-loose : {F : Field} {s : List ℕ} {floats words : ℕ} → Admitted F s floats words → Loose F
+admitted-loose A = record { shaped = A .shaped; finite-weights = A .finite-weights }
 
 pub standard-passes : (F : Field) (s : List ℕ) → (tested (standardTests F s) ≡ Passed) ↔ Sound F s
 unfolding standardTests

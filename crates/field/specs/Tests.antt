@@ -102,7 +102,16 @@ shapeTests F =
 unfoldable pub looseTests : Field → List Test
 looseTests F = shapeTests F ++ test Weights (weightsFinite (F .linear) (F .quad)) ∷ []
 
--- these and 4 to 6
+-- these, 6 and 8: for those of them that work from start values in scratch
+unfoldable pub openTests : Field → List ℕ → ℕ → ℕ → List Test
+openTests F s floats words =
+    looseTests F
+    ++ test Start (startFits (variables F) s)
+    ∷ test Scratch (floatsFit (variables F) (entries F) floats)
+    ∷ test Scratch (wordsFit (variables F) (entries F) words)
+    ∷ []
+
+-- 1, 2, 14 to 17, and 4 to 6
 unfoldable pub standardTests : Field → List ℕ → List Test
 standardTests F s =
     shapeTests F
@@ -128,6 +137,13 @@ pub record Finite (F : Field) : Type 0 where
 pub record Loose (F : Field) : Type 0 where
   pub shaped : Shaped F
   pub finite-weights : Finite F
+
+pub record Admitted (F : Field) (s : List ℕ) (floats words : ℕ) : Type 0 where
+  pub shaped : Shaped F
+  pub finite-weights : Finite F
+  pub start : StartFor (variables F) s
+  pub floats-room : 8 * variables F + 4 * entries F + 16 ≤ floats
+  pub words-room : 16 * variables F + 8 * entries F + 16 ≤ words
 
 pub record Sound (F : Field) (s : List ℕ) : Type 0 where
   pub shaped : Shaped F

@@ -13,7 +13,7 @@ ghost use lib.ListN.{length};
 ghost use Rattle.scratch.specs.Lent.{before};
 ghost use Rattle.field.specs.Field.{given};
 ghost use Rattle.field.specs.Table.{tested};
-ghost use Rattle.field.specs.Tests.{fewVariables, listsMatch, inOrder, weightsFinite, startFits, floatsFit, wordsFit, shapeTests, looseTests, standardTests, readyTests};
+ghost use Rattle.field.specs.Tests.{fewVariables, listsMatch, inOrder, weightsFinite, startFits, floatsFit, wordsFit, shapeTests, looseTests, openTests, standardTests, readyTests};
 
 // 1
 pub fn few_variables(n: usize) -> bool
@@ -111,6 +111,34 @@ pub fn loose(c: &[f64], rows: &[u16], cols: &[u16], q: &[f64]) -> Checked
     }
     if !weights_finite(c, q) {
         return Checked::Failed(Refusal::Weights);
+    }
+    Checked::Passed
+}
+
+// These, 6 and 8, for those of them that work from start values in scratch
+pub fn admitted(
+    c: &[f64],
+    rows: &[u16],
+    cols: &[u16],
+    q: &[f64],
+    start: &[u8],
+    floats: usize,
+    words: usize,
+) -> Checked
+    ensures { λ r. ⌜ r ≡ tested (openTests (given c rows cols q) (before start) floats words) ⌝ }
+{
+    let shaped = loose(c, rows, cols, q);
+    if let Checked::Failed(refusal) = shaped {
+        return Checked::Failed(refusal);
+    }
+    if !start_fits(c.len(), start) {
+        return Checked::Failed(Refusal::Start);
+    }
+    if !floats_fit(c.len(), q.len(), floats) {
+        return Checked::Failed(Refusal::Scratch);
+    }
+    if !words_fit(c.len(), q.len(), words) {
+        return Checked::Failed(Refusal::Scratch);
     }
     Checked::Passed
 }

@@ -1,6 +1,7 @@
 // The words of an answer's line, in the order of docs/CASES.md, and which call has which.
 pub mod outcomes;
 mod reasoned;
+pub mod reduced;
 pub mod shifted;
 
 use crate::reasoned::put_reason;
@@ -49,6 +50,8 @@ pub const NO_EFFECT: u8 = 12;
 
 pub const SHIFT: u8 = 13;
 
+pub const SUB_PROBLEM: u8 = 14;
+
 pub const REASON: u8 = 16;
 
 // The number of a call that is not here.
@@ -73,8 +76,8 @@ pub const BYTE: u8 = 165;
 
 pub const SHORT: u16 = 42_405;
 
-// What a call answered: the number, and on 0 the grade, the count of items, the count of pairs, and a reason's ground, unit and bound; on 14 to 17 the
-// count is a position. A ground is 0 given, 1 lower, 2 upper.
+// What a call answered: the number, and on 0 the grade, the count of items, the count of pairs, of the smaller problem its entries, and a reason's ground,
+// unit and bound; on 14 to 17 the count is a position. A ground is 0 given, 1 lower, 2 upper.
 pub struct Outcome {
     pub number: u32,
     pub is_exact: bool,
@@ -250,7 +253,7 @@ fn put_items(out: &mut [u8], used: usize, list: &[u16], end: usize, in_triples: 
 }
 
 // An answer list under its name.
-fn put_answer_list(
+pub fn put_answer_list(
     out: &mut [u8],
     used: usize,
     name: &[u8],
@@ -321,6 +324,9 @@ fn has_floats(code: u8) -> bool {
     if code == REASON {
         return true;
     }
+    if code == SUB_PROBLEM {
+        return true;
+    }
     code < NO_EFFECT
 }
 
@@ -352,7 +358,14 @@ fn put_words(out: &mut [u8], used: usize, number: u32, u: &[u32]) -> usize
 }
 
 // The scratch, and the line's end.
-fn put_scratch(out: &mut [u8], used: usize, code: u8, number: u32, f: &[f64], u: &[u32]) -> usize
+pub fn put_scratch(
+    out: &mut [u8],
+    used: usize,
+    code: u8,
+    number: u32,
+    f: &[f64],
+    u: &[u32],
+) -> usize
     ensures { λ r. ⌜ r ≤ length (after out) ⌝ }
 {
     let floats = put_floats(out, used, code, number, f);

@@ -31,15 +31,16 @@ fn entries_kept(contents: &[u8], at: usize, rows: &[u16], cols: &[u16], q: &[f64
     same_floats(contents, q_at + 8 * m, &q[m..])
 }
 
-// The entries up to m, and whether those past them were found as they were.
-fn put_closed(
+// The entries up to m, and whether what is past the new ends was found as promised.
+pub fn put_closed(
     out: &mut [u8],
     used: usize,
     rows: &[u16],
     cols: &[u16],
     q: &[f64],
     m: usize,
-    is_kept: bool,
+    promise: &[u8],
+    is_found: bool,
 ) -> usize
     requires { ⌜ m ≤ length (now rows) ⌝ }
     requires { ⌜ m ≤ length (now cols) ⌝ }
@@ -49,11 +50,11 @@ fn put_closed(
     let named = put_text(out, used, b" entries=");
     let closed = put_entries(out, named, &rows[..m], &cols[..m], &q[..m]);
     let past = put_text(out, closed, b" field-past=");
-    put_promise(out, past, b"kept", is_kept)
+    put_promise(out, past, promise, is_found)
 }
 
 // How many entries are in all three lists, at most `count`.
-fn entries_in(rows: &[u16], cols: &[u16], q: &[f64], count: usize) -> usize
+pub fn entries_in(rows: &[u16], cols: &[u16], q: &[f64], count: usize) -> usize
     ensures { λ r. ⌜ r ≤ length (before rows) ⌝ }
     ensures { λ r. ⌜ r ≤ length (before cols) ⌝ }
     ensures { λ r. ⌜ r ≤ length (before q) ⌝ }
@@ -80,7 +81,7 @@ fn put_shifted(
     let counted = put_number(out, named, count);
     let m = entries_in(rows, cols, q, count);
     let is_kept = entries_kept(contents, 8 * c.len(), rows, cols, q, m);
-    put_closed(out, counted, rows, cols, q, m, is_kept)
+    put_closed(out, counted, rows, cols, q, m, b"kept", is_kept)
 }
 
 // Whether the whole field is what stands at the front of the contents.
@@ -91,6 +92,24 @@ fn field_kept(contents: &[u8], c: &[f64], rows: &[u16], cols: &[u16], q: &[f64])
         return false;
     }
     entries_kept(contents, 8 * c.len(), rows, cols, q, 0)
+}
+
+// A field that a refusal left.
+pub fn put_unchanged(
+    out: &mut [u8],
+    used: usize,
+    contents: &[u8],
+    c: &[f64],
+    rows: &[u16],
+    cols: &[u16],
+    q: &[f64],
+) -> usize
+    requires { ⌜ standing (length (now c)) (length (now rows)) (length (now cols)) (length (now q)) ≤ length (now contents) ⌝ }
+    ensures { λ r. ⌜ r ≤ length (after out) ⌝ }
+{
+    let is_kept = field_kept(contents, c, rows, cols, q);
+    let named = put_text(out, used, b" field=");
+    put_promise(out, named, b"kept", is_kept)
 }
 
 pub fn put_field(
@@ -109,7 +128,5 @@ pub fn put_field(
     if outcome.number == 0 {
         return put_shifted(out, used, outcome.count, contents, c, rows, cols, q);
     }
-    let is_kept = field_kept(contents, c, rows, cols, q);
-    let named = put_text(out, used, b" field=");
-    put_promise(out, named, b"kept", is_kept)
+    put_unchanged(out, used, contents, c, rows, cols, q)
 }

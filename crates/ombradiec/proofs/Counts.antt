@@ -9,9 +9,9 @@ use lib.Ieee.{Float}
 use Rattle.field.specs.declared.Counted.{Counted}
 use Rattle.field.specs.declared.Counted.the-variants.{Refuses}
 use Rattle.field.specs.Field.{Field, variables, entries}
-use Rattle.field.specs.Tests.{looseTests, readyTests}
-use Rattle.field.proofs.Means.{loose-passes, ready-passes}
-use Rattle.field.proofs.Faults.{loose-near, ready-near}
+use Rattle.field.specs.Tests.{looseTests, openTests, readyTests}
+use Rattle.field.proofs.Means.{loose-passes, admitted-passes, ready-passes}
+use Rattle.field.proofs.Faults.{loose-near, open-near, ready-near}
 use Rattle.calls.specs.Values.{valuesBy}
 use Rattle.calls.proofs.Usual.{answer-has}
 use Rattle.closure.specs.Call as closing
@@ -20,12 +20,16 @@ use Rattle.no_effect.specs.Putting.{chosenFrom}
 use Rattle.no_effect.specs.Effect.{hasNoEffect, noEffect}
 use Rattle.no_effect.specs.Call as effectless
 use Rattle.no_effect.proofs.Laws.{word-passes}
-use Rattle.shift.specs.Closing.{closed, closedTo}
+use Rattle.shift.specs.Closing.{keptAt, closed, closedTo}
 use Rattle.shift.specs.Call as shifting
-use Rattle.shift.proofs.Turns.{kept-few}
+use Rattle.shift.proofs.Picked.{picked-few}
+use Rattle.sub_problem.specs.declared.Reduced.{Reduced}
+use Rattle.sub_problem.specs.declared.Reduced.the-variants as reduced
+use Rattle.sub_problem.specs.Reduced.{staysAt}
+use Rattle.sub_problem.specs.Call as reducing
+use Rattle.sub_problem.proofs.Numbering.{back-few}
 use Rattle.anchors.specs.Model.{newAt, anchorAt, anchorsTo, anchorsOf}
 use Rattle.anchors.specs.Call as anchoring
-use Rattle.anchors.proofs.Laws.{admitted-passes}
 use Rattle.anchors.proofs.Searching.{new-few}
 use Rattle.pairs.specs.declared.Paired.{Paired}
 use Rattle.pairs.specs.declared.Paired.the-variants.{Refused}
@@ -36,9 +40,9 @@ use Rattle.reason.specs.declared.Reasoned.{Reasoned}
 use Rattle.reason.specs.declared.Reasoned.the-variants as reasoned
 use Rattle.reason.specs.Call as reasoning
 use Rattle.reason.proofs.Laws.{list-few, unit-few}
-use Rattle.packing.specs.Layout.{countOf, pairedCount, pairsExamined, reasonedCount, reasonedUnit, boundAfter}
-use Rattle.ombradiec.specs.Reading.{Few, FewListed}
-use Rattle.ombradiec.proofs.Positions.{word-near, anchor-near}
+use Rattle.packing.specs.Layout.{countOf, pairedCount, pairsExamined, reasonedCount, reasonedUnit, boundAfter, newEntries, newVariables, constantAfter}
+use Rattle.ombradiec.specs.Reading.{Few, FewListed, FewLeft}
+use Rattle.ombradiec.proofs.Positions.{word-near}
 
 -- ---- closure: at most n
 
@@ -79,10 +83,35 @@ no-effect-few F l u e = omega (arith, no-effect-fits F l u, ap (λ (x : effectle
 pub shift-fits : (F : Field) → countOf (shifting.shiftCall F .answer) < 0x1000_0000
 unfolding shifting.shiftCall closed closedTo
 shift-fits F =
-    answer-has Refuses F (looseTests F) [] _ (λ a. countOf a < 0x1000_0000) (λ r e. omega (arith, loose-near F r e)) tt (λ e. omega (arith, kept-few F (entries F), loose-passes F .0 e .shaped .few-entries))
+    answer-has Refuses F (looseTests F) [] _ (λ a. countOf a < 0x1000_0000) (λ r e. omega (arith, loose-near F r e)) tt (λ e. omega (arith, picked-few (keptAt F) (entries F), loose-passes F .0 e .shaped .few-entries))
 
 pub shift-few : (F : Field) {a : Counted} {G : Field} → shifting.left a G ≡ shifting.shiftCall F → countOf a < 0x1000_0000
 shift-few F e = omega (arith, shift-fits F, ap (λ (x : shifting.Left). countOf (x .answer)) e)
+
+-- ---- sub_problem: at most m entries and n variables
+
+module _ (F : Field) (s l : List ℕ) (f : List Float) (u : List ℕ) where
+  pub sub-problem-fits : FewLeft (reducing.subProblemCall F s l f u .answer)
+  unfolding reducing.subProblemCall reducing.finished
+  sub-problem-fits =
+      answer-has reduced.Refused _ (openTests F s (length f) (length u)) _ _ FewLeft
+      (λ r e. record { entries = omega (arith, open-near F s (length f) (length u) r e); variables = omega arith }) (record { entries = omega arith; variables = omega arith }, tt) (λ e.
+      let admitted = admitted-passes F s (length f) (length u) .0 e in
+      record {
+        entries = omega (arith, picked-few (staysAt F s) (entries F), admitted .shaped .few-entries);
+        variables = omega (arith, back-few s, admitted .start .long, admitted .shaped .few-variables);
+      })
+
+  pub sub-problem-few : {a : Reduced} {G : Field} {l′ : List ℕ} {f′ : List Float} {u′ : List ℕ} → reducing.left a G l′ f′ u′ ≡ reducing.subProblemCall F s l f u → FewLeft a
+  sub-problem-few e = record {
+    entries = omega (arith, sub-problem-fits .entries, ap (λ (x : reducing.Left). newEntries (x .answer)) e);
+    variables = omega (arith, sub-problem-fits .variables, ap (λ (x : reducing.Left). newVariables (x .answer)) e);
+  }
+
+  -- the constant that is given beside the number
+  pub constant-is : {a : Reduced} {G : Field} {l′ : List ℕ} {f′ : List Float} {u′ : List ℕ} (x : Float) {y : Float} → reducing.left a G l′ f′ u′ ≡ reducing.subProblemCall F s l f u
+      → y ≡ constantAfter a x → y ≡ constantAfter (reducing.subProblemCall F s l f u .answer) x
+  constant-is x e p = p ∙ ap (λ (z : reducing.Left). constantAfter (z .answer) x) e
 
 -- ---- anchors: at most one from each start
 
@@ -97,7 +126,7 @@ module _ (F : Field) (s : List ℕ) (least : ℕ) (list : List ℕ) (f : List Fl
   pub anchors-fit : countOf (anchoring.anchorsCall F s least list f u .answer) < 0x1000_0000
   unfolding anchoring.anchorsCall anchorsOf
   anchors-fit =
-      answer-has Refuses _ (anchoring.anchorTests F s (length f) (length u)) _ _ (λ a. countOf a < 0x1000_0000) (λ r e. omega (arith, anchor-near F s (length f) (length u) r e)) (omega arith, tt) (λ e.
+      answer-has Refuses _ (openTests F s (length f) (length u)) _ _ (λ a. countOf a < 0x1000_0000) (λ r e. omega (arith, open-near F s (length f) (length u) r e)) (omega arith, tt) (λ e.
       omega (arith, admitted-passes F s (length f) (length u) .0 e .shaped .few-variables, anchors-within F s least (variables F)))
 
   pub anchors-few : {a : Counted} {l′ : List ℕ} {f′ : List Float} {u′ : List ℕ} → anchoring.left a l′ f′ u′ ≡ anchoring.anchorsCall F s least list f u → countOf a < 0x1000_0000

@@ -17,7 +17,6 @@ use Rattle.field.proofs.Faults.{near-none, near-test, near-group, loose-near, s
 use Rattle.calls.specs.Values as values
 use Rattle.calls.proofs.Usual.{answer-has}
 use Rattle.no_effect.specs.Call.{wordTests}
-use Rattle.anchors.specs.Call.{anchorTests}
 use Rattle.probe.specs.Call as probing
 use Rattle.propagation.specs.Tests.{propagationTests}
 use Rattle.propagation.specs.Call as propagating
@@ -28,11 +27,6 @@ use Rattle.packing.specs.Layout.{checkedCount, answerCount}
 pub word-near : (F : Field) (words : ℕ) → Near (wordTests F words)
 unfolding wordTests
 word-near F words = near-group _ _ (loose-near F) (near-test Scratch _ _ (omega arith) near-none)
-
-pub anchor-near : (F : Field) (s : List ℕ) (floats words : ℕ) → Near (anchorTests F s floats words)
-unfolding anchorTests
-anchor-near F s floats words =
-    near-group _ _ (loose-near F) (near-test Start _ _ (omega arith) (near-test Scratch _ _ (omega arith) (near-test Scratch _ _ (omega arith) near-none)))
 
 probe-near : (F : Field) (s : List ℕ) (i v floats words : ℕ) → Near (probing.probeTests F s i v floats words)
 unfolding probing.probeTests

@@ -4,9 +4,10 @@ use Rattle.field.specs.declared.Answer.{Answer}
 use Rattle.field.specs.declared.Counted.{Counted}
 use Rattle.field.specs.Answers.{answerNumber, countedNumber}
 use Rattle.pairs.specs.declared.Paired.{Paired}
-use Rattle.packing.specs.Layout.{Reads, answerGrade, answerCount, countedGrade, countOf, pairedCount, pairsExamined, reasonedGrade, reasonedCount, reasonedUnit, reasonedParts}
+use Rattle.packing.specs.Layout.{Reads, answerGrade, answerCount, countedGrade, countOf, pairedCount, pairsExamined, reasonedGrade, reasonedCount, reasonedUnit, reasonedParts, newEntries, newVariables}
 use Rattle.reason.specs.declared.Reasoned.{Reasoned}
 use Rattle.reason.specs.Call.{reasonedNumber}
+use Rattle.sub_problem.specs.declared.Reduced.{Reduced}
 
 -- the refusal and the grade of the answer, and no count but the position that a refusal names
 abbrev pub AnswerRead : Answer → ℕ → Type 0
@@ -29,3 +30,8 @@ ReasonRead a r = Reads r (reasonedNumber a) (reasonedGrade a) (reasonedCount a) 
 pub record FewListed (a : Reasoned) : Type 0 where
   pub count : reasonedCount a < 0x1000_0000
   pub unit : reasonedUnit a < 256
+
+-- both sizes of a smaller problem have room
+pub record FewLeft (a : Reduced) : Type 0 where
+  pub entries : newEntries a < 0x1000_0000
+  pub variables : newVariables a < 0x10_0000

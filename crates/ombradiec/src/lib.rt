@@ -1,10 +1,12 @@
 // The public calls for programs in C and Rust: each exported function is the call of its crate, and answers with one number.
 use packing::bound_after;
+use packing::constant_after;
 use packing::pack_answer;
 use packing::pack_checked;
 use packing::pack_counted;
 use packing::pack_paired;
 use packing::pack_reasoned;
+use packing::pack_reduced;
 ghost use mathlib.Core.Path.{_≡_};
 ghost use Rattle.scratch.specs.Lent.{before, after};
 ghost use Rattle.field.specs.Field.{given};
@@ -16,13 +18,14 @@ ghost use Rattle.heavy.specs.Call as heavy;
 ghost use Rattle.no_effect.specs.Call as effectless;
 ghost use Rattle.shift.specs.Closing.{leftBehind};
 ghost use Rattle.shift.specs.Call as shifting;
+ghost use Rattle.sub_problem.specs.Call as reducing;
 ghost use Rattle.anchors.specs.Call as anchoring;
 ghost use Rattle.pairs.specs.Call as pairing;
 ghost use Rattle.probe.specs.Call as probing;
 ghost use Rattle.reason.specs.Call as reasoning;
 ghost use Rattle.probes.specs.Call as searching;
 ghost use Rattle.propagation.specs.Call as propagating;
-ghost use Rattle.packing.specs.Layout.{packedChecked, packedAnswer, packedCounted, packedPaired, packedReasoned, boundAfter};
+ghost use Rattle.packing.specs.Layout.{packedChecked, packedAnswer, packedCounted, packedPaired, packedReasoned, boundAfter, packedReduced, constantAfter};
 ghost use Rattle.ombradiec.specs.Exported.{Exported};
 
 // The gradient closure, and how many free variables have a flat row at its end.
@@ -115,6 +118,27 @@ pub extern "C" fn ombradiec_shift(
     ensures { λ r. ⌜ Exported packedCounted (λ a. shifting.left a (leftBehind c rows cols q)) r (shifting.shiftCall (given c rows cols q)) ⌝ }
 {
     pack_counted(shift::shift(c, rows, cols, q))
+}
+
+// The field without its given variables; the constant goes into `constant`, which a refusal leaves.
+#[no_mangle]
+pub extern "C" fn ombradiec_sub_problem(
+    c: &mut [f64],
+    rows: &mut [u16],
+    cols: &mut [u16],
+    q: &mut [f64],
+    start: &[u8],
+    map: &mut [u16],
+    constant: &mut f64,
+    f: &mut [f64],
+    u: &mut [u32],
+) -> u64
+    ensures { λ r. ⌜ Exported packedReduced (λ a. reducing.left a (leftBehind c rows cols q) (after map) (after f) (after u)) r (reducing.subProblemCall (given c rows cols q) (before start) (before map) (before f) (before u)) ⌝ }
+    ensures { λ _. ⌜ after constant ≡ constantAfter (reducing.subProblemCall (given c rows cols q) (before start) (before map) (before f) (before u) .answer) (before constant) ⌝ }
+{
+    let answer = sub_problem::sub_problem(c, rows, cols, q, start, map, f, u);
+    *constant = constant_after(answer, *constant);
+    pack_reduced(answer)
 }
 
 // The anchors of components of at least `least` variables.

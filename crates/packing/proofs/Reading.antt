@@ -19,9 +19,12 @@ use Rattle.reason.specs.declared.Ground.the-variants.{Given, Lower, Upper}
 use Rattle.reason.specs.declared.Reasoned.{Reasoned}
 use Rattle.reason.specs.declared.Reasoned.the-variants as reason
 use Rattle.reason.specs.Call.{reasonedNumber}
+use Rattle.sub_problem.specs.declared.Reduced.{Reduced}
+use Rattle.sub_problem.specs.declared.Reduced.the-variants as reduced
+use Rattle.sub_problem.specs.Call.{reducedNumber}
 use Rattle.field.specs.Answers.{numberOf, positionOf, checkedNumber, answerNumber, countedNumber}
 use Rattle.field.proofs.Answers.{number-most}
-use Rattle.packing.specs.Layout.{packed, Reads, gradeNumber, packedChecked, checkedCount, packedAnswer, packedCounted, answerGrade, answerCount, countedGrade, countOf, packedPaired, pairedGrade, pairedCount, pairsExamined, groundNumber, reasonedGrade, reasonedCount, reasonedUnit, reasonedParts, packedReasoned}
+use Rattle.packing.specs.Layout.{packed, Reads, gradeNumber, packedChecked, checkedCount, packedAnswer, packedCounted, answerGrade, answerCount, countedGrade, countOf, packedPaired, pairedGrade, pairedCount, pairsExamined, groundNumber, reasonedGrade, reasonedCount, reasonedUnit, reasonedParts, packedReasoned, packedReduced, reducedGrade, newEntries, newVariables}
 
 pub layout-reads : (refusal grade count pairs : ℕ) → refusal < 0x100 → grade < 0x100 → count < 0x1000_0000
     → Reads (packed refusal grade count pairs) refusal grade count pairs
@@ -79,3 +82,7 @@ module _ {a : Reasoned} (g : Ground) (k m : ℕ) (e : a ≡ reason.Because g k m
 
   pub because-packed : {r : ℕ} → r ≡ packed 0 1 m (4 * k + x) → r ≡ packedReasoned a
   because-packed p = p ∙ ap (λ (y : ℕ). packed 0 1 m (4 * k + y)) n ∙ ap packedReasoned (sym e)
+
+pub reduced-reads : (a : Reduced) → newEntries a < 0x1000_0000 → Reads (packedReduced a) (reducedNumber a) (reducedGrade a) (newEntries a) (newVariables a)
+reduced-reads (reduced.Done g n m k) few = done-reads g m n few
+reduced-reads (reduced.Refused r) few = refusal-reads r few

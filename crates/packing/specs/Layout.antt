@@ -19,11 +19,15 @@ use Rattle.reason.specs.declared.Ground.the-variants.{Given, Lower, Upper}
 use Rattle.reason.specs.declared.Reasoned.{Reasoned}
 use Rattle.reason.specs.declared.Reasoned.the-variants as reason
 use Rattle.reason.specs.Call.{reasonedNumber}
+use Rattle.sub_problem.specs.declared.Reduced.{Reduced}
+use Rattle.sub_problem.specs.declared.Reduced.the-variants as reduced
+use Rattle.sub_problem.specs.Call.{reducedNumber}
 use Rattle.field.specs.Answers.{positionOf, checkedNumber, answerNumber, countedNumber}
 
 -- ---- the layout
 
--- the refusal in bits 0 to 7, the grade in 8 to 15, the count in 16 to 43, the pairs examined in 44 to 63, where a reason has 4 times its unit and its ground
+-- the refusal in bits 0 to 7, the grade in 8 to 15, the count in 16 to 43, the pairs examined in 44 to 63, where a reason has 4 times its unit and its ground,
+-- and the smaller problem its new n
 abbrev pub packed : ℕ → ℕ → ℕ → ℕ → ℕ
 packed refusal grade count pairs = refusal + 0x100 * grade + 0x1_0000 * count + 0x1000_0000_0000 * pairs
 
@@ -107,6 +111,25 @@ abbrev pub boundAfter : Reasoned → Float → Float
 boundAfter (reason.Because g k m) x = boundOf g
 boundAfter (reason.Refuses r) x = x
 
+abbrev pub reducedGrade : Reduced → ℕ
+reducedGrade (reduced.Done g n m k) = gradeNumber g
+reducedGrade (reduced.Refused r) = 0
+
+-- the new m
+abbrev pub newEntries : Reduced → ℕ
+newEntries (reduced.Done g n m k) = m
+newEntries (reduced.Refused r) = positionOf r
+
+-- the new n
+abbrev pub newVariables : Reduced → ℕ
+newVariables (reduced.Done g n m k) = n
+newVariables (reduced.Refused r) = 0
+
+-- the constant of an answer, which is given beside its number; a refusal leaves what was there
+abbrev pub constantAfter : Reduced → Float → Float
+constantAfter (reduced.Done g n m k) x = k
+constantAfter (reduced.Refused r) x = x
+
 -- ---- the number of each answer
 
 abbrev pub packedChecked : Checked → ℕ
@@ -123,3 +146,6 @@ packedPaired a = packed (pairedNumber a) (pairedGrade a) (pairedCount a) (pairsE
 
 abbrev pub packedReasoned : Reasoned → ℕ
 packedReasoned a = packed (reasonedNumber a) (reasonedGrade a) (reasonedCount a) (reasonedParts a)
+
+abbrev pub packedReduced : Reduced → ℕ
+packedReduced a = packed (reducedNumber a) (reducedGrade a) (newEntries a) (newVariables a)

@@ -7,10 +7,11 @@ use field::Refusal;
 use pairs::Paired;
 use reason::Ground;
 use reason::Reasoned;
+use sub_problem::Reduced;
 ghost use mathlib.Core.Path.{_≡_};
 ghost use Prim.Native.Nat.{_<_};
 ghost use Rattle.field.specs.Answers.{numberOf, positionOf};
-ghost use Rattle.packing.specs.Layout.{packed, gradeNumber, packedChecked, checkedCount, packedAnswer, answerCount, packedCounted, countOf, packedPaired, pairedCount, pairsExamined, groundNumber, packedReasoned, reasonedCount, reasonedUnit, boundOf, boundAfter};
+ghost use Rattle.packing.specs.Layout.{packed, gradeNumber, packedChecked, checkedCount, packedAnswer, answerCount, packedCounted, countOf, packedPaired, pairedCount, pairsExamined, groundNumber, packedReasoned, reasonedCount, reasonedUnit, boundOf, boundAfter, packedReduced, newEntries, newVariables, constantAfter};
 
 fn grade_number(grade: Grade) -> u64
     ensures { λ r. ⌜ r ≡ gradeNumber grade ⌝ }
@@ -124,5 +125,26 @@ pub fn bound_after(answer: Reasoned, bound: f64) -> f64
     match answer {
         Reasoned::Because(ground, _, _) => bound_of(ground),
         Reasoned::Refuses(_) => bound,
+    }
+}
+
+pub fn pack_reduced(answer: Reduced) -> u64
+    requires { ⌜ newEntries answer < 0x1000_0000 ⌝ }
+    requires { ⌜ newVariables answer < 0x10_0000 ⌝ }
+    ensures { λ r. ⌜ r ≡ packedReduced answer ⌝ }
+{
+    match answer {
+        Reduced::Done(grade, variables, entries, _) => pack_done(grade, entries, variables),
+        Reduced::Refused(refusal) => pack_refusal(refusal),
+    }
+}
+
+// The constant of an answer; a refusal leaves what was there.
+pub fn constant_after(answer: Reduced, constant: f64) -> f64
+    ensures { λ r. ⌜ r ≡ constantAfter answer constant ⌝ }
+{
+    match answer {
+        Reduced::Done(_, _, _, found) => found,
+        Reduced::Refused(_) => constant,
     }
 }

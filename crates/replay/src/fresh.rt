@@ -7,10 +7,12 @@ use cases::contents::take_linear;
 use cases::contents::take_rows;
 use cases::contents::take_start;
 use cases::contents::take_weights;
+use cases::reducing::answer_sub_problem;
 use cases::shifting::answer_shift;
 use lines::BYTE;
 use lines::Outcome;
 use lines::SHIFT;
+use lines::SUB_PROBLEM;
 use lines::put_line;
 use stream::head::ENTRIES;
 use stream::head::Head;
@@ -58,8 +60,8 @@ fn with_field(
     )
 }
 
-// Makes the call and puts its line; the start values stood in the contents from `at` on.
-fn answer_call(
+// Makes a call that keeps the field and puts its line; the start values stood in the contents from `at` on.
+fn answer_kept(
     head: Head,
     contents: &[u8],
     at: usize,
@@ -89,6 +91,29 @@ fn answer_call(
         f,
         u,
     )
+}
+
+// Makes the call and puts its line.
+fn answer_call(
+    head: Head,
+    contents: &[u8],
+    at: usize,
+    start: &mut [u8],
+    found: &mut [u8],
+    list: &mut [u16],
+    f: &mut [f64],
+    u: &mut [u32],
+    out: &mut [u8],
+    used: usize,
+) -> usize
+    requires { ⌜ Fits head (length (now contents)) ⌝ }
+    requires { ⌜ at + length (now start) ≤ length (now contents) ⌝ }
+    ensures { λ r. ⌜ r ≤ length (after out) ⌝ }
+{
+    if head.code == SUB_PROBLEM {
+        return answer_sub_problem(head, contents, start, list, f, u, out, used);
+    }
+    answer_kept(head, contents, at, start, found, list, f, u, out, used)
 }
 
 // With an answer list and scratch as long as the head says, and start values and found values of its own.

@@ -2,13 +2,13 @@
 use Prim.Native.Nat.{ℕ, zero, suc, _+_, _*_, _<_, _≤_, _^_}
 use mathlib.Core.Path.{_≡_, refl, ap, _∙_}
 use mathlib.Core.Logic.{_≢_}
-use mathlib.Core.Bool.{Bool, true, false, cond}
+use mathlib.Core.Bool.{Bool, true, false, cond, not}
 use mathlib.Core.List.{List, [], _∷_, _++_}
 use native.Mathlib.Decide.{ℕ-discrete}
 use native.Mathlib.Omega.{arith}
 use borrow.Author.Tests.{eqb-true}
-use lib.ListN.{length, getD, length-append, List·getD-append}
-use lib.Seq.{getD-append-seam, getD-set-same, getD-set-other}
+use lib.ListN.{length, getD}
+use lib.Seq.{getD-set-same, getD-set-other}
 use lib.Ieee.{Float, nan, binary64, add, mul}
 use Rattle.whole.specs.Whole.{Whole, _⊕_, _⊙_, sum, _≈_}
 use Rattle.whole.proofs.Sums.{sum-same, sum-update}
@@ -19,8 +19,10 @@ use Rattle.field.specs.Field.{Field, variables, entries, linearOf, rowEnd, colu
 use Rattle.field.specs.Grade.{Weighs}
 use Rattle.field.specs.Reading.{wholeOf}
 use Rattle.field.proofs.Exact.{weighs-read, weighs-under}
+use Rattle.shift.specs.Picked.{picked}
 use Rattle.shift.specs.Closing.{onDiagonal, intoLinear, linearTo, keptTo}
 use Rattle.shift.specs.Shifted.{shifted, WholeIn}
+use Rattle.shift.proofs.Picked.{sum-more}
 use Rattle.shift.proofs.Turns.{linear-long}
 use Rattle.shift.proofs.Kept.{from, shifted-is, new-variables, new-entries, new-row, new-column, new-quad}
 
@@ -43,7 +45,7 @@ module _ {u k : ℕ} {x q : Float} (few : k ≤ 32768) (a : Weighs u (most k) x)
   half-counts : read u (add binary64 x (mul binary64 half64 q)) ≈ read u x ⊕ read (suc u) q
   half-counts = omega (arith, worth-read half-sum)
 
-equal : {a b : Whole} → a ≡ b → a ≈ b
+pub equal : {a b : Whole} → a ≡ b → a ≈ b
 equal e = rw e refl
 
 -- x² = x
@@ -51,14 +53,6 @@ counted : (a b q : Whole) (v : ℕ) → v < 2 → a ≈ b ⊕ q → a ⊙ v ≈ 
 counted a b q zero h e = omega arith
 counted a b q (suc zero) h e = omega arith
 counted a b q (suc (suc v)) h e = absurd (omega arith)
-
--- a sum by positions takes one more
-sum-more : (s : List ℕ) (k : ℕ) (g : ℕ → Whole) → sum (length (s ++ k ∷ [])) (λ t. g (getD (s ++ k ∷ []) t 0)) ≈ sum (length s) (λ t. g (getD s t 0)) ⊕ g k
-unfolding sum
-sum-more s k g =
-    let long : length (s ++ k ∷ []) ≡ suc (length s) = length-append s (k ∷ []) ∙ omega arith in
-    rw (long, getD-append-seam s k [] 0)
-    (omega (arith, sum-same (length s) (λ t. g (getD (s ++ k ∷ []) t 0)) (λ t. g (getD s t 0)) (λ t h. rw (List·getD-append s (k ∷ []) 0 t h) refl)))
 
 module _ {u : ℕ} {F : Field} (S : Shaped F) (w : WholeIn u F) where
   -- ---- the weights stay whole
@@ -105,15 +99,15 @@ module _ {u : ℕ} {F : Field} (S : Shaped F) (w : WholeIn u F) where
     -- of the first k entries, those kept and the linear weights count what all of them counted
     same-to : (k : ℕ) → k ≤ entries F
         → sum (variables F) (value k) ⊕ sum (length (keptTo F k)) (λ t. term (getD (keptTo F k) t 0)) ≈ sum (variables F) (value 0) ⊕ sum k term
-    unfolding linearTo keptTo sum
+    unfolding linearTo picked sum
     same-to zero h = omega arith
     same-to (suc k) h = by (onDiagonal F k) refl (same-to k (omega arith))
       where
         by : (b : Bool) → onDiagonal F k ≡ b → sum (variables F) (value k) ⊕ sum (length (keptTo F k)) (λ t. term (getD (keptTo F k) t 0)) ≈ sum (variables F) (value 0) ⊕ sum k term
             → sum (variables F) (λ i. read u (getD (cond b (intoLinear F k (linearTo F k)) (linearTo F k)) i nan) ⊙ getD x i 0)
-            ⊕ sum (length (cond b (keptTo F k) (keptTo F k ++ k ∷ []))) (λ t. term (getD (cond b (keptTo F k) (keptTo F k ++ k ∷ [])) t 0))
+            ⊕ sum (length (cond (not b) (keptTo F k ++ k ∷ []) (keptTo F k))) (λ t. term (getD (cond (not b) (keptTo F k ++ k ∷ []) (keptTo F k)) t 0))
             ≈ sum (variables F) (value 0) ⊕ (sum k term ⊕ term k)
-        by false e ih = omega (arith, ih, sum-more (keptTo F k) k term)
+        by false e ih = omega (arith, ih, sum-more term (keptTo F k) k)
         by true e ih = omega (arith, ih, goes-in k (omega arith) (eqb-true _ _ e))
 
     -- of the new field

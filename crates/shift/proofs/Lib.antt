@@ -1,3 +1,4 @@
+pub mod Picked
 pub mod Turns
 pub mod Loop
 pub mod Laws

@@ -1,30 +1,22 @@
 -- How one entry more is closed up. Assumes nothing.
-use Prim.Native.Nat.{ℕ, zero, suc, _+_, _<_, _≤_}
+use Prim.Native.Nat.{ℕ, zero, suc, _+_, _<_}
 use mathlib.Core.Path.{_≡_, refl, sym, ap, _∙_}
 use mathlib.Core.Logic.{_≢_}
-use mathlib.Core.Bool.{Bool, true, false, cond}
-use mathlib.Core.List.{List, [], _∷_, _++_, map, map-append}
+use mathlib.Core.Bool.{Bool, true, false, cond, not}
+use mathlib.Core.List.{List, [], _∷_, _++_, map}
 use native.Mathlib.Omega.{arith}
 use borrow.Author.Tests.{eq-eqb, ne-eqb}
 use lib.Dec.{eqb}
-use lib.ListN.{length, getD, set, length-append, length-map, length-set}
+use lib.ListN.{length, getD, set, length-append, length-set}
 use lib.Ieee.{Float, nan, binary64, add, mul}
 use Rattle.weights.specs.Worth.{half64}
 use Rattle.scratch.specs.Over.{over}
-use Rattle.scratch.proofs.Over.{over-past, over-push}
 use Rattle.field.specs.Field.{Field, fieldOf, rowEnd, columnEnd, quadOf}
-use Rattle.shift.specs.Closing.{onDiagonal, intoLinear, linearTo, keptTo, closing, closedTo, closeAt}
+use Rattle.shift.specs.Picked.{picked}
+use Rattle.shift.specs.Closing.{onDiagonal, intoLinear, linearTo, keptAt, keptTo, closing, closedTo, closeAt}
+use Rattle.shift.proofs.Picked.{picked-past, picked-push}
 
--- ---- the entries that are kept
-
-pub kept-few : (F : Field) (k : ℕ) → length (keptTo F k) ≤ k
-unfolding keptTo
-kept-few F zero = omega arith
-kept-few F (suc k) = by (onDiagonal F k) (kept-few F k)
-  where
-    by : (b : Bool) → length (keptTo F k) ≤ k → length (cond b (keptTo F k) (keptTo F k ++ k ∷ [])) ≤ suc k
-    by true h = omega arith
-    by false h = omega (arith, length-append (keptTo F k) (k ∷ []))
+-- ---- the linear weights
 
 pub linear-long : (F : Field) (k : ℕ) → length (linearTo F k) ≡ length (F .linear)
 unfolding linearTo
@@ -59,26 +51,17 @@ module _ (k : ℕ) (G : Field) (kept : ℕ) {i j : ℕ} {x : Float} (ei : rowEnd
 -- ---- one entry more
 
 module _ (F : Field) (k : ℕ) (in-rows : k < length (F .rows)) (in-cols : k < length (F .cols)) (in-quad : k < length (F .quad)) where
-  -- past the kept entries each list is as it was given
-  past : {A : Type 0} (g : ℕ → A) (old : List A) (d : A) → getD (over (map g (keptTo F k)) old) k d ≡ getD old k d
-  past g old d = over-past (map g (keptTo F k)) old k d (omega (arith, length-map (keptTo F k) g, kept-few F k))
-
-  more : {A : Type 0} (g : ℕ → A) (old : List A) → k < length old → set (over (map g (keptTo F k)) old) (length (keptTo F k)) (g k) ≡ over (map g (keptTo F k ++ k ∷ [])) old
-  more {A} g old h =
-      over-push (map g (keptTo F k)) old (length (keptTo F k)) (g k) (length-map (keptTo F k) g) (omega (arith, kept-few F k))
-      ∙ ap (λ (t : List A). over t old) (sym (map-append g (keptTo F k) (k ∷ [])))
-
   pub closes-one : closeAt k (closedTo F k) ≡ closedTo F (suc k)
-  unfolding closedTo linearTo keptTo
+  unfolding closedTo linearTo picked
   closes-one =
-      reads k (closedTo F k .lists) (length (keptTo F k)) (past (rowEnd F) (F .rows) 0) (past (columnEnd F) (F .cols) 0) (past (quadOf F) (F .quad) nan)
+      reads k (closedTo F k .lists) (length (keptTo F k)) (picked-past (keptAt F) (rowEnd F) (F .rows) k 0) (picked-past (keptAt F) (columnEnd F) (F .cols) k 0) (picked-past (keptAt F) (quadOf F) (F .quad) k nan)
       ∙ by (onDiagonal F k)
     where
       by : (b : Bool) → cond b (closing (fieldOf (intoLinear F k (linearTo F k)) (closedTo F k .lists .rows) (closedTo F k .lists .cols) (closedTo F k .lists .quad)) (length (keptTo F k)))
           (closing (fieldOf (linearTo F k) (set (closedTo F k .lists .rows) (length (keptTo F k)) (rowEnd F k)) (set (closedTo F k .lists .cols) (length (keptTo F k)) (columnEnd F k))
           (set (closedTo F k .lists .quad) (length (keptTo F k)) (quadOf F k))) (length (keptTo F k) + 1))
-          ≡ closing (fieldOf (cond b (intoLinear F k (linearTo F k)) (linearTo F k)) (over (map (rowEnd F) (cond b (keptTo F k) (keptTo F k ++ k ∷ []))) (F .rows))
-          (over (map (columnEnd F) (cond b (keptTo F k) (keptTo F k ++ k ∷ []))) (F .cols)) (over (map (quadOf F) (cond b (keptTo F k) (keptTo F k ++ k ∷ []))) (F .quad)))
-          (length (cond b (keptTo F k) (keptTo F k ++ k ∷ [])))
+          ≡ closing (fieldOf (cond b (intoLinear F k (linearTo F k)) (linearTo F k)) (over (map (rowEnd F) (cond (not b) (keptTo F k ++ k ∷ []) (keptTo F k))) (F .rows))
+          (over (map (columnEnd F) (cond (not b) (keptTo F k ++ k ∷ []) (keptTo F k))) (F .cols)) (over (map (quadOf F) (cond (not b) (keptTo F k ++ k ∷ []) (keptTo F k))) (F .quad)))
+          (length (cond (not b) (keptTo F k ++ k ∷ []) (keptTo F k)))
       by true = refl
-      by false = rw (more (rowEnd F) (F .rows) in-rows, more (columnEnd F) (F .cols) in-cols, more (quadOf F) (F .quad) in-quad, length-append (keptTo F k) (k ∷ []))
+      by false = rw (picked-push (keptAt F) (rowEnd F) (F .rows) k in-rows, picked-push (keptAt F) (columnEnd F) (F .cols) k in-cols, picked-push (keptAt F) (quadOf F) (F .quad) k in-quad, length-append (keptTo F k) (k ∷ []))

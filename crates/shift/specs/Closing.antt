@@ -1,8 +1,8 @@
 -- How a field's diagonal goes into its linear weights, entry by entry (document 01, `shift_qubo`): "entries close up in place, 0.5q of a
 -- diagonal goes into c, the new m is returned, places past it are unchanged". Assumes nothing.
 use Prim.Native.Nat.{ℕ, zero, suc, _+_, _<_, _≤_}
-use mathlib.Core.Bool.{Bool, cond}
-use mathlib.Core.List.{List, [], _∷_, _++_, map}
+use mathlib.Core.Bool.{Bool, cond, not}
+use mathlib.Core.List.{List, map}
 use lib.Dec.{eqb}
 use lib.ListN.{length, getD, set}
 use lib.Ieee.{Float, nan, binary64, add, mul}
@@ -12,6 +12,7 @@ use Rattle.weights.specs.Worth.{half64}
 use Rattle.scratch.specs.Lent.{after}
 use Rattle.scratch.specs.Over.{over}
 use Rattle.field.specs.Field.{Field, fieldOf, variables, entries, rowEnd, columnEnd, quadOf}
+use Rattle.shift.specs.Picked.{picked}
 
 -- ---- what is promised
 
@@ -28,10 +29,12 @@ unfoldable pub linearTo : Field → ℕ → List Float
 linearTo F zero = F .linear
 linearTo F (suc k) = cond (onDiagonal F k) (intoLinear F k (linearTo F k)) (linearTo F k)
 
+abbrev pub keptAt : Field → ℕ → Bool
+keptAt F k = not (onDiagonal F k)
+
 -- of the first k entries, the positions of those off the diagonal, in order
-unfoldable pub keptTo : Field → ℕ → List ℕ
-keptTo F zero = []
-keptTo F (suc k) = cond (onDiagonal F k) (keptTo F k) (keptTo F k ++ k ∷ [])
+abbrev pub keptTo : Field → ℕ → List ℕ
+keptTo F k = picked (keptAt F) k
 
 -- four lists, and how many entries are kept at their front
 pub record Closing : Type 0 where

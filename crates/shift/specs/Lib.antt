@@ -1,3 +1,4 @@
+pub mod Picked
 pub mod Closing
 pub mod Call
 pub mod Shifted

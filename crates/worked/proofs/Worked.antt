@@ -13,7 +13,7 @@ use Rattle.expansion.specs.Sum as expansion
 use Rattle.meaning.specs.Records as records
 use Rattle.meaning.specs.Rising as rising
 use Rattle.constraints.specs.Record as flat
-use Rattle.field.specs.Tests.{endsBelow, allRise, allFinite, bytesSmall, fewVariables, listsMatch, inOrder, isFine, firstFrom, wrongAt, faultOf, offDiagonal, weightsFinite, startFits, floatsFit, wordsFit, shapeTests, looseTests, standardTests, readyTests}
+use Rattle.field.specs.Tests.{endsBelow, allRise, allFinite, bytesSmall, fewVariables, listsMatch, inOrder, isFine, firstFrom, wrongAt, faultOf, offDiagonal, weightsFinite, startFits, floatsFit, wordsFit, shapeTests, looseTests, openTests, standardTests, readyTests}
 use Rattle.field.specs.Grade.{weighs, allWeigh, serves, firstOf, unitOf, isExact, gradeOf}
 use Rattle.calls.specs.Call.{called, run as staged, keeping}
 use Rattle.calls.specs.Values as values
@@ -47,6 +47,9 @@ use Rattle.reason.specs.Until as until
 use Rattle.reason.specs.Listed as listed
 use Rattle.reason.specs.Ground as ground
 use Rattle.reason.specs.Call as reason
+use Rattle.shift.specs.Picked.{picked}
+use Rattle.sub_problem.specs.Reduced as smaller
+use Rattle.sub_problem.specs.Call as sub-problem
 use Rattle.worked.specs.Cases.{cases, given, expected}
 
 -- each call's promise gives exactly the answer of the list, and leaves exactly what it says in all that was lent
@@ -55,9 +58,9 @@ unfolding given expected
     called staged keeping values.valuesBy
     probe.probeOneCall probe.probeOne probe.newOnly probe.newAt probe.probeTests probe.mayProbe
     probes.probeCall probes.probeLimitedCall probes.candidatesCall probes.fits probes.allValues probes.allRecords
-    pairs.pairsCall anchors.anchorsCall anchors.anchorTests
+    pairs.pairsCall anchors.anchorsCall sub-problem.subProblemCall sub-problem.finished
     propagation.propagateCall literals.propagationTests literals.constraintsFit literals.allFit
-    readyTests standardTests looseTests shapeTests fewVariables listsMatch inOrder isFine firstFrom wrongAt faultOf offDiagonal weightsFinite startFits floatsFit wordsFit
+    readyTests standardTests openTests looseTests shapeTests fewVariables listsMatch inOrder isFine firstFrom wrongAt faultOf offDiagonal weightsFinite startFits floatsFit wordsFit
     endsBelow allRise allFinite bytesSmall allBelow gradeOf isExact unitOf firstOf serves allWeigh weighs wholeIn plus minus magnitude
     run.closure run.closureRun run.propagate run.work run.serve run.serveAll run.serveAt run.moveRow run.scanTo run.scanAt run.judged run.settle run.force run.flatTo
     upTo places placesFrom keep otherEnd rows.rowOf rows.rowTo rows.atEntry rows.atEnd addTerm
@@ -81,5 +84,6 @@ unfolding given expected
     passes.visit passes.pass passes.passes passes.closure literal.implied literal.stands literal.propagate
     reason.reasonCall reason.hasValue reason.fits ground.reasonOf ground.reasonList ground.groundOf ground.inHalfUnits ground.times
     until.basis until.stopOf until.scanned until.until rests.rests listed.listedOf listed.listedTo listed.isListed listed.joinsTo
+    picked smaller.gatheredTo smaller.adjusted smaller.givenTo smaller.withGiven
     add sub mul neg le lt eq ne ofInt ofBits
 worked = refl

@@ -1,5 +1,5 @@
 -- Document 01's values worked by hand, cases a to n, those of document 02's requests, and others beside them: each names its call, what it is given, and its answer. Assumes nothing.
-use Prim.Native.Nat.{ℕ, _+_, _*_}
+use Prim.Native.Nat.{ℕ, _+_, _-_, _*_}
 use mathlib.Core.Bool.{true, false}
 use mathlib.Core.List.{List, [], _∷_, _++_}
 use lib.IntN.{pos}
@@ -11,12 +11,12 @@ use Rattle.constraints.specs.Record.{room}
 use Rattle.field.specs.declared.Grade.{Grade}
 use Rattle.field.specs.declared.Grade.the-variants.{Exact, Inexact}
 use Rattle.field.specs.declared.Refusal.{Refusal}
-use Rattle.field.specs.declared.Refusal.the-variants.{Row, Column, Repeat, Order, Argument, Clash, Inexact as NotExact, Unforced}
+use Rattle.field.specs.declared.Refusal.the-variants.{Row, Column, Repeat, Order, Argument, Room, Clash, Inexact as NotExact, Unforced}
 use Rattle.field.specs.declared.Checked.{Checked}
 use Rattle.field.specs.declared.Checked.the-variants.{Passed, Failed}
 use Rattle.field.specs.declared.Answer.the-variants.{Done}
 use Rattle.field.specs.declared.Counted.the-variants.{Counts, Refuses}
-use Rattle.field.specs.Field.{Field, variables, entries}
+use Rattle.field.specs.Field.{Field, fieldOf, variables, entries}
 use Rattle.calls.specs.Values as values
 use Rattle.closure.specs.Call as closure
 use Rattle.components.specs.Call as components
@@ -32,7 +32,10 @@ use Rattle.reason.specs.declared.Ground.{Ground}
 use Rattle.reason.specs.declared.Ground.the-variants.{Given, Lower, Upper}
 use Rattle.reason.specs.declared.Reasoned.the-variants as reasoned
 use Rattle.reason.specs.Call as reason
-use Rattle.worked.specs.Fields.{nought, half, sixteenth, above-limit, minus-half, minus-one, two, minus-two, four, minus-five, six, alone, joined, apart, opposed, swallowing, unbalanced, two-parts, overflowing, on-diagonal, with-zero, parted, popped, one-term, two-pairs, three-pairs, four-pairs, linked, at-tolerance, placed, cancelling, both-ways, waiting, heavy-rate, one, least, minus-nought, huge, minus-huge, in-chain}
+use Rattle.sub_problem.specs.declared.Reduced.the-variants as reduced
+use Rattle.sub_problem.specs.Call as sub-problem
+use Rattle.worked.specs.Fields.{nought, half, sixteenth, limit, above-limit, minus-half, minus-one, two, minus-two, three, four, minus-five, six, minus-six, seven, heavy-rate, one, least, minus-nought, huge, minus-huge}
+use Rattle.worked.specs.Fields.{alone, joined, apart, opposed, swallowing, unbalanced, two-parts, overflowing, on-diagonal, with-zero, parted, popped, one-term, two-pairs, three-pairs, four-pairs, linked, at-tolerance, placed, cancelling, both-ways, waiting, in-chain, crossed, on-both-diagonals}
 
 -- a call, the field with its grade, the start values, what else it is given, and what it answers
 pub data Case : Type 0 where
@@ -61,6 +64,10 @@ pub data Case : Type 0 where
   explains : Field → List ℕ → ℕ → Ground → ℕ → List ℕ → Case
   -- the variable has no reason: the list stays, and scratch is all zeros
   explains-none : Field → List ℕ → ℕ → Refusal → Case
+  -- the smaller problem, its constant and the map back
+  reduces : Field → Grade → List ℕ → Field → Float → List ℕ → Case
+  -- the map list is too short for the smaller problem
+  lacks-room : Field → List ℕ → List ℕ → Case
 
 -- ---- the list
 
@@ -199,6 +206,16 @@ cases =
     ∷ argues (2 ∷ 2 ∷ []) (0 ∷ 1 ∷ 0 ∷ [])
     ∷ argues (2 ∷ 2 ∷ []) (0 ∷ 1 ∷ 16 ∷ [])
     ∷ argues (2 ∷ 2 ∷ []) (0 ∷ 2 ∷ 6 ∷ [])
+    -- C-21: case g with x0=1, an entry of each kind with x1=1, a diagonal that stays and one that goes, all given
+    ∷ reduces (joined (minus-five ∷ minus-one ∷ []) four) Exact (1 ∷ 2 ∷ []) (alone (one ∷ [])) minus-five (1 ∷ [])
+    ∷ reduces crossed Exact (2 ∷ 1 ∷ 2 ∷ []) (joined (minus-two ∷ seven ∷ []) minus-six) minus-one (0 ∷ 2 ∷ [])
+    ∷ reduces on-both-diagonals Inexact (1 ∷ 2 ∷ []) (fieldOf (two ∷ []) (0 ∷ []) (0 ∷ []) (six ∷ [])) three (1 ∷ [])
+    ∷ reduces (alone (two ∷ [])) Exact (1 ∷ []) (alone []) two []
+    -- c=(-0.0) is added to 0.0; c=(2^30,0), (0,1) 1, x1=1 leaves c=(2^30+0.5), which the list above grades inexact
+    ∷ reduces (alone (minus-nought ∷ [])) Exact (2 ∷ []) (alone (nought ∷ [])) nought (0 ∷ [])
+    ∷ reduces (joined (limit ∷ nought ∷ []) one) Exact (2 ∷ 1 ∷ []) (alone (above-limit ∷ [])) nought (0 ∷ [])
+    -- two free variables, and a map list of one place
+    ∷ lacks-room (joined (minus-five ∷ minus-one ∷ []) four) (2 ∷ 2 ∷ []) (7 ∷ [])
     ∷ []
 
 -- ---- what each call leaves, and what the list says
@@ -213,6 +230,7 @@ pub data Outcome : Type 0 where
   in-anchors : anchors.Left → Outcome
   in-literals : propagation.Left → Outcome
   in-reason : reason.Left → Outcome
+  in-lists : sub-problem.Left → Outcome
 
 -- scratch of the least length, with numbers in it
 abbrev pub floats : Field → List Float
@@ -235,6 +253,15 @@ lent l = replicate (length l) 7 ++ (9 ∷ [])
 abbrev pub front : List ℕ → List ℕ
 front l = l ++ (9 ∷ [])
 
+-- the smaller problem, with zeros behind it as far as the field went
+abbrev pub closed : Field → Field → Field
+closed G F =
+    fieldOf
+    (G .linear ++ replicate (variables F - variables G) nought)
+    (G .rows ++ replicate (entries F - entries G) 0)
+    (G .cols ++ replicate (entries F - entries G) 0)
+    (G .quad ++ replicate (entries F - entries G) nought)
+
 -- what the promise of each call gives
 unfoldable pub given : Case → Outcome
 given (closes F g s t flat) = in-closing (closure.closureCall F s (floats F) (words F))
@@ -251,6 +278,8 @@ given (argues s k) = in-literals (propagation.propagateCall s k (constraint-word
 given (refuses F r) = in-closing (closure.closureCall F (free F) (floats F) (words F))
 given (explains F s i g k l) = in-reason (reason.reasonCall F s i (lent l) (floats F) (words F))
 given (explains-none F s i r) = in-reason (reason.reasonCall F s i (lent []) (floats F) (words F))
+given (reduces F g s G k b) = in-lists (sub-problem.subProblemCall F s (lent b) (floats F) (words F))
+given (lacks-room F s l) = in-lists (sub-problem.subProblemCall F s l (floats F) (words F))
 
 -- what the list says: the answer, the values or the list with what is past it, and scratch that is all zeros
 unfoldable pub expected : Case → Outcome
@@ -268,3 +297,5 @@ expected (argues s k) = in-literals (propagation.left (Failed Argument) s (const
 expected (refuses F r) = in-closing (closure.left (Refuses r) (free F) (floats F) (words F))
 expected (explains F s i g k l) = in-reason (reason.left (reasoned.Because g k (length l)) (front l) (cleared zero64 (floats F)) (cleared 0 (words F)))
 expected (explains-none F s i r) = in-reason (reason.left (reasoned.Refuses r) (lent []) (cleared zero64 (floats F)) (cleared 0 (words F)))
+expected (reduces F g s G k b) = in-lists (sub-problem.left (reduced.Done g (variables G) (entries G) k) (closed G F) (front b) (cleared zero64 (floats F)) (cleared 0 (words F)))
+expected (lacks-room F s l) = in-lists (sub-problem.left (reduced.Refused Room) F (cleared 0 l) (cleared zero64 (floats F)) (cleared 0 (words F)))

@@ -40,6 +40,22 @@ minus-five = fin true 5 (pos 0)
 abbrev pub six : Float
 six = fin false 3 (pos 1)
 
+abbrev pub three : Float
+three = fin false 3 (pos 0)
+
+abbrev pub minus-six : Float
+minus-six = fin true 3 (pos 1)
+
+abbrev pub seven : Float
+seven = fin false 7 (pos 0)
+
+abbrev pub eight : Float
+eight = fin false 1 (pos 3)
+
+-- 2^30
+abbrev pub limit : Float
+limit = fin false 1 (pos 30)
+
 abbrev pub minus-quarter : Float
 minus-quarter = fin true 1 (negsuc 1)
 
@@ -196,3 +212,11 @@ waiting = fieldOf (minus-five ∷ minus-five ∷ minus-one ∷ []) (0 ∷ 1 ∷ 
 -- -2^40: no unit below 2^10 serves
 abbrev pub heavy-rate : Float
 heavy-rate = fin true 1 (pos 40)
+
+-- c=(-5,-1,3), (1,0) 2, (0,1) 4, (0,2) -6, (1,2) 8
+abbrev pub crossed : Field
+crossed = fieldOf (minus-five ∷ minus-one ∷ three ∷ []) (1 ∷ 0 ∷ 0 ∷ 1 ∷ []) (0 ∷ 1 ∷ 2 ∷ 2 ∷ []) (two ∷ four ∷ minus-six ∷ eight ∷ [])
+
+-- c=(1,2), (0,0) 4, (1,1) 6
+abbrev pub on-both-diagonals : Field
+on-both-diagonals = fieldOf (one ∷ two ∷ []) (0 ∷ 1 ∷ []) (0 ∷ 1 ∷ []) (four ∷ six ∷ [])

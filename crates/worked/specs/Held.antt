@@ -5,7 +5,7 @@ use mathlib.Core.List.{List, [], _∷_}
 use lib.Dec.{ltb}
 use lib.Ieee.{binary64, fits}
 use Rattle.field.specs.Field.{Field}
-use Rattle.worked.specs.Cases.{Case, closes, completes, preprocesses, rounds, probes-one, probes-all, probes-some, compares, anchors-at, propagates, argues, refuses, explains, explains-none}
+use Rattle.worked.specs.Cases.{Case, closes, completes, preprocesses, rounds, probes-one, probes-all, probes-some, compares, anchors-at, propagates, argues, refuses, explains, explains-none, reduces, lacks-room}
 
 -- every element passes
 unfoldable pub every : {A : Type 0} → (A → Bool) → List A → Bool
@@ -35,3 +35,5 @@ held (argues s k) = heldBytes s && every (λ w. ltb w 65536) k
 held (refuses F r) = heldField F
 held (explains F s i g k l) = heldField F && heldBytes s
 held (explains-none F s i r) = heldField F && heldBytes s
+held (reduces F g s G k b) = heldField F && heldBytes s
+held (lacks-room F s l) = heldField F && heldBytes s

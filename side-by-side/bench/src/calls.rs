@@ -22,6 +22,7 @@ pub const CALLS: &[&str] = &[
     "preprocess",
     "no_effect",
     "shift",
+    "sub_problem",
     "anchors",
     "pairs",
     "probe_one",
@@ -61,6 +62,10 @@ pub fn on_field(call: &'static str, field: &Field, budget: Duration) -> Line {
         }
         "shift" => {
             own = field.clone().with_diagonal();
+            &own
+        }
+        "sub_problem" => {
+            own = field.clone().half_given();
             &own
         }
         _ => field,
@@ -108,6 +113,22 @@ fn timed_call(call: &str, field: &Field, budget: Duration) -> (Duration, Duratio
             let count = done(lent.shift(field).1);
             agree(same_field(&text.shift().1, lent.field(), count));
             best(budget, || text.shift().0, || lent.shift(field).0)
+        }
+        "sub_problem" => {
+            let (answer, constant) = lent.sub_problem(field).1;
+            let count = done(answer);
+            let left = (answer >> 44) as usize;
+            let (reduced, places, expected) = text.sub_problem().1;
+            let smaller = lent.field().first(left, count);
+            agree(same_field(&reduced, &smaller, count));
+            agree(expected.to_bits() == constant.to_bits());
+            agree(places.len() == left);
+            agree((0..left).all(|new| places.get(&usize::from(lent.list()[new])) == Some(&new)));
+            best(
+                budget,
+                || text.sub_problem().0,
+                || lent.sub_problem(field).0,
+            )
         }
         "anchors" => {
             let count = done(lent.anchors(1).1);

@@ -156,6 +156,26 @@ impl Field {
         self
     }
 
+    /// The field of the first n variables and the first m entries.
+    pub fn first(&self, n: usize, m: usize) -> Self {
+        Self {
+            shape: self.shape,
+            c: self.c[..n].to_vec(),
+            rows: self.rows[..m].to_vec(),
+            cols: self.cols[..m].to_vec(),
+            q: self.q[..m].to_vec(),
+            start: vec![2; n],
+        }
+    }
+
+    /// The same field with every second variable given, 0 and 1 in turn.
+    pub fn half_given(mut self) -> Self {
+        for (i, value) in self.start.iter_mut().enumerate() {
+            *value = [0, 2, 1, 2][i % 4];
+        }
+        self
+    }
+
     /// The same entries with a diagonal entry for one variable in four, as far as there is room.
     pub fn with_diagonal(self) -> Self {
         let room = MOST_ENTRIES - self.m();

@@ -123,6 +123,26 @@ impl Lent {
         exported!(ombradiec_shift, [mut c][mut rows][mut cols][mut q])
     }
 
+    /// Closes up a copy, as shift does; the constant beside the answer.
+    pub fn sub_problem(&mut self, from: &Field) -> (Duration, (u64, f64)) {
+        let Field {
+            c,
+            rows,
+            cols,
+            q,
+            start,
+            ..
+        } = &mut self.field;
+        c.copy_from_slice(&from.c);
+        rows.copy_from_slice(&from.rows);
+        cols.copy_from_slice(&from.cols);
+        q.copy_from_slice(&from.q);
+        let (l, f, u) = (&mut self.list, &mut self.f, &mut self.u);
+        let mut constant = 0.0;
+        let (time, answer) = exported!(ombradiec_sub_problem, [mut c][mut rows][mut cols][mut q][start][mut l](&mut constant)[mut f][mut u]);
+        (time, (answer, constant))
+    }
+
     pub fn anchors(&mut self, least: usize) -> (Duration, u64) {
         let Field {
             c,

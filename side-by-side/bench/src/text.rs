@@ -8,6 +8,7 @@ use hercules::variable_reduction::{self, ProbedEquationSet};
 use hercules::{door, preprocess, FixedVarMap};
 use ndarray::Array1;
 use sprs::CsMat;
+use std::collections::HashMap;
 use std::time::Duration;
 
 /// The field as the text stores it, and its start values as the text takes them.
@@ -60,6 +61,10 @@ impl Text {
 
     pub fn shift(&self) -> (Duration, Qubo) {
         timed(|| preprocess::shift_qubo(&self.qubo))
+    }
+
+    pub fn sub_problem(&self) -> (Duration, (Qubo, HashMap<usize, usize>, f64)) {
+        timed(|| preprocess::make_sub_problem(&self.qubo, &self.given))
     }
 
     pub fn anchors(&self, least: usize) -> (Duration, Vec<usize>) {

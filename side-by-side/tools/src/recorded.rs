@@ -73,6 +73,32 @@ pub const REASONS: [Worked; 4] = [
     ("coarse", &[-1_099_511_627_776.0], &[], &[2]),
 ];
 
+/// Values of the smaller problem, document 02's C-21: one entry of each kind, diagonals, all given, and weights that leave -0.0 or the exact ones.
+pub const SMALLER: [Worked; 7] = [
+    ("g, given", &[-5.0, -1.0], &[(0, 1, 4.0)], &[1, 2]),
+    (
+        "crossed",
+        &[-5.0, -1.0, 3.0],
+        &[(1, 0, 2.0), (0, 1, 4.0), (0, 2, -6.0), (1, 2, 8.0)],
+        &[2, 1, 2],
+    ),
+    (
+        "diagonals",
+        &[1.0, 2.0],
+        &[(0, 0, 4.0), (1, 1, 6.0)],
+        &[1, 2],
+    ),
+    ("all given", &[2.0], &[], &[1]),
+    ("minus zero", &[-0.0], &[], &[2]),
+    (
+        "left inexact",
+        &[1_073_741_824.0, 0.0],
+        &[(0, 1, 1.0)],
+        &[2, 1],
+    ),
+    ("overflow", &[1e308, 0.0], &[(0, 1, 1.7e308)], &[2, 1]),
+];
+
 /// The worked value as a case of the call, with room for every answer.
 pub fn worked_case(call: Call, worked: &Worked) -> Case {
     let mut case = Case::new(call);
@@ -175,36 +201,54 @@ const SHARP_PROBES: [u64; 16] = [
 /// The least number of recorded cases, however few the calls.
 const LEAST: usize = 2_100;
 
-/// Every recorded case of the given calls, in the order of the codes.
+/// Every recorded case of the given calls, in the order of the codes; what came with document 02 stands last, so that the others keep their places.
 pub fn recorded(calls: &[Call]) -> Vec<Case> {
     let mut cases = Vec::new();
-    for (call, _) in CALLS {
-        if calls.contains(&call) {
-            worked(call, &mut cases);
-            refusals(call, &mut cases);
-            limits(call, &mut cases);
-            sharp(call, &mut cases);
-        }
+    let asked = |call: &Call| calls.contains(call) && *call != Call::SubProblem;
+    let earlier: Vec<Call> = CALLS.iter().map(|row| row.0).filter(asked).collect();
+    for &call in &earlier {
+        worked(call, &mut cases);
+        refusals(call, &mut cases);
+        limits(call, &mut cases);
+        sharp(call, &mut cases);
     }
-    let each = LEAST.saturating_sub(cases.len()).div_ceil(calls.len());
-    for (call, _) in CALLS {
-        if calls.contains(&call) {
-            let mut random = Random::new(0x0b5e_55ed + u64::from(call.code()));
-            for _ in 0..each.max(75) {
-                cases.push(make::random_case(&mut random, call, true));
-            }
-        }
+    let each = LEAST
+        .saturating_sub(cases.len())
+        .div_ceil(earlier.len().max(1));
+    for &call in &earlier {
+        small(call, each.max(75), &mut cases);
     }
-    // These came with document 02, and stand last so that the others keep their places.
-    for (call, _) in CALLS {
-        if calls.contains(&call) && call.has_field() {
+    for &call in &earlier {
+        if call.has_field() {
             faults(call, &mut cases);
         }
     }
     if calls.contains(&Call::Closure) {
         cases.extend(FLAT.iter().map(|flat| worked_case(Call::Closure, flat)));
     }
+    if calls.contains(&Call::SubProblem) {
+        smaller(&mut cases);
+    }
     cases
+}
+
+/// The cases of the smaller problem.
+fn smaller(cases: &mut Vec<Case>) {
+    let call = Call::SubProblem;
+    cases.extend(SMALLER.iter().map(|worked| worked_case(call, worked)));
+    worked(call, cases);
+    refusals(call, cases);
+    limits(call, cases);
+    small(call, 200, cases);
+    faults(call, cases);
+}
+
+/// Small random cases.
+fn small(call: Call, count: usize, cases: &mut Vec<Case>) {
+    let mut random = Random::new(0x0b5e_55ed + u64::from(call.code()));
+    for _ in 0..count {
+        cases.push(make::random_case(&mut random, call, true));
+    }
 }
 
 fn sharp(call: Call, cases: &mut Vec<Case>) {

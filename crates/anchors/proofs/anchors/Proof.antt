@@ -2,7 +2,8 @@
 use mathlib.Core.Path.{sym, _∙_}
 use native.Mathlib.Omega.{arith}
 use lib.ListN.{length}
-use Rattle.anchors.proofs.Laws.{admitted-passes, refused-call, counted-call, full-call}
+use Rattle.field.proofs.Means.{admitted-passes, admitted-loose}
+use Rattle.anchors.proofs.Laws.{refused-call, counted-call, full-call}
 use borrow.Author.Needs.{needs}
 use Rattle.anchors.proofs.anchors.Statement.{statement}
 use Rattle.anchors.proofs.anchors.Tie as tie
@@ -21,7 +22,7 @@ enum-told c = search needs
 
 graded-requires : tie.Need-graded-requires
 graded-requires c κs =
-    let a = admitted-passes _ _ _ _ .0 (sym (c .before .before .admitted .ensures) ∙ c .enum-told .given .1) in record { shaped = a .shaped; finite-weights = a .finite-weights }
+    admitted-loose (admitted-passes _ _ _ _ .0 (sym (c .before .before .admitted .ensures) ∙ c .enum-told .given .1))
 
 work-requires : tie.Need-work-requires
 work-requires c κs = (admitted-passes _ _ _ _ .0 (sym (c .before .before .before .before .before .before .admitted .ensures) ∙ c .before .before .before .before .enum-told .given .1), c .before .before .before .graded .ensures)

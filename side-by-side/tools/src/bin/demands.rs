@@ -236,7 +236,7 @@ fn reason(case: &Case, whole: &Whole, line: &str) -> Result<(), String> {
     }
 }
 
-/// f of a completion is the reduced f plus the constant.
+/// f of a completion is the reduced f plus the constant, and best completions correspond one to one.
 fn reduced(case: &Case, whole: &Whole, line: &str) -> Result<(), String> {
     let linear: Vec<f64> = items(line, "linear", ',').map(weight).collect();
     let entries = items(line, "entries", ';').map(|item| {
@@ -261,18 +261,17 @@ fn reduced(case: &Case, whole: &Whole, line: &str) -> Result<(), String> {
     };
     let rising: Vec<_> = (0..case.n()).filter(|&i| start[i] == 2).collect();
     same("map", &places, &rising)?;
+    let restricted = |x: usize| -> usize {
+        let bits = places.iter().enumerate();
+        bits.map(|(new, old)| ((x >> old) & 1) << new).sum()
+    };
     every(
         &Whole::completions(&start),
-        |x| {
-            let y = places
-                .iter()
-                .enumerate()
-                .map(|(new, old)| ((x >> old) & 1) << new)
-                .sum();
-            whole.twice_f(x) == smaller.twice_f(y) + constant
-        },
+        |x| whole.twice_f(x) == smaller.twice_f(restricted(x)) + constant,
         "f is not the reduced f plus the constant",
-    )
+    )?;
+    let best: Vec<_> = whole.best(&start).into_iter().map(restricted).collect();
+    same("best", &best, &smaller.best(&vec![2; places.len()]))
 }
 
 /// An assignment that meets the constraints has every value, and on a clash there is none.

@@ -1,15 +1,15 @@
-//! Document 01's values worked by hand, its two that were run, and document 02's examples under C-11, C-13, C-14 and C-17.
+//! Document 01's values worked by hand, its two that were run, and document 02's examples under C-11, C-13, C-14, C-17 and C-21.
 //! Usage: `worked` writes them as a stream of cases, `worked ANSWERS` checks the answers to it.
 
 use std::io::{self, BufWriter, Write};
 use stream::line::part;
 use stream::{Call, Case};
-use tools::recorded::{ample, reason_case, worked_case, Worked, FLAT, REASONS, WORKED};
+use tools::recorded::{ample, reason_case, worked_case, Worked, FLAT, REASONS, SMALLER, WORKED};
 
 /// A value's name, the call, and what stands in the answer: its first words, a part's name and content.
 type Expected = (&'static str, Call, &'static str, &'static str, &'static str);
 
-const EXPECTED: [Expected; 74] = [
+const EXPECTED: [Expected; 90] = [
     ("a", Call::Closure, "0 exact ", "values", ""),
     ("b", Call::Closure, "0 exact ", "values", "2"),
     ("b", Call::Preprocess, "0 exact ", "values", "0"),
@@ -24,7 +24,13 @@ const EXPECTED: [Expected; 74] = [
     ("i", Call::Pairs, "0 exact ", "constraints", ""),
     ("j", Call::Pairs, "0 exact ", "constraints", "0,1,8"),
     ("g", Call::Pairs, "0 exact ", "constraints", "0,1,3"),
-    ("one record", Call::Probe, "0 exact ", "constraints", "0,1,4"),
+    (
+        "one record",
+        Call::Probe,
+        "0 exact ",
+        "constraints",
+        "0,1,4",
+    ),
     ("k", Call::Propagation, "10 ", "values", "kept"),
     ("l", Call::Propagation, "0 ", "values", "22"),
     ("12, x0=1", Call::Propagation, "10 ", "values", "kept"),
@@ -174,6 +180,94 @@ const EXPECTED: [Expected; 74] = [
     ("e: x2", Call::Reason, "13 ", "variables", "kept"),
     ("swallowed: x0", Call::Reason, "12 ", "variables", "kept"),
     ("swallowed: x9", Call::Reason, "12 ", "floats", "zeros"),
+    (
+        "g, given",
+        Call::SubProblem,
+        "0 exact ",
+        "linear",
+        "3ff0000000000000",
+    ),
+    ("g, given", Call::SubProblem, "0 exact ", "variables", "1"),
+    ("g, given", Call::SubProblem, "0 exact ", "entries", ""),
+    (
+        "g, given",
+        Call::SubProblem,
+        "0 exact ",
+        "constant",
+        "c014000000000000",
+    ),
+    (
+        "crossed",
+        Call::SubProblem,
+        "0 exact ",
+        "linear",
+        "c000000000000000,401c000000000000",
+    ),
+    (
+        "crossed",
+        Call::SubProblem,
+        "0 exact ",
+        "entries",
+        "0,1,c018000000000000",
+    ),
+    (
+        "crossed",
+        Call::SubProblem,
+        "0 exact ",
+        "constant",
+        "bff0000000000000",
+    ),
+    ("crossed", Call::SubProblem, "0 exact ", "variables", "0,2"),
+    (
+        "diagonals",
+        Call::SubProblem,
+        "0 inexact ",
+        "linear",
+        "4000000000000000",
+    ),
+    (
+        "diagonals",
+        Call::SubProblem,
+        "0 inexact ",
+        "entries",
+        "0,0,4018000000000000",
+    ),
+    (
+        "diagonals",
+        Call::SubProblem,
+        "0 inexact ",
+        "constant",
+        "4008000000000000",
+    ),
+    ("all given", Call::SubProblem, "0 exact ", "variables", ""),
+    (
+        "all given",
+        Call::SubProblem,
+        "0 exact ",
+        "constant",
+        "4000000000000000",
+    ),
+    (
+        "minus zero",
+        Call::SubProblem,
+        "0 exact ",
+        "linear",
+        "0000000000000000",
+    ),
+    (
+        "left inexact",
+        Call::SubProblem,
+        "0 exact ",
+        "linear",
+        "41d0000000200000",
+    ),
+    (
+        "overflow",
+        Call::SubProblem,
+        "0 inexact ",
+        "linear",
+        "7ff0000000000000",
+    ),
 ];
 
 fn worked_field(name: &str) -> &'static Worked {
@@ -181,6 +275,7 @@ fn worked_field(name: &str) -> &'static Worked {
         .iter()
         .chain(&FLAT)
         .chain(&REASONS)
+        .chain(&SMALLER)
         .find(|w| w.0 == name)
         .expect("a worked field")
 }

@@ -14,22 +14,22 @@ put-text-requires c κs = search needs
 
 slice-aggregate-put-entries : tie.Need-slice-aggregate-put-entries
 slice-aggregate-put-entries c =
-    let a = c .before .before .before .before .before .before .before .before .before .before .before in
+    let a = c .before .before .before .before .before .before .before .before .before .before .before .before in
     sym (length-take-le (a .args .m) (a .args .rows .now) (omega arith))
 
 slice-aggregate-put-entries-2 : tie.Need-slice-aggregate-put-entries-2
 slice-aggregate-put-entries-2 c =
-    let a = c .before .before .before .before .before .before .before .before .before .before .before .before in
+    let a = c .before .before .before .before .before .before .before .before .before .before .before .before .before in
     sym (length-take-le (a .args .m) (a .args .cols .now) (omega arith))
 
 slice-aggregate-put-entries-3 : tie.Need-slice-aggregate-put-entries-3
 slice-aggregate-put-entries-3 c =
-    let a = c .before .before .before .before .before .before .before .before .before .before .before .before .before in
+    let a = c .before .before .before .before .before .before .before .before .before .before .before .before .before .before in
     sym (length-take-le (a .args .m) (a .args .q .now) (omega arith))
 
 put-entries-requires : tie.Need-put-entries-requires
 put-entries-requires c κs =
-    let s = c .before .before .before .before .before .before .before .before .before .before .before .before .before in
+    let s = c .before .before .before .before .before .before .before .before .before .before .before .before .before .before in
     let r = length-take-le (s .args .m) (s .args .rows .now) (omega arith) in (
       omega (arith, r, length-take-le (s .args .m) (s .args .cols .now) (omega arith)),
       omega (arith, r, length-take-le (s .args .m) (s .args .q .now) (omega arith)),
@@ -40,9 +40,6 @@ slice-aggregate-put-text-2 c = search needs
 
 put-text-requires-2 : tie.Need-put-text-requires-2
 put-text-requires-2 c κs = search needs
-
-slice-aggregate-put-promise : tie.Need-slice-aggregate-put-promise
-slice-aggregate-put-promise c = search needs
 
 put-promise-requires : tie.Need-put-promise-requires
 put-promise-requires c κs = search needs
@@ -65,7 +62,6 @@ put-closed-spec =
     put-entries-requires
     slice-aggregate-put-text-2
     put-text-requires-2
-    slice-aggregate-put-promise
     put-promise-requires
     same-length
     returns)

@@ -1,13 +1,13 @@
--- `admitted` makes tests 1, 2, 3 and 5, then 6 and 8. Assumes nothing.
+-- `admitted` makes tests 1, 2, 14 to 17 and 5, then 6 and 8. Assumes nothing.
 use mathlib.Core.Path.{sym, _∙_}
 use borrow.Author.Tests.{not-true, not-false}
 use native.Mathlib.Omega.{arith}
 use Rattle.field.proofs.Table.{test-no, test-ok, none-left, group-no, group-ok}
 use Rattle.field.proofs.Means.{loose-passes}
-use Rattle.anchors.specs.Call.{anchorTests}
+use Rattle.field.specs.Tests.{openTests}
 use borrow.Author.Needs.{needs}
-use Rattle.anchors.proofs.tests.admitted.Statement.{statement}
-use Rattle.anchors.proofs.tests.admitted.Tie as tie
+use Rattle.field.proofs.tests.admitted.Statement.{statement}
+use Rattle.field.proofs.tests.admitted.Tie as tie
 
 loose-requires : tie.Need-loose-requires
 loose-requires c κs = search needs
@@ -16,7 +16,7 @@ enum-known-shaped : tie.Need-enum-known-shaped
 enum-known-shaped c = search needs
 
 returns : tie.Need-returns
-unfolding anchorTests
+unfolding openTests
 returns c = group-no _ _ (sym (c .before .before .before .loose .ensures) ∙ c .before .shaped .given .1)
 
 enum-told : tie.Need-enum-told
@@ -26,7 +26,7 @@ start-fits-requires : tie.Need-start-fits-requires
 start-fits-requires c κs = search needs
 
 returns-2 : tie.Need-returns-2
-unfolding anchorTests
+unfolding openTests
 returns-2 c =
     group-ok _ _ (sym (c .before .before .before .before .loose .ensures) ∙ c .before .before .enum-told .given .1)
     (test-no _ _ (sym (c .before .start-fits .ensures) ∙ not-true _ (c .if1 .taken)))
@@ -37,7 +37,7 @@ floats-fit-requires c κs =
     (shaped .few-variables, omega (arith, shaped .few-entries))
 
 returns-3 : tie.Need-returns-3
-unfolding anchorTests
+unfolding openTests
 returns-3 c =
     group-ok _ _ (sym (c .before .before .before .before .before .before .loose .ensures) ∙ c .before .before .before .before .enum-told .given .1)
     (test-ok _ _ (sym (c .before .before .before .start-fits .ensures) ∙ not-false _ (c .before .before .if1 .left))
@@ -49,7 +49,7 @@ words-fit-requires c κs =
     (shaped .few-variables, omega (arith, shaped .few-entries))
 
 returns-4 : tie.Need-returns-4
-unfolding anchorTests
+unfolding openTests
 returns-4 c =
     group-ok _ _ (sym (c .before .before .before .before .before .before .before .before .loose .ensures) ∙ c .before .before .before .before .before .before .enum-told .given .1)
     (test-ok _ _ (sym (c .before .before .before .before .before .start-fits .ensures) ∙ not-false _ (c .before .before .before .before .if1 .left))
@@ -57,7 +57,7 @@ returns-4 c =
     (test-no _ _ (sym (c .before .words-fit .ensures) ∙ not-true _ (c .if3 .taken)))))
 
 returns-5 : tie.Need-returns-5
-unfolding anchorTests
+unfolding openTests
 returns-5 c =
     group-ok _ _ (sym (c .before .before .before .before .before .before .before .before .loose .ensures) ∙ c .before .before .before .before .before .before .enum-told .given .1)
     (test-ok _ _ (sym (c .before .before .before .before .before .start-fits .ensures) ∙ not-false _ (c .before .before .before .before .if1 .left))

@@ -1,0 +1,11 @@
+pub mod Numbering
+pub mod Shape
+pub mod Corresponds
+pub mod Worths
+pub mod Objective
+pub mod Bests
+pub mod Demands
+pub mod NumberLoops
+pub mod GatherLoops
+pub mod CloseLoops
+pub mod Laws

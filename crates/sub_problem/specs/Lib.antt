@@ -1,0 +1,4 @@
+pub mod Reduced
+pub mod Corresponds
+pub mod Call
+pub mod Working
