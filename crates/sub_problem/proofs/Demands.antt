@@ -8,7 +8,7 @@ use borrow.Author.Tests.{leb-false, lt-leb}
 use lib.ListN.{length, getD, take, length-map, getD-replicate}
 use lib.Ieee.{Float, nan}
 use Rattle.whole.specs.Whole.{_⊕_, _≈_}
-use Rattle.weights.specs.Worth.{zero64, read}
+use Rattle.weights.specs.Worth.{Worth, zero64, read}
 use Rattle.scratch.specs.Cleared.{cleared}
 use Rattle.scratch.specs.Over.{over}
 use Rattle.scratch.proofs.Over.{over-front, over-past}
@@ -35,11 +35,11 @@ use Rattle.shift.specs.Shifted.{WholeIn}
 use Rattle.shift.proofs.Keeps.{weighs-more}
 use Rattle.sub_problem.specs.declared.Reduced.the-variants.{Done, Refused}
 use Rattle.sub_problem.specs.Reduced.{back, newIndex, stays, adjusted, constant, reduced}
-use Rattle.sub_problem.specs.Corresponds.{allFree, restrict, extend, OneToOne}
+use Rattle.sub_problem.specs.Corresponds.{allFree, restrict, extend, OneToOne, AllWhole}
 use Rattle.sub_problem.specs.Call.{Left, left, closedUp, closedIn, firstOf, fits, subProblemTable, finished, subProblemCall}
 use Rattle.sub_problem.proofs.Numbering.{back-free}
 use Rattle.sub_problem.proofs.Shape.{new-variables, new-entries, reduced-shaped, reduced-standard}
-use Rattle.sub_problem.proofs.Objective.{objective}
+use Rattle.sub_problem.proofs.Objective.{objective, reduced-whole, constant-whole}
 use Rattle.sub_problem.proofs.Bests as bests
 
 -- any two results that the promise permits are equal
@@ -206,6 +206,12 @@ module _ (F : Field) (s l : List ℕ) (f : List Float) (u : List ℕ) where
           (subst (λ (j : ℕ). OneToOne (Best (wholeOf v F) s) (Best (wholeOf v (reduced F s)) (allFree j)) (restrict s) (extend s)) (says .new-n)
           (bests.bests (admitted .shaped) w (admitted .start) unit))
 
+      all-whole : AllWhole v (firstOf n m (subProblemCall F s l f u .lent .lists))
+      all-whole = subst (λ (G : Field). AllWhole v G) (sym is-reduced) (reduced-whole (admitted .shaped) w (admitted .start))
+
+      whole-constant : Worth v k (read v k)
+      whole-constant = subst (λ (z : Float). Worth v z (read v z)) (says .is-constant) (constant-whole (admitted .shaped) w (admitted .start) unit)
+
 -- a unit that serves is such a unit
 serves-whole : {F : Field} {unit : ℕ} → Serves unit F → WholeIn unit F
 serves-whole S = record { linear = λ i h. weighs-more (omega arith) (S .exact .linear i h); quad = S .exact .quad }
@@ -215,6 +221,13 @@ module _ (F : Field) (s l : List ℕ) (f : List Float) (u : List ℕ) {n m : ℕ
   -- THE OBJECTIVE: f of a completion is the smaller problem's f at its free values, plus the constant,
   pub keeps-f : {x : List ℕ} → Completion s x → twice-f (wholeOf unit F) x ≈ twice-f (wholeOf unit (firstOf n m (subProblemCall F s l f u .lent .lists))) (restrict s x) ⊕ read unit k
   keeps-f c = whole-keeps-f F s l f u e (serves-whole serving) (omega (arith, serving .to)) c
+
+  -- where every new weight and the constant are whole numbers, so that nothing is lost in the reading,
+  pub new-whole : AllWhole unit (firstOf n m (subProblemCall F s l f u .lent .lists))
+  new-whole = all-whole F s l f u e (serves-whole serving) (omega (arith, serving .to))
+
+  pub constant-read : Worth unit k (read unit k)
+  constant-read = whole-constant F s l f u e (serves-whole serving) (omega (arith, serving .to))
 
   -- and best completions correspond one to one.
   pub bests-correspond : OneToOne (Best (wholeOf unit F) s) (Best (wholeOf unit (firstOf n m (subProblemCall F s l f u .lent .lists))) (allFree n)) (restrict s) (extend s)

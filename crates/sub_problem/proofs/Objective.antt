@@ -10,19 +10,25 @@ use Rattle.whole.specs.Whole.{Whole, nothing, _⊕_, _⊙_, only, sum, _≈_, Z
 use Rattle.whole.proofs.Sums.{sum-same, sum-add, sum-zero, sum-at, only-zero}
 use Rattle.meaning.specs.Free.{isFree}
 use Rattle.meaning.specs.Field.{variable-term, entry-term, twice-f, Completion}
-use Rattle.weights.specs.Worth.{read}
-use Rattle.weights.proofs.Worth.{worth-read}
+use lib.Ieee.{Float}
+use Rattle.weights.specs.Worth.{Worth, read}
+use Rattle.weights.proofs.Worth.{as-worth, worth-read}
 use Rattle.field.specs.Field.{Field, variables, entries, linearOf, rowEnd, columnEnd, quadOf, Shaped, StartFor}
 use Rattle.field.specs.Reading.{wholeOf}
+use Rattle.field.proofs.Exact.{weighs-read}
 use Rattle.shift.specs.Shifted.{WholeIn}
 use Rattle.shift.proofs.Keeps.{equal}
 use Rattle.sub_problem.specs.Reduced.{back, newIndex, staysAt, lone, loneAt, givenAt, freeEnd, givenEnd, stays, adjusted, constant, reduced}
-use Rattle.sub_problem.specs.Corresponds.{restrict}
+use Rattle.sub_problem.specs.Corresponds.{restrict, AllWhole}
 use Rattle.shift.proofs.Picked.{picked-sum}
 use Rattle.sub_problem.proofs.Numbering.{back-below}
 use Rattle.sub_problem.proofs.Shape.{new-variables, new-entries, new-linear, new-row, new-column, new-quad, stood, row-free, column-free}
 use Rattle.sub_problem.proofs.Corresponds.{restrict-at, restrict-new, has-given}
 use Rattle.sub_problem.proofs.Worths.{weightIn, part, given-part, given-linear, constantIn, free-end-below, adjusted-worth, constant-worth}
+
+-- what is worth a ledger is worth what is read of it
+all-read : {u : ℕ} {x : Float} {a : Whole} → Worth u x a → Worth u x (read u x)
+all-read h = as-worth h (worth-read h)
 
 -- the same number, taken 0 times or once
 taken : (a b : Whole) (v : ℕ) → v < 2 → a ≈ b → a ⊙ v ≈ b ⊙ v
@@ -195,3 +201,19 @@ module _ {u : ℕ} {F : Field} {s : List ℕ} (S : Shaped F) (w : WholeIn u F) (
   -- f of a completion is the smaller problem's f at its free values, plus the constant
   pub objective : u ≤ 2044 → twice-f (wholeOf u F) x ≈ twice-f (wholeOf u (reduced F s)) (restrict s x) ⊕ read u (constant F s)
   objective unit = omega (arith, in-whole, worth-read (constant-worth S w start unit))
+
+-- ---- what is read of the smaller problem is all of it
+
+module _ {u : ℕ} {F : Field} {s : List ℕ} (S : Shaped F) (w : WholeIn u F) (start : StartFor (variables F) s) where
+  pub reduced-whole : AllWhole u (reduced F s)
+  reduced-whole = record {
+    linear = λ t h.
+        let l : t < length (back s) = omega (arith, new-variables F s) in
+        rw (new-linear F s t l) (all-read (adjusted-worth S w start (getD (back s) t 0) (omega (arith, back-below s t l, start .long))));
+    quad = λ t h.
+        let l : t < length (stays F s) = omega (arith, new-entries F s) in
+        rw (new-quad F s t l) (weighs-read (w .quad (getD (stays F s) t 0) (stood F s t l)));
+  }
+
+  pub constant-whole : u ≤ 2044 → Worth u (constant F s) (read u (constant F s))
+  constant-whole unit = all-read (constant-worth S w start unit)

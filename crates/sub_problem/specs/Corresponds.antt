@@ -1,10 +1,12 @@
--- Values of the field and of the smaller problem. Assumes nothing.
-use Prim.Native.Nat.{ℕ}
+-- Values of the field and of the smaller problem, and what is read of its weights. Assumes nothing.
+use Prim.Native.Nat.{ℕ, suc, _<_}
 use mathlib.Core.Path.{_≡_}
 use mathlib.Core.Bool.{cond}
 use mathlib.Core.List.{List, map}
 use lib.ListN.{length, getD, replicate}
+use Rattle.weights.specs.Worth.{Worth, read}
 use Rattle.meaning.specs.Free.{isFree}
+use Rattle.field.specs.Field.{Field, variables, entries, linearOf, quadOf}
 use Rattle.rows.specs.Stored.{upTo}
 use Rattle.sub_problem.specs.Reduced.{back, newIndex}
 
@@ -26,3 +28,8 @@ pub record OneToOne (P Q : List ℕ → Type 0) (there back : List ℕ → List 
   pub returns : {y : List ℕ} → Q y → P (back y)
   pub there-again : {y : List ℕ} → Q y → there (back y) ≡ y
   pub back-again : {x : List ℕ} → P x → back (there x) ≡ x
+
+-- what `wholeOf` reads of a field is all of it: every c is a whole number of u, and every q of its double
+pub record AllWhole (u : ℕ) (G : Field) : Type 0 where
+  pub linear : (i : ℕ) → i < variables G → Worth u (linearOf G i) (read u (linearOf G i))
+  pub quad : (k : ℕ) → k < entries G → Worth (suc u) (quadOf G k) (read (suc u) (quadOf G k))
