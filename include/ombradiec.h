@@ -34,8 +34,8 @@ typedef uint64_t ombradiec_answer;
 #define OMBRADIEC_REFUSAL(answer) ((int)((answer) & 0xff))
 /* 1 if the field is exact, so that no sum rounds; 0 if it is not */
 #define OMBRADIEC_EXACT(answer) ((int)((answer) >> 8 & 0xff))
-/* the items in the answer list; of shift and sub_problem the new number of entries; of closure the free variables with a
- * flat row */
+/* the items in the answer list; of shift and sub_problem the new number of entries; of closure and close the free variables
+ * with a flat row */
 #define OMBRADIEC_COUNT(answer) ((size_t)((answer) >> 16 & 0xfffffff))
 /* of ROW, COLUMN, REPEAT and ORDER: the position of the first entry at fault, from 0, in the lists given */
 #define OMBRADIEC_POSITION(answer) OMBRADIEC_COUNT(answer)
@@ -48,7 +48,7 @@ typedef uint64_t ombradiec_answer;
 #define OMBRADIEC_LEFT(answer) ((size_t)((answer) >> 44))
 
 /* The refusals, tested in this order. Those up to SCRATCH change nothing lent; past it all of the scratch ends as zeros.
- * INEXACT and UNFORCED are reason's, and leave its list and its bound.
+ * INEXACT and UNFORCED are reason's, and leave its list and its bound; INEXACT is keep's too, and leaves the record.
  * ROW to ORDER are one test: at the first entry at fault the row is tested before the column, and both before its place.
  * 3, which stood for the four, is not given any more. */
 #define OMBRADIEC_DONE 0
@@ -60,8 +60,8 @@ typedef uint64_t ombradiec_answer;
 #define OMBRADIEC_ORDER 17    /* an entry stands before the entry before: entries rise by column, then row */
 #define OMBRADIEC_DIAGONAL 4  /* an entry has its row equal to its column */
 #define OMBRADIEC_WEIGHTS 5   /* a weight is not finite */
-#define OMBRADIEC_START 6     /* the start values are not n long, or a byte is above 2 */
-#define OMBRADIEC_ARGUMENT 7  /* a probed variable, a probed value or a constraint is not as the call asks */
+#define OMBRADIEC_START 6     /* the start values are not n long, or a byte is above 2; a record's bounds are not 2n long */
+#define OMBRADIEC_ARGUMENT 7  /* a variable, a value or a constraint is not as the call asks */
 #define OMBRADIEC_SCRATCH 8   /* a scratch is too short */
 #define OMBRADIEC_INEXACT 12  /* the field is inexact */
 #define OMBRADIEC_UNFORCED 13 /* the variable is not below n, or is free at the end */
@@ -199,6 +199,37 @@ ombradiec_answer ombradiec_probe_limited(const double *c, size_t c_len, const ui
  * The records need be neither sorted nor merged; one with all four bits clashes once either variable has a value. */
 ombradiec_answer ombradiec_propagate(uint8_t *start, size_t start_len, const uint16_t *constraints,
                                      size_t constraints_len, uint32_t *u, size_t u_len);
+
+/* The rows kept between edits, of an exact field alone: another is OMBRADIEC_INEXACT, once the scratch has passed. `bounds` has
+ * 2n places: the lower bound of variable i at i and its upper bound at n + i, 0 for a variable that has a value; `strict`
+ * counts the free variables whose lower bound is above 0 or whose upper bound is below 0. `values`, `bounds` and `strict` are
+ * the record: keep them together, with the same field. Bounds of another length are OMBRADIEC_START. */
+ombradiec_answer ombradiec_keep(const double *c, size_t c_len, const uint16_t *rows, size_t rows_len,
+                                const uint16_t *cols, size_t cols_len, const double *q, size_t q_len,
+                                const uint8_t *values, size_t values_len, double *bounds, size_t bounds_len,
+                                uint32_t *strict, double *f, size_t f_len, uint32_t *u, size_t u_len);
+
+/* Gives a free variable of the record a value, 0 or 1; no scratch, no grade, and nothing is forced. After any operations the
+ * bounds and the number are those that ombradiec_keep would leave at the values that stand then, and only the rows of
+ * neighbours and of the variable itself change. OMBRADIEC_ARGUMENT, which changes nothing, where the variable is not below n or
+ * not free, or the value is above 1. */
+ombradiec_answer ombradiec_pin(const double *c, size_t c_len, const uint16_t *rows, size_t rows_len,
+                               const uint16_t *cols, size_t cols_len, const double *q, size_t q_len, uint8_t *values,
+                               size_t values_len, double *bounds, size_t bounds_len, uint32_t *strict,
+                               size_t variable, uint8_t value);
+
+/* Frees a variable of the record that has a value, pinned or given; else as ombradiec_pin. */
+ombradiec_answer ombradiec_release(const double *c, size_t c_len, const uint16_t *rows, size_t rows_len,
+                                   const uint16_t *cols, size_t cols_len, const double *q, size_t q_len,
+                                   uint8_t *values, size_t values_len, double *bounds, size_t bounds_len,
+                                   uint32_t *strict, size_t variable);
+
+/* Puts the closure of the record's values, from its bounds, into `list`, which is n long, with the values that were given, and
+ * counts the flat rows as ombradiec_closure does; the record is unchanged. */
+ombradiec_answer ombradiec_close(const double *c, size_t c_len, const uint16_t *rows, size_t rows_len,
+                                 const uint16_t *cols, size_t cols_len, const double *q, size_t q_len,
+                                 const uint8_t *values, size_t values_len, const double *bounds, size_t bounds_len,
+                                 uint8_t *list, size_t list_len, double *f, size_t f_len, uint32_t *u, size_t u_len);
 
 #ifdef __cplusplus
 }

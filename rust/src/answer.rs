@@ -72,7 +72,7 @@ pub struct SubProblem {
 /// [`Field::entries`](crate::Field::entries) from 0.
 ///
 /// No refusal changes a field or start values. The others up to [`Scratch`](Refusal::Scratch) change no answer list either;
-/// [`Inexact`](Refusal::Inexact) and [`Unforced`](Refusal::Unforced), which are [`reason`](crate::reason)'s, leave its list too.
+/// [`Inexact`](Refusal::Inexact) and [`Unforced`](Refusal::Unforced), which are [`reason`](crate::reason)'s and the first [`Kept::new`](crate::Kept::new)'s, leave its list too.
 /// [`Room`](Refusal::Room) and [`Clash`](Refusal::Clash) are found only when the work is done.
 #[derive(Clone, Copy, Debug, PartialEq, Eq, PartialOrd, Ord, Hash)]
 pub enum Refusal {
@@ -106,11 +106,12 @@ pub enum Refusal {
     Weights,
     /// The start values are not n long.
     Start,
-    /// A probed variable is not below n or not free, or a constraint is not as propagation asks.
+    /// A probed or pinned variable is not below n or not free, a released one not below n or free, or a constraint is not as
+    /// propagation asks.
     Argument,
     /// A scratch is too short; [`Scratch`](crate::Scratch) never is.
     Scratch,
-    /// The field is inexact, so that no value of it has a reason.
+    /// The field is inexact, so that no value of it has a reason, and no record is made of it.
     Inexact,
     /// The variable is not below n, or is free at the end of the closure.
     Unforced,
@@ -204,7 +205,7 @@ impl fmt::Display for Refusal {
             Refusal::Diagonal => "an entry is on the diagonal",
             Refusal::Weights => "a weight is not finite",
             Refusal::Start => "the start values are not one 0, 1 or 2 for each variable",
-            Refusal::Argument => "a probed variable, a probed value or a constraint is not as the call asks",
+            Refusal::Argument => "a variable, a value or a constraint is not as the call asks",
             Refusal::Scratch => "a scratch is too short",
             Refusal::Inexact => "the field is inexact",
             Refusal::Unforced => "the variable is none of the field, or is free at the end",

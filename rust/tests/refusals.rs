@@ -197,3 +197,24 @@ fn an_end_may_say_two_things() {
 fn a_refusal_says_why() {
     assert_eq!(Refusal::Clash.to_string(), "the constraints clash");
 }
+
+#[test]
+fn a_record_is_of_an_exact_field_and_its_values() {
+    let mut scratch = Scratch::new();
+    let field = || Field::new(&[-1.0, -5.0, 0.5], &[(0, 1, 4.0), (1, 2, -2.0)]);
+    assert_eq!(Kept::new(Field::new(&[0.1], &[]), Values::free(1), &mut scratch).unwrap_err(), Refusal::Inexact);
+    assert_eq!(Kept::new(field(), Values::free(2), &mut scratch).unwrap_err(), Refusal::Start);
+    let mut given = Values::free(3);
+    given.set(0, Some(true));
+    let mut kept = Kept::new(field(), given.clone(), &mut scratch).unwrap();
+    for refused in [kept.pin(0, false), kept.pin(3, false), kept.release(1), kept.release(3)] {
+        assert_eq!(refused, Err(Refusal::Argument));
+    }
+    assert_eq!(kept, Kept::new(field(), given, &mut scratch).unwrap());
+    kept.release(0).unwrap();
+    assert_eq!(kept, Kept::new(field(), Values::free(3), &mut scratch).unwrap());
+    let (list, done) = kept.close(&mut scratch).unwrap();
+    let mut start = Values::free(3);
+    assert_eq!(closure(&field(), &mut start, &mut scratch), Ok(done));
+    assert_eq!(list, start);
+}

@@ -1,6 +1,7 @@
 // The words of an answer's line, in the order of docs/CASES.md, and which call has which.
 pub mod outcomes;
 mod reasoned;
+pub mod recorded;
 pub mod reduced;
 pub mod shifted;
 
@@ -53,6 +54,8 @@ pub const SHIFT: u8 = 13;
 pub const SUB_PROBLEM: u8 = 14;
 
 pub const REASON: u8 = 16;
+
+pub const KEEP: u8 = 17;
 
 // The number of a call that is not here.
 pub const ABSENT: u32 = 11;
@@ -172,7 +175,7 @@ fn put_values(
     put_promise(out, named, b"kept", is_kept)
 }
 
-fn put_count(out: &mut [u8], used: usize, count: usize) -> usize
+pub fn put_count(out: &mut [u8], used: usize, count: usize) -> usize
     ensures { λ r. ⌜ r ≤ length (after out) ⌝ }
 {
     let named = put_text(out, used, b" count=");
@@ -325,6 +328,9 @@ fn has_floats(code: u8) -> bool {
         return true;
     }
     if code == SUB_PROBLEM {
+        return true;
+    }
+    if code == KEEP {
         return true;
     }
     code < NO_EFFECT

@@ -3,3 +3,4 @@ pub mod Positions
 pub mod Counts
 pub mod Probed
 pub mod Theorems
+pub mod Records

@@ -23,6 +23,9 @@ ghost use Rattle.anchors.specs.Call as anchoring;
 ghost use Rattle.pairs.specs.Call as pairing;
 ghost use Rattle.probe.specs.Call as probing;
 ghost use Rattle.reason.specs.Call as reasoning;
+ghost use Rattle.calls.specs.Call as any;
+ghost use Rattle.kept.specs.Kept.{kept};
+ghost use Rattle.kept.specs.Calls as keeping;
 ghost use Rattle.probes.specs.Call as searching;
 ghost use Rattle.propagation.specs.Call as propagating;
 ghost use Rattle.packing.specs.Layout.{packedChecked, packedAnswer, packedCounted, packedPaired, packedReasoned, boundAfter, packedReduced, constantAfter};
@@ -272,4 +275,75 @@ pub extern "C" fn ombradiec_propagate(start: &mut [u8], constraints: &[u16], u: 
     ensures { λ r. ⌜ Exported packedChecked (λ a. propagating.left a (after start) (after u)) r (propagating.propagateCall (before start) (before constraints) (before u)) ⌝ }
 {
     pack_checked(propagation::propagate(start, constraints, u))
+}
+
+// The record of the values: every free variable's bounds, and the number of strict rows.
+#[no_mangle]
+pub extern "C" fn ombradiec_keep(
+    c: &[f64],
+    rows: &[u16],
+    cols: &[u16],
+    q: &[f64],
+    values: &[u8],
+    bounds: &mut [f64],
+    strict: &mut u32,
+    f: &mut [f64],
+    u: &mut [u32],
+) -> u64
+    ensures { λ r. ⌜ Exported packedAnswer (λ a. keeping.left a (after bounds) (after strict) (after f) (after u)) r (keeping.makeCall (given c rows cols q) (before values) (before bounds) (before strict) (before f) (before u)) ⌝ }
+{
+    pack_answer(kept::make(c, rows, cols, q, values, bounds, strict, f, u))
+}
+
+// A free variable takes a value in the record.
+#[no_mangle]
+pub extern "C" fn ombradiec_pin(
+    c: &[f64],
+    rows: &[u16],
+    cols: &[u16],
+    q: &[f64],
+    values: &mut [u8],
+    bounds: &mut [f64],
+    strict: &mut u32,
+    variable: usize,
+    value: u8,
+) -> u64
+    ensures { λ r. ⌜ Exported packedChecked (λ a. any.left a (kept (after values) (after bounds) (after strict))) r (keeping.pinCall (given c rows cols q) (kept (before values) (before bounds) (before strict)) variable value) ⌝ }
+{
+    pack_checked(kept::pin(c, rows, cols, q, values, bounds, strict, variable, value))
+}
+
+// A variable that has a value is free again in the record.
+#[no_mangle]
+pub extern "C" fn ombradiec_release(
+    c: &[f64],
+    rows: &[u16],
+    cols: &[u16],
+    q: &[f64],
+    values: &mut [u8],
+    bounds: &mut [f64],
+    strict: &mut u32,
+    variable: usize,
+) -> u64
+    ensures { λ r. ⌜ Exported packedChecked (λ a. any.left a (kept (after values) (after bounds) (after strict))) r (keeping.releaseCall (given c rows cols q) (kept (before values) (before bounds) (before strict)) variable) ⌝ }
+{
+    pack_checked(kept::release(c, rows, cols, q, values, bounds, strict, variable))
+}
+
+// The closure from the record, and how many free variables have a flat row at its end.
+#[no_mangle]
+pub extern "C" fn ombradiec_close(
+    c: &[f64],
+    rows: &[u16],
+    cols: &[u16],
+    q: &[f64],
+    values: &[u8],
+    bounds: &[f64],
+    list: &mut [u8],
+    f: &mut [f64],
+    u: &mut [u32],
+) -> u64
+    ensures { λ r. ⌜ Exported packedCounted (λ a. keeping.closed a (after list) (after f) (after u)) r (keeping.closeCall (given c rows cols q) (before values) (before bounds) (before list) (before f) (before u)) ⌝ }
+{
+    pack_counted(kept::close(c, rows, cols, q, values, bounds, list, f, u))
 }

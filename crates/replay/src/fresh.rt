@@ -7,9 +7,11 @@ use cases::contents::take_linear;
 use cases::contents::take_rows;
 use cases::contents::take_start;
 use cases::contents::take_weights;
+use cases::keeping::answer_keep;
 use cases::reducing::answer_sub_problem;
 use cases::shifting::answer_shift;
 use lines::BYTE;
+use lines::KEEP;
 use lines::Outcome;
 use lines::SHIFT;
 use lines::SUB_PROBLEM;
@@ -112,6 +114,9 @@ fn answer_call(
 {
     if head.code == SUB_PROBLEM {
         return answer_sub_problem(head, contents, start, list, f, u, out, used);
+    }
+    if head.code == KEEP {
+        return answer_keep(head, contents, at, start, found, list, f, u, out, used);
     }
     answer_kept(head, contents, at, start, found, list, f, u, out, used)
 }

@@ -2,4 +2,5 @@ pub mod Upto
 pub mod Stored
 pub mod Pass
 pub mod Terms
+pub mod Turned
 pub mod Counted

@@ -35,9 +35,20 @@ addFixed r a v = record {
   upper = add binary64 (r .upper) (mul binary64 a (ofInt binary64 (pos v)));
 }
 
+-- and is removed from both
+abbrev pub removeFixed : Row → Float → ℕ → Row
+removeFixed r a v = record {
+  lower = sub binary64 (r .lower) (mul binary64 a (ofInt binary64 (pos v)));
+  upper = sub binary64 (r .upper) (mul binary64 a (ofInt binary64 (pos v)));
+}
+
 -- the term of an end with the byte v, where 2 is free
 unfoldable pub addTerm : Row → Float → ℕ → Row
 addTerm r a v = cond (eqb v 2) (addFree r a) (addFixed r a v)
+
+-- and the same term taken out
+unfoldable pub removeTerm : Row → Float → ℕ → Row
+removeTerm r a v = cond (eqb v 2) (removeFree r a) (removeFixed r a v)
 
 -- "A row whose two bounds are both 0"
 abbrev pub bothZero : Row → Bool

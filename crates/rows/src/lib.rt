@@ -3,7 +3,7 @@ pub mod fill;
 pub mod store;
 
 ghost use mathlib.Core.Path.{_≡_};
-ghost use Rattle.rows.specs.Row.{startRow, addFree, removeFree, addFixed, addTerm, judgeOf, concludeOf, isFlat};
+ghost use Rattle.rows.specs.Row.{startRow, addFree, removeFree, addFixed, removeFixed, addTerm, removeTerm, judgeOf, concludeOf, isFlat};
 
 pub struct Row {
     pub lower: f64,
@@ -82,6 +82,16 @@ impl Row {
         }
     }
 
+    pub fn remove_fixed(self, coeff: f64, value: u8) -> Row
+        ensures { λ r. ⌜ r ≡ removeFixed self coeff value ⌝ }
+    {
+        let term = coeff * (value as f64);
+        Row {
+            lower: self.lower - term,
+            upper: self.upper - term,
+        }
+    }
+
     // The term of an end with this byte, where 2 is free.
     pub fn add_term(self, coeff: f64, value: u8) -> Row
         ensures { λ r. ⌜ r ≡ addTerm self coeff value ⌝ }
@@ -90,6 +100,17 @@ impl Row {
             self.add_free(coeff)
         } else {
             self.add_fixed(coeff, value)
+        }
+    }
+
+    // The same term taken out.
+    pub fn remove_term(self, coeff: f64, value: u8) -> Row
+        ensures { λ r. ⌜ r ≡ removeTerm self coeff value ⌝ }
+    {
+        if value == 2 {
+            self.remove_free(coeff)
+        } else {
+            self.remove_fixed(coeff, value)
         }
     }
 

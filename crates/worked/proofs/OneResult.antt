@@ -17,6 +17,8 @@ use Rattle.probe.specs.Call as probe
 use Rattle.probes.specs.Call as probes
 use Rattle.propagation.specs.Call as propagation
 use Rattle.reason.specs.Call as reason
+use Rattle.kept.specs.Kept.{Kept}
+use Rattle.kept.specs.Calls as keeping
 use Rattle.worked.specs.One.{One}
 
 -- a promise that is one equation
@@ -54,6 +56,12 @@ module _ (F : Field) (s : List ℕ) (f : List Float) (u : List ℕ) where
   pub probe-limited-one : (limit : ℕ) (values list : List ℕ) → One (probes.probeLimitedCall F s limit values list f u)
   probe-limited-one limit values list = one
 
+  pub make-one : (bounds : List Float) (strict : ℕ) → One (keeping.makeCall F s bounds strict f u)
+  make-one bounds strict = one
+
+  pub close-one : (bounds : List Float) (list : List ℕ) → One (keeping.closeCall F s bounds list f u)
+  close-one bounds list = one
+
   pub reason-one : (i : ℕ) (list : List ℕ) → One (reason.reasonCall F s i list f u)
   reason-one i list = one
 
@@ -65,3 +73,10 @@ module _ (F : Field) (s : List ℕ) (f : List Float) (u : List ℕ) where
 
 pub propagate-one : (s list u : List ℕ) → One (propagation.propagateCall s list u)
 propagate-one s list u = one
+
+module _ (F : Field) (K : Kept) (i : ℕ) where
+  pub pin-one : (v : ℕ) → One (keeping.pinCall F K i v)
+  pin-one v = one
+
+  pub release-one : One (keeping.releaseCall F K i)
+  release-one = one

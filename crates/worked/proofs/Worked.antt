@@ -17,7 +17,7 @@ use Rattle.field.specs.Tests.{endsBelow, allRise, allFinite, bytesSmall, fewVar
 use Rattle.field.specs.Grade.{weighs, allWeigh, serves, firstOf, unitOf, isExact, gradeOf}
 use Rattle.calls.specs.Call.{called, run as staged, keeping}
 use Rattle.calls.specs.Values as values
-use Rattle.rows.specs.Row.{addTerm}
+use Rattle.rows.specs.Row.{addTerm, removeTerm}
 use Rattle.rows.specs.Model as rows
 use Rattle.rows.specs.Stored.{upTo}
 use Rattle.places.specs.Places.{places, placesFrom, keep, otherEnd}
@@ -50,11 +50,14 @@ use Rattle.reason.specs.Call as reason
 use Rattle.shift.specs.Picked.{picked}
 use Rattle.sub_problem.specs.Reduced as smaller
 use Rattle.sub_problem.specs.Call as sub-problem
-use Rattle.worked.specs.Cases.{cases, given, expected}
+use Rattle.kept.specs.Kept as kept
+use Rattle.kept.specs.Calls as keeps
+use Rattle.kept.specs.Operations.{operatedAll}
+use Rattle.worked.specs.Cases.{cases, given, numbers, expected}
 
 -- each call's promise gives exactly the answer of the list, and leaves exactly what it says in all that was lent
 pub worked : map given cases ≡ map expected cases
-unfolding given expected
+unfolding given expected numbers
     called staged keeping values.valuesBy
     probe.probeOneCall probe.probeOne probe.newOnly probe.newAt probe.probeTests probe.mayProbe
     probes.probeCall probes.probeLimitedCall probes.candidatesCall probes.fits probes.allValues probes.allRecords
@@ -84,6 +87,8 @@ unfolding given expected
     passes.visit passes.pass passes.passes passes.closure literal.implied literal.stands literal.propagate
     reason.reasonCall reason.hasValue reason.fits ground.reasonOf ground.reasonList ground.groundOf ground.inHalfUnits ground.times
     until.basis until.stopOf until.scanned until.until rests.rests listed.listedOf listed.listedTo listed.isListed listed.joinsTo
+    keeps.makeCall keeps.pinCall keeps.releaseCall keeps.closeCall keeps.runFrom keeps.boundsFit keeps.recordTests keeps.lentTests keeps.mayPin keeps.pinTests keeps.mayRelease keeps.releaseTests operatedAll
+    kept.storedRow kept.boundsOf kept.strictTo kept.made kept.turnAt kept.turnTo kept.changed removeTerm
     picked smaller.gatheredTo smaller.adjusted smaller.givenTo smaller.withGiven
     add sub mul neg le lt eq ne ofInt ofBits
 worked = refl

@@ -14,8 +14,9 @@ use Rattle.field.specs.declared.Refusal.{Refusal}
 use Rattle.field.specs.declared.Refusal.the-variants.{Row, Column, Repeat, Order, Argument, Room, Clash, Inexact as NotExact, Unforced}
 use Rattle.field.specs.declared.Checked.{Checked}
 use Rattle.field.specs.declared.Checked.the-variants.{Passed, Failed}
-use Rattle.field.specs.declared.Answer.the-variants.{Done}
+use Rattle.field.specs.declared.Answer.the-variants.{Done, Refused}
 use Rattle.field.specs.declared.Counted.the-variants.{Counts, Refuses}
+use Rattle.field.specs.Answers.{checkedNumber}
 use Rattle.field.specs.Field.{Field, fieldOf, variables, entries}
 use Rattle.calls.specs.Values as values
 use Rattle.closure.specs.Call as closure
@@ -34,8 +35,11 @@ use Rattle.reason.specs.declared.Reasoned.the-variants as reasoned
 use Rattle.reason.specs.Call as reason
 use Rattle.sub_problem.specs.declared.Reduced.the-variants as reduced
 use Rattle.sub_problem.specs.Call as sub-problem
-use Rattle.worked.specs.Fields.{nought, half, sixteenth, limit, above-limit, minus-half, minus-one, two, minus-two, three, four, minus-five, six, minus-six, seven, heavy-rate, one, least, minus-nought, huge, minus-huge}
-use Rattle.worked.specs.Fields.{alone, joined, apart, opposed, swallowing, unbalanced, two-parts, overflowing, on-diagonal, with-zero, parted, popped, one-term, two-pairs, three-pairs, four-pairs, linked, at-tolerance, placed, cancelling, both-ways, waiting, in-chain, crossed, on-both-diagonals}
+use Rattle.kept.specs.Kept.{Kept, kept}
+use Rattle.kept.specs.Calls as keeping
+use Rattle.kept.specs.Operations.{Operation, pin, release, operated, operatedAll}
+use Rattle.worked.specs.Fields.{nought, half, sixteenth, limit, above-limit, minus-half, minus-one, two, minus-two, three, minus-three, four, minus-four, minus-five, six, minus-six, seven, heavy-rate, one, least, minus-nought, huge, minus-huge}
+use Rattle.worked.specs.Fields.{alone, joined, apart, opposed, swallowing, unbalanced, two-parts, overflowing, on-diagonal, with-zero, parted, popped, one-term, two-pairs, three-pairs, four-pairs, linked, at-tolerance, placed, cancelling, both-ways, waiting, in-chain, crossed, on-both-diagonals, edited}
 
 -- a call, the field with its grade, the start values, what else it is given, and what it answers
 pub data Case : Type 0 where
@@ -68,6 +72,10 @@ pub data Case : Type 0 where
   reduces : Field → Grade → List ℕ → Field → Float → List ℕ → Case
   -- the map list is too short for the smaller problem
   lacks-room : Field → List ℕ → List ℕ → Case
+  -- a record is made and kept through operations, whose numbers follow: what it holds then, and the flat rows and the list of what closes from it
+  keeps : Field → List ℕ → List Operation → List ℕ → Kept → ℕ → List ℕ → Case
+  -- no record is made, and scratch is all zeros
+  keeps-none : Field → List ℕ → Refusal → Case
 
 -- ---- the list
 
@@ -216,6 +224,15 @@ cases =
     ∷ reduces (joined (limit ∷ nought ∷ []) one) Exact (2 ∷ 1 ∷ []) (alone (above-limit ∷ [])) nought (0 ∷ [])
     -- two free variables, and a map list of one place
     ∷ lacks-room (joined (minus-five ∷ minus-one ∷ []) four) (2 ∷ 2 ∷ []) (7 ∷ [])
+    -- C-19: made; x1 pinned at 0; pinned again; released; another pinned, and a free one released
+    ∷ keeps edited (2 ∷ 2 ∷ 2 ∷ []) [] [] (kept (2 ∷ 2 ∷ 2 ∷ []) (minus-one ∷ minus-six ∷ minus-half ∷ one ∷ minus-three ∷ half ∷ []) 1) 0 (0 ∷ 1 ∷ 1 ∷ [])
+    ∷ keeps edited (2 ∷ 2 ∷ 2 ∷ []) (pin 1 0 ∷ []) (0 ∷ []) (kept (2 ∷ 0 ∷ 2 ∷ []) (minus-one ∷ nought ∷ half ∷ minus-one ∷ nought ∷ half ∷ []) 2) 0 (1 ∷ 0 ∷ 0 ∷ [])
+    ∷ keeps edited (2 ∷ 2 ∷ 2 ∷ []) (pin 1 0 ∷ pin 1 0 ∷ []) (0 ∷ 7 ∷ []) (kept (2 ∷ 0 ∷ 2 ∷ []) (minus-one ∷ nought ∷ half ∷ minus-one ∷ nought ∷ half ∷ []) 2) 0 (1 ∷ 0 ∷ 0 ∷ [])
+    ∷ keeps edited (2 ∷ 2 ∷ 2 ∷ []) (pin 1 0 ∷ release 1 ∷ []) (0 ∷ 0 ∷ []) (kept (2 ∷ 2 ∷ 2 ∷ []) (minus-one ∷ minus-six ∷ minus-half ∷ one ∷ minus-three ∷ half ∷ []) 1) 0 (0 ∷ 1 ∷ 1 ∷ [])
+    ∷ keeps edited (2 ∷ 2 ∷ 2 ∷ []) (pin 0 1 ∷ release 2 ∷ []) (0 ∷ 7 ∷ []) (kept (1 ∷ 2 ∷ 2 ∷ []) (nought ∷ minus-four ∷ minus-half ∷ nought ∷ minus-three ∷ half ∷ []) 1) 0 (1 ∷ 1 ∷ 1 ∷ [])
+    -- a bound of 0 is stored as 0.0; an inexact field has no record
+    ∷ keeps (joined (minus-nought ∷ one ∷ []) minus-four) (2 ∷ 2 ∷ []) (pin 1 0 ∷ []) (0 ∷ []) (kept (2 ∷ 0 ∷ []) (nought ∷ nought ∷ nought ∷ nought ∷ []) 0) 1 (2 ∷ 0 ∷ [])
+    ∷ keeps-none swallowing (2 ∷ 2 ∷ 2 ∷ 2 ∷ []) NotExact
     ∷ []
 
 -- ---- what each call leaves, and what the list says
@@ -231,6 +248,8 @@ pub data Outcome : Type 0 where
   in-literals : propagation.Left → Outcome
   in-reason : reason.Left → Outcome
   in-lists : sub-problem.Left → Outcome
+  in-record : List ℕ → Kept → keeping.Closed → Outcome
+  in-making : keeping.Left → Outcome
 
 -- scratch of the least length, with numbers in it
 abbrev pub floats : Field → List Float
@@ -262,6 +281,26 @@ closed G F =
     (G .cols ++ replicate (entries F - entries G) 0)
     (G .quad ++ replicate (entries F - entries G) nought)
 
+-- bounds of two for each variable, with numbers in them
+abbrev pub bounds : Field → List Float
+bounds F = replicate (variables F + variables F) two
+
+-- the number of one operation's answer, and those of all, one after another
+abbrev pub numberTo : Field → Kept → Operation → ℕ
+numberTo F K (pin i v) = checkedNumber (keeping.pinCall F K i v .answer)
+numberTo F K (release i) = checkedNumber (keeping.releaseCall F K i .answer)
+
+unfoldable pub numbers : Field → Kept → List Operation → List ℕ
+numbers F K [] = []
+numbers F K (o ∷ os) = numberTo F K o ∷ numbers F (operated F K o) os
+
+-- the record that is made, and what the operations leave of it
+abbrev pub begun : Field → List ℕ → Kept
+begun F s = keeping.recordLeft F s (bounds F) 7 (floats F) (words F)
+
+abbrev pub after : Field → List ℕ → List Operation → Kept
+after F s os = operatedAll F (begun F s) os
+
 -- what the promise of each call gives
 unfoldable pub given : Case → Outcome
 given (closes F g s t flat) = in-closing (closure.closureCall F s (floats F) (words F))
@@ -280,6 +319,9 @@ given (explains F s i g k l) = in-reason (reason.reasonCall F s i (lent l) (floa
 given (explains-none F s i r) = in-reason (reason.reasonCall F s i (lent []) (floats F) (words F))
 given (reduces F g s G k b) = in-lists (sub-problem.subProblemCall F s (lent b) (floats F) (words F))
 given (lacks-room F s l) = in-lists (sub-problem.subProblemCall F s l (floats F) (words F))
+given (keeps F s os ns K flat l) =
+    in-record (numbers F (begun F s) os) (after F s os) (keeping.closeCall F (after F s os .values) (after F s os .bounds) (replicate (length l) 7) (floats F) (words F))
+given (keeps-none F s r) = in-making (keeping.makeCall F s (bounds F) 7 (floats F) (words F))
 
 -- what the list says: the answer, the values or the list with what is past it, and scratch that is all zeros
 unfoldable pub expected : Case → Outcome
@@ -299,3 +341,5 @@ expected (explains F s i g k l) = in-reason (reason.left (reasoned.Because g k (
 expected (explains-none F s i r) = in-reason (reason.left (reasoned.Refuses r) (lent []) (cleared zero64 (floats F)) (cleared 0 (words F)))
 expected (reduces F g s G k b) = in-lists (sub-problem.left (reduced.Done g (variables G) (entries G) k) (closed G F) (front b) (cleared zero64 (floats F)) (cleared 0 (words F)))
 expected (lacks-room F s l) = in-lists (sub-problem.left (reduced.Refused Room) F (cleared 0 l) (cleared zero64 (floats F)) (cleared 0 (words F)))
+expected (keeps F s os ns K flat l) = in-record ns K (keeping.closed (Counts Exact flat) l (cleared zero64 (floats F)) (cleared 0 (words F)))
+expected (keeps-none F s r) = in-making (keeping.left (Refused r) (bounds F) 7 (cleared zero64 (floats F)) (cleared 0 (words F)))

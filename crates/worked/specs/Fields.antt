@@ -43,6 +43,12 @@ six = fin false 3 (pos 1)
 abbrev pub three : Float
 three = fin false 3 (pos 0)
 
+abbrev pub minus-three : Float
+minus-three = fin true 3 (pos 0)
+
+abbrev pub minus-four : Float
+minus-four = fin true 1 (pos 2)
+
 abbrev pub minus-six : Float
 minus-six = fin true 3 (pos 1)
 
@@ -220,3 +226,7 @@ crossed = fieldOf (minus-five ∷ minus-one ∷ three ∷ []) (1 ∷ 0 ∷ 0 ∷
 -- c=(1,2), (0,0) 4, (1,1) 6
 abbrev pub on-both-diagonals : Field
 on-both-diagonals = fieldOf (one ∷ two ∷ []) (0 ∷ 1 ∷ []) (0 ∷ 1 ∷ []) (four ∷ six ∷ [])
+
+-- C-19's three variables: (0,1) 4, (1,2) -2
+abbrev pub edited : Field
+edited = fieldOf (minus-one ∷ minus-five ∷ half ∷ []) (0 ∷ 1 ∷ []) (1 ∷ 2 ∷ []) (four ∷ minus-two ∷ [])

@@ -5,7 +5,8 @@ use mathlib.Core.List.{List, [], _∷_}
 use lib.Dec.{ltb}
 use lib.Ieee.{binary64, fits}
 use Rattle.field.specs.Field.{Field}
-use Rattle.worked.specs.Cases.{Case, closes, completes, preprocesses, rounds, probes-one, probes-all, probes-some, compares, anchors-at, propagates, argues, refuses, explains, explains-none, reduces, lacks-room}
+use Rattle.worked.specs.Cases.{Case, closes, completes, preprocesses, rounds, probes-one, probes-all, probes-some, compares, anchors-at, propagates, argues, refuses, explains, explains-none, reduces, lacks-room, keeps, keeps-none}
+use Rattle.kept.specs.Operations.{Operation, pin, release}
 
 -- every element passes
 unfoldable pub every : {A : Type 0} → (A → Bool) → List A → Bool
@@ -18,6 +19,10 @@ heldField F =
 
 abbrev pub heldBytes : List ℕ → Bool
 heldBytes s = every (λ v. ltb v 256) s
+
+abbrev pub heldOperation : Operation → Bool
+heldOperation (pin i v) = ltb i 65536 && ltb v 256
+heldOperation (release i) = ltb i 65536
 
 -- what a case gives its call
 unfoldable pub held : Case → Bool
@@ -37,3 +42,5 @@ held (explains F s i g k l) = heldField F && heldBytes s
 held (explains-none F s i r) = heldField F && heldBytes s
 held (reduces F g s G k b) = heldField F && heldBytes s
 held (lacks-room F s l) = heldField F && heldBytes s
+held (keeps F s os ns K flat l) = heldField F && heldBytes s && every heldOperation os
+held (keeps-none F s r) = heldField F && heldBytes s

@@ -1,6 +1,7 @@
 //! Answers a stream of cases with the Rust text: cases on standard input, one line a case on standard output.
 
 mod flat;
+mod kept;
 mod reason;
 
 use hercules::constraint::{Constraint, ConstraintType};
@@ -21,7 +22,7 @@ fn main() -> io::Result<()> {
     output.flush()
 }
 
-/// The refusals are worked out here from document 01's table, the flat rows by the run once more, and reasons from document 02's words; all else is the text's.
+/// The refusals are worked out here from document 01's table, the flat rows by the run once more, and reasons and records from document 02's words; all else is the text's.
 fn answer(case: &Case) -> Answer {
     if let Some(refusal) = table::refusal(case) {
         return Answer::Refused(refusal);
@@ -36,6 +37,19 @@ fn answer(case: &Case) -> Answer {
             }
             Err(number) => return Answer::NoReason(number),
         },
+        Call::Keep if !table::exact(case) => return Answer::NoReason(12),
+        Call::Keep => {
+            let mut kept = kept::after_script(case);
+            if case.found_room as usize == case.n() {
+                let found = list_of(case.n(), &door::closure(&field(case), map_of(&kept.values)));
+                let mut current = case.clone();
+                current.start.clone_from(&kept.values);
+                let (again, flat) = flat::closure(&current);
+                assert_eq!(again, found, "the run once more ends in other values");
+                kept.closing = Some((flat, found));
+            }
+            done.kept = Some(kept);
+        }
         Call::Propagation => match propagation(case, given) {
             Some(values) => done.values = Some(list_of(case.n(), &values)),
             None => return Answer::Clash,
@@ -105,7 +119,7 @@ fn work(case: &Case, qubo: &Qubo, given: FixedVarMap, done: &mut Done) {
             assert!(kept.iter().enumerate().all(|(at, pair)| at == pair.0));
             done.variables = Some(kept.into_iter().map(|pair| pair.1).collect());
         }
-        Call::Propagation | Call::Reason => unreachable!("these are worked elsewhere"),
+        Call::Propagation | Call::Reason | Call::Keep => unreachable!("these are worked elsewhere"),
     }
 }
 

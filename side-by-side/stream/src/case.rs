@@ -19,10 +19,11 @@ pub enum Call {
     Shift,
     SubProblem,
     Reason = 16,
+    Keep,
 }
 
 /// The calls with their names, in the order of their codes.
-pub const CALLS: [(Call, &str); 15] = [
+pub const CALLS: [(Call, &str); 16] = [
     (Call::Closure, "closure"),
     (Call::Components, "components"),
     (Call::Preprocess, "preprocess"),
@@ -38,6 +39,7 @@ pub const CALLS: [(Call, &str); 15] = [
     (Call::Shift, "shift"),
     (Call::SubProblem, "sub-problem"),
     (Call::Reason, "reason"),
+    (Call::Keep, "keep"),
 ];
 
 impl Call {
@@ -69,10 +71,10 @@ impl Call {
 
     /// Writes its values into the start values.
     pub fn fills_start(self) -> bool {
-        use Call::{Closure, Components, Heavy, Preprocess, Propagation};
+        use Call::{Closure, Components, Heavy, Keep, Preprocess, Propagation};
         matches!(
             self,
-            Closure | Components | Preprocess | Heavy | Propagation
+            Closure | Components | Preprocess | Heavy | Propagation | Keep
         )
     }
 
@@ -89,7 +91,7 @@ impl Call {
 
     /// Answers in a list of values, one a variable.
     pub fn finds_values(self) -> bool {
-        self.probes_one() || matches!(self, Self::Probe | Self::LimitedProbe)
+        self.probes_one() || matches!(self, Self::Probe | Self::LimitedProbe | Self::Keep)
     }
 
     /// Answers in a list of constraints.
@@ -209,6 +211,7 @@ impl Case {
             && self.words <= 589_900
             && self.variable <= 65_535
             && self.value <= 255
+            && (self.call != Call::Keep || self.least_size <= 8_200)
     }
 
     /// Reads the next case; nothing at the stream's end.

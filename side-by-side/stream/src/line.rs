@@ -42,6 +42,15 @@ pub struct Reason {
     pub listed: Vec<usize>,
 }
 
+/// A record after its operations: their answers, the record, and what the closing call gives, nothing where its list is not n long.
+pub struct Kept {
+    pub operations: Vec<u8>,
+    pub values: Vec<u8>,
+    pub bounds: Vec<f64>,
+    pub strict: usize,
+    pub closing: Option<(usize, Vec<u8>)>,
+}
+
 /// What a call answers on 0; a part that the call does not have is nothing.
 #[derive(Default)]
 pub struct Done {
@@ -55,6 +64,7 @@ pub struct Done {
     pub linear: Option<Vec<f64>>,
     pub entries: Option<Vec<(usize, usize, f64)>>,
     pub constant: Option<f64>,
+    pub kept: Option<Kept>,
 }
 
 /// The whole line, with the promise for each lent slice.
@@ -82,6 +92,9 @@ pub fn line(case: &Case, answer: &Answer) -> String {
         if call.fills_start() {
             words.push(format!("values={start}"));
         }
+        if call == crate::Call::Keep {
+            words.push("bounds=kept strict=kept".to_string());
+        }
         if call.finds_constraints() {
             words.push(format!("constraints={lists}"));
         }
@@ -105,6 +118,9 @@ pub fn line(case: &Case, answer: &Answer) -> String {
 }
 
 fn done_words(case: &Case, done: &Done, words: &mut Vec<String>) {
+    if let Some(kept) = &done.kept {
+        kept_words(kept, words);
+    }
     if let Some(values) = &done.values {
         words.push(format!("values={}", digits(values)));
     }
@@ -154,6 +170,19 @@ fn done_words(case: &Case, done: &Done, words: &mut Vec<String>) {
     }
     if let Some(constant) = done.constant {
         words.push(format!("constant={}", hex(constant)));
+    }
+}
+
+fn kept_words(kept: &Kept, words: &mut Vec<String>) {
+    words.push(format!("operations={}", joined(kept.operations.iter(), ",")));
+    words.push(format!("values={}", digits(&kept.values)));
+    words.push(format!("bounds={}", joined(kept.bounds.iter().map(|&b| hex(b)), ",")));
+    words.push(format!("strict={}", kept.strict));
+    match &kept.closing {
+        Some((flat, found)) => {
+            words.push(format!("closing=0 count={flat} found={}", digits(found)));
+        }
+        None => words.push("closing=9 found=zeros".to_string()),
     }
 }
 

@@ -90,7 +90,9 @@ fn not_finite(case: &Case) -> bool {
 }
 
 fn start_broken(case: &Case) -> bool {
-    case.start.len() != case.n() || case.start.iter().any(|&v| v > 2)
+    case.start.len() != case.n()
+        || case.start.iter().any(|&v| v > 2)
+        || (case.call == Call::Keep && case.least_size != 2 * case.n() as u64)
 }
 
 fn arguments_broken(case: &Case) -> bool {

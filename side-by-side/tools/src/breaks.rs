@@ -152,6 +152,11 @@ fn break_weight(random: &mut Random, case: &mut Case) -> bool {
 
 fn break_start(random: &mut Random, case: &mut Case) {
     let length = case.start.len();
+    if case.call == Call::Keep && random.often(400) {
+        let n = case.n() as u64;
+        case.least_size = random.pick(&[0, n, 2 * n + 1, 2 * n + 2]) + u64::from(n == 0);
+        return;
+    }
     match random.below(4) {
         0 if case.call.has_field() => case.start.push(2),
         1 if case.call.has_field() && length > 0 => {
@@ -221,7 +226,7 @@ fn cut_room(random: &mut Random, case: &mut Case) {
     if case.call.finds_variables() {
         case.variable_room = random.pick(&[0, 0, 1]);
     }
-    if case.call.probes_one() {
+    if case.call.probes_one() || case.call == Call::Keep {
         case.found_room = random.pick(&[n + 1, n.saturating_sub(1)]);
     }
 }

@@ -32,7 +32,7 @@ fn whole_case(random: &mut Random, call: Call, small: bool) -> Case {
     let n = size(random, call, small);
     if call.has_field() {
         let diagonal = !call.needs_standard() && random.often(700);
-        let exactly = if call == Call::Reason { 900 } else { 550 };
+        let exactly = if matches!(call, Call::Reason | Call::Keep) { 900 } else { 550 };
         let tone = if random.often(exactly) {
             random.pick(&EXACT)
         } else {
@@ -54,8 +54,38 @@ fn whole_case(random: &mut Random, call: Call, small: bool) -> Case {
     if call == Call::Propagation {
         case.constraints = constraints(random, &case.start, small);
     }
+    if call == Call::Keep {
+        case.constraints = script(random, &case.start);
+    }
     arguments(random, &mut case);
     case
+}
+
+/// Up to 50 operations: most of them pin a free variable or release one that is not, some are any numbers.
+fn script(random: &mut Random, start: &[u8]) -> Vec<u16> {
+    let mut values = start.to_vec();
+    let mut list = Vec::new();
+    for _ in 0..random.pick(&[0, 1, 3, 10, 50]) {
+        let i = random.below(values.len().max(1));
+        if i < values.len() && random.often(850) {
+            let value = random.below(2) as u8;
+            let pins = values[i] == 2;
+            values[i] = if pins { value } else { 2 };
+            list.extend([u16::from(!pins), i as u16, u16::from(value)]);
+        } else {
+            let n = values.len() as u16;
+            let far = random.pick(&[i as u16, i as u16, n, u16::MAX]);
+            let value = random.pick(&[0, 1, 2, 255, 256]);
+            let operation = random.below(2) as u16;
+            match (operation, values.get(usize::from(far))) {
+                (0, Some(2)) if value <= 1 => values[usize::from(far)] = value as u8,
+                (1, Some(0 | 1)) => values[usize::from(far)] = 2,
+                _ => {}
+            }
+            list.extend([operation, far, value]);
+        }
+    }
+    list
 }
 
 pub fn put_field(case: &mut Case, field: Field) {
@@ -225,6 +255,9 @@ pub fn arguments(random: &mut Random, case: &mut Case) {
             250_001,
             u64::MAX,
         ]);
+    }
+    if call == Call::Keep {
+        case.least_size = 2 * n as u64;
     }
     if call == Call::Anchors {
         case.least_size = random.pick(&[0, 0, 1, 2, 2, 3, 4, n as u64, n as u64 + 1, u64::MAX]);

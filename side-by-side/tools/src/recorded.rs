@@ -141,7 +141,11 @@ pub fn ample(case: &mut Case) {
     } else {
         0
     };
-    case.least_size = if call == Call::Anchors { 2 } else { 0 };
+    case.least_size = match call {
+        Call::Anchors => 2,
+        Call::Keep => 2 * u64::from(n),
+        _ => 0,
+    };
 }
 
 /// Seeds of small random cases on which a near miss answers otherwise: pairs merged, forcing at a bound of 0, no queue or a
@@ -204,7 +208,8 @@ const LEAST: usize = 2_100;
 /// Every recorded case of the given calls, in the order of the codes; what came with document 02 stands last, so that the others keep their places.
 pub fn recorded(calls: &[Call]) -> Vec<Case> {
     let mut cases = Vec::new();
-    let asked = |call: &Call| calls.contains(call) && *call != Call::SubProblem;
+    let asked =
+        |call: &Call| calls.contains(call) && !matches!(call, Call::SubProblem | Call::Keep);
     let earlier: Vec<Call> = CALLS.iter().map(|row| row.0).filter(asked).collect();
     for &call in &earlier {
         worked(call, &mut cases);
@@ -229,7 +234,77 @@ pub fn recorded(calls: &[Call]) -> Vec<Case> {
     if calls.contains(&Call::SubProblem) {
         smaller(&mut cases);
     }
+    if calls.contains(&Call::Keep) {
+        keeping(&mut cases);
+    }
     cases
+}
+
+/// Records, document 02's C-19: the worked one before and after each operation, an operation refused, no -0.0, and both entries of a pair.
+pub const KEPT: [(&str, &[f64], &[(u16, u16, f64)], &[u8], &[u16]); 9] = [
+    ("made", &ROWS, &PAIRED, &[2, 2, 2], &[]),
+    ("pinned", &ROWS, &PAIRED, &[2, 2, 2], &[0, 1, 0]),
+    (
+        "pinned again",
+        &ROWS,
+        &PAIRED,
+        &[2, 2, 2],
+        &[0, 1, 0, 0, 1, 0],
+    ),
+    ("released", &ROWS, &PAIRED, &[2, 2, 2], &[0, 1, 0, 1, 1, 0]),
+    ("other", &ROWS, &PAIRED, &[2, 2, 2], &[0, 0, 1, 1, 2, 0]),
+    ("given released", &ROWS, &PAIRED, &[2, 0, 2], &[1, 1, 0]),
+    (
+        "minus zero",
+        &[-0.0, 1.0],
+        &[(0, 1, -4.0)],
+        &[2, 2],
+        &[0, 1, 0],
+    ),
+    (
+        "both ways",
+        &[-1.0, 2.0],
+        &[(1, 0, 4.0), (0, 1, -4.0)],
+        &[2, 2],
+        &[0, 1, 1],
+    ),
+    (
+        "refused",
+        &ROWS,
+        &PAIRED,
+        &[2, 2, 2],
+        &[0, 3, 0, 0, 0, 2, 1, 0, 0, 1, 3, 0, 2],
+    ),
+];
+
+const ROWS: [f64; 3] = [-1.0, -5.0, 0.5];
+
+const PAIRED: [(u16, u16, f64); 2] = [(0, 1, 4.0), (1, 2, -2.0)];
+
+/// A record of the list as a case.
+pub fn kept_case(
+    name: &'static str,
+    linear: &'static [f64],
+    entries: &'static [(u16, u16, f64)],
+    start: &'static [u8],
+    script: &[u16],
+) -> Case {
+    let mut case = worked_case(Call::Keep, &(name, linear, entries, start));
+    case.constraints = script.to_vec();
+    case
+}
+
+/// The cases of records.
+fn keeping(cases: &mut Vec<Case>) {
+    let call = Call::Keep;
+    cases.extend(KEPT.iter().map(|&(name, linear, entries, start, script)| {
+        kept_case(name, linear, entries, start, script)
+    }));
+    worked(call, cases);
+    refusals(call, cases);
+    limits(call, cases);
+    small(call, 200, cases);
+    faults(call, cases);
 }
 
 /// The cases of the smaller problem.
@@ -376,7 +451,13 @@ fn refusals(call: Call, cases: &mut Vec<Case>) {
 
 /// The place in the table of the test that refuses the case: 14 to 17 stand in the third.
 fn test_of(case: &Case) -> Option<u8> {
-    table::refusal(case).map(|refusal| if refusal.at.is_some() { 3 } else { refusal.number })
+    table::refusal(case).map(|refusal| {
+        if refusal.at.is_some() {
+            3
+        } else {
+            refusal.number
+        }
+    })
 }
 
 /// Lists with an entry at fault: n, the places (row, column), the number and the position.

@@ -96,6 +96,18 @@ fn field_call(case: &Case, line: &str) -> Checked {
             reason(case, &whole, line)?;
             defined = 1;
         }
+        Call::Keep => {
+            kept(case, &whole, line, &values)?;
+            if part(line, "closing") == Some("0") {
+                same("closing", &found, &whole.closure(&values))?;
+                same(
+                    "flat rows",
+                    &part(line, "count"),
+                    &Some(whole.flat(&found).to_string().as_str()),
+                )?;
+            }
+            defined = 1;
+        }
         Call::Pairs if small => {
             let (count, all) = whole.pairs(&case.start, case.limit.min(MOST_PAIRS));
             same("pair constraints", &constraints, &all)?;
@@ -181,9 +193,50 @@ fn field_call(case: &Case, line: &str) -> Checked {
                 "a best completion breaks the value",
             )?;
         }
+        Call::Keep if part(line, "closing") != Some("0") => {}
+        Call::Keep => {
+            let best = whole.best(&values);
+            every(
+                &best,
+                |x| agrees(x, &found),
+                "a best completion breaks a value",
+            )?;
+        }
         Call::Propagation => {}
     }
     Ok((defined, 1))
+}
+
+/// The bounds of the free variables are low and high at the values that the operations leave, those of others 0, and the strict rows are counted.
+fn kept(case: &Case, whole: &Whole, line: &str, values: &[u8]) -> Result<(), String> {
+    let n = case.n();
+    let bounds: Vec<f64> = part(line, "bounds")
+        .unwrap_or("")
+        .split(',')
+        .filter(|word| !word.is_empty())
+        .map(weight)
+        .collect();
+    let afresh = whole.bounds(values);
+    let count = |i: usize, side: i64| {
+        if values[i] == 2 {
+            side as f64 * (whole.unit / 2.0)
+        } else {
+            0.0
+        }
+    };
+    let expected: Vec<f64> = (0..n)
+        .map(|i| count(i, afresh[i].0))
+        .chain((0..n).map(|i| count(i, afresh[i].1)))
+        .collect();
+    same("bounds", &bounds, &expected)?;
+    let strict = (0..n)
+        .filter(|&i| values[i] == 2 && (afresh[i].0 > 0 || afresh[i].1 < 0))
+        .count();
+    same(
+        "strict rows",
+        &part(line, "strict"),
+        &Some(strict.to_string().as_str()),
+    )
 }
 
 /// The bound, worked out afresh from the listed values alone; each listed value is reached without the variable.
@@ -210,7 +263,9 @@ fn reason(case: &Case, whole: &Whole, line: &str) -> Result<(), String> {
             return Err(format!("{j} is listed and is no neighbour"));
         }
         if reached[j] == 2 {
-            return Err(format!("{j} is listed, and is reached by the variable alone"));
+            return Err(format!(
+                "{j} is listed, and is reached by the variable alone"
+            ));
         }
         alone[j] = reached[j];
     }
@@ -218,7 +273,10 @@ fn reason(case: &Case, whole: &Whole, line: &str) -> Result<(), String> {
         return Err("the list does not rise".to_string());
     }
     let given = (0..case.n()).filter(|&j| case.start[j] != 2);
-    if let Some(j) = given.into_iter().find(|&j| joined(j) && !listed.contains(&j)) {
+    if let Some(j) = given
+        .into_iter()
+        .find(|&j| joined(j) && !listed.contains(&j))
+    {
         return Err(format!("{j} is given and is not listed"));
     }
     let (low, high) = whole.bounds(&alone)[asked];

@@ -1,15 +1,17 @@
-//! Document 01's values worked by hand, its two that were run, and document 02's examples under C-11, C-13, C-14, C-17 and C-21.
+//! Document 01's values worked by hand, its two that were run, and document 02's examples under C-11, C-13, C-14, C-17, C-19 and C-21.
 //! Usage: `worked` writes them as a stream of cases, `worked ANSWERS` checks the answers to it.
 
 use std::io::{self, BufWriter, Write};
 use stream::line::part;
 use stream::{Call, Case};
-use tools::recorded::{ample, reason_case, worked_case, Worked, FLAT, REASONS, SMALLER, WORKED};
+use tools::recorded::{
+    ample, kept_case, reason_case, worked_case, Worked, FLAT, KEPT, REASONS, SMALLER, WORKED,
+};
 
 /// A value's name, the call, and what stands in the answer: its first words, a part's name and content.
 type Expected = (&'static str, Call, &'static str, &'static str, &'static str);
 
-const EXPECTED: [Expected; 90] = [
+const EXPECTED: [Expected; 105] = [
     ("a", Call::Closure, "0 exact ", "values", ""),
     ("b", Call::Closure, "0 exact ", "values", "2"),
     ("b", Call::Preprocess, "0 exact ", "values", "0"),
@@ -268,6 +270,51 @@ const EXPECTED: [Expected; 90] = [
         "linear",
         "7ff0000000000000",
     ),
+    (
+        "made",
+        Call::Keep,
+        "0 exact ",
+        "bounds",
+        "bff0000000000000,c018000000000000,bfe0000000000000,3ff0000000000000,c008000000000000,3fe0000000000000",
+    ),
+    ("made", Call::Keep, "0 exact ", "strict", "1"),
+    ("made", Call::Keep, "0 exact ", "found", "011"),
+    (
+        "pinned",
+        Call::Keep,
+        "0 exact ",
+        "bounds",
+        "bff0000000000000,0000000000000000,3fe0000000000000,bff0000000000000,0000000000000000,3fe0000000000000",
+    ),
+    ("pinned", Call::Keep, "0 exact ", "strict", "2"),
+    ("pinned", Call::Keep, "0 exact ", "found", "100"),
+    (
+        "released",
+        Call::Keep,
+        "0 exact ",
+        "bounds",
+        "bff0000000000000,c018000000000000,bfe0000000000000,3ff0000000000000,c008000000000000,3fe0000000000000",
+    ),
+    ("released", Call::Keep, "0 exact ", "strict", "1"),
+    ("released", Call::Keep, "0 exact ", "found", "011"),
+    (
+        "other",
+        Call::Keep,
+        "0 exact ",
+        "bounds",
+        "0000000000000000,c010000000000000,bfe0000000000000,0000000000000000,c008000000000000,3fe0000000000000",
+    ),
+    ("other", Call::Keep, "0 exact ", "strict", "1"),
+    ("other", Call::Keep, "0 exact ", "found", "111"),
+    ("pinned again", Call::Keep, "0 exact ", "operations", "0,7"),
+    ("other", Call::Keep, "0 exact ", "operations", "0,7"),
+    (
+        "minus zero",
+        Call::Keep,
+        "0 exact ",
+        "bounds",
+        "0000000000000000,0000000000000000,0000000000000000,0000000000000000",
+    ),
 ];
 
 fn worked_field(name: &str) -> &'static Worked {
@@ -306,6 +353,11 @@ fn case_of(&(name, call, ..): &Expected) -> Case {
         case.constraints = constraints.to_vec();
         ample(&mut case);
         return case;
+    }
+    if call == Call::Keep {
+        let &(name, linear, entries, start, script) =
+            KEPT.iter().find(|row| row.0 == name).expect("a record");
+        return kept_case(name, linear, entries, start, script);
     }
     if call == Call::Reason {
         let (field, variable) = name.split_once(": x").expect("a variable");
