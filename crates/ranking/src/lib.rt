@@ -1,7 +1,7 @@
 // The candidates of the limited probe: the free variables by falling edge mass, then rising index.
 pub mod listing;
 mod masses;
-mod order;
+pub mod order;
 
 use crate::listing::list_free;
 ghost use Rattle.scratch.specs.Lent.{before, after};

@@ -1,0 +1,15 @@
+pub mod Lists
+pub mod Entries
+pub mod Lines
+pub mod Gathers
+pub mod Passes
+pub mod Masses
+pub mod Adding
+pub mod Tested
+pub mod Told
+pub mod Returning
+pub mod Marks
+pub mod Kept
+pub mod Accepted
+pub mod Good
+pub mod Exactly
