@@ -104,6 +104,22 @@ int main(void)
     print("sub_problem", answer, "left, map", OMBRADIEC_LEFT(answer), map[0]);
     printf("  c %g %g, constant %g\n", smaller[0], smaller[1], constant);
 
+    /* out of order, a repeat, and an entry of a variable that is not there */
+    double some[4] = {1, 2, 0.5, 3}, more_floats[OMBRADIEC_FLOATS(2, 4)];
+    uint32_t more_words[OMBRADIEC_WORDS(2, 4)];
+    uint16_t their_rows[4] = {0, 1, 0, 7}, their_cols[4] = {1, 0, 1, 0}, report[12] = {0};
+    answer = ombradiec_mend(c, 2, SLICE(their_rows), SLICE(their_cols), SLICE(some), SLICE(report),
+                            SLICE(more_floats), SLICE(more_words));
+    print("mend", answer, "changes, first kind", OMBRADIEC_CHANGES(answer), report[1]);
+    printf("  %d %d %g, %d %d %g, %d %d %g\n", their_rows[0], their_cols[0], some[0], their_rows[1], their_cols[1], some[1],
+           their_rows[2], their_cols[2], some[2]);
+    printf("  %d %d %d, %d %d %d, %d %d %d, %d %d %d\n", report[0], report[1], report[2], report[3], report[4], report[5],
+           report[6], report[7], report[8], report[9], report[10], report[11]);
+    uint16_t good_row[1] = {0}, good_col[1] = {1};
+    double good[1] = {4};
+    answer = ombradiec_mend(c, 2, SLICE(good_row), SLICE(good_col), SLICE(good), SLICE(report), SCRATCH);
+    print("mend", answer, "changes, first kind", OMBRADIEC_CHANGES(answer), report[1]);
+
     /* x0 equals x1, and exactly one of them is 1 */
     const uint16_t both[6] = {0, 1, OMBRADIEC_FORBIDS_01 | OMBRADIEC_FORBIDS_10,
                               0, 1, OMBRADIEC_FORBIDS_00 | OMBRADIEC_FORBIDS_11};

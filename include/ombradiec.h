@@ -26,7 +26,7 @@ extern "C" {
 #endif
 
 /* What a call answers, in one number: bits 0 to 7 the refusal, 8 to 15 the grade, 16 to 43 the count, 44 to 63 the
- * pairs examined, of reason 4 times the unit and the ground, of sub_problem the variables left. A refusal has neither a grade nor counts; of ROW, COLUMN, REPEAT and ORDER the count's bits hold the
+ * pairs examined, of reason 4 times the unit and the ground, of sub_problem the variables left, of mend the changes. A refusal has neither a grade nor counts; of ROW, COLUMN, REPEAT and ORDER the count's bits hold the
  * position of the first entry at fault. */
 typedef uint64_t ombradiec_answer;
 
@@ -34,8 +34,8 @@ typedef uint64_t ombradiec_answer;
 #define OMBRADIEC_REFUSAL(answer) ((int)((answer) & 0xff))
 /* 1 if the field is exact, so that no sum rounds; 0 if it is not */
 #define OMBRADIEC_EXACT(answer) ((int)((answer) >> 8 & 0xff))
-/* the items in the answer list; of shift and sub_problem the new number of entries; of closure and close the free variables
- * with a flat row */
+/* the items in the answer list; of shift, sub_problem and mend the new number of entries; of closure and close the free
+ * variables with a flat row */
 #define OMBRADIEC_COUNT(answer) ((size_t)((answer) >> 16 & 0xfffffff))
 /* of ROW, COLUMN, REPEAT and ORDER: the position of the first entry at fault, from 0, in the lists given */
 #define OMBRADIEC_POSITION(answer) OMBRADIEC_COUNT(answer)
@@ -46,9 +46,12 @@ typedef uint64_t ombradiec_answer;
 #define OMBRADIEC_UNIT(answer) ((int)((answer) >> 46))
 /* of sub_problem: the variables left, which are also the items of the map */
 #define OMBRADIEC_LEFT(answer) ((size_t)((answer) >> 44))
+/* of mend: the changes, which are the items of the report */
+#define OMBRADIEC_CHANGES(answer) ((size_t)((answer) >> 44))
 
 /* The refusals, tested in this order. Those up to SCRATCH change nothing lent; past it all of the scratch ends as zeros.
  * INEXACT and UNFORCED are reason's, and leave its list and its bound; INEXACT is keep's too, and leaves the record.
+ * SUM is mend's, and changes nothing lent.
  * ROW to ORDER are one test: at the first entry at fault the row is tested before the column, and both before its place.
  * 3, which stood for the four, is not given any more. */
 #define OMBRADIEC_DONE 0
@@ -60,6 +63,7 @@ typedef uint64_t ombradiec_answer;
 #define OMBRADIEC_ORDER 17    /* an entry stands before the entry before: entries rise by column, then row */
 #define OMBRADIEC_DIAGONAL 4  /* an entry has its row equal to its column */
 #define OMBRADIEC_WEIGHTS 5   /* a weight is not finite */
+#define OMBRADIEC_SUM 18      /* the weights at one place have a sum that is not finite */
 #define OMBRADIEC_START 6     /* the start values are not n long, or a byte is above 2; a record's bounds are not 2n long */
 #define OMBRADIEC_ARGUMENT 7  /* a variable, a value or a constraint is not as the call asks */
 #define OMBRADIEC_SCRATCH 8   /* a scratch is too short */
@@ -142,6 +146,20 @@ ombradiec_answer ombradiec_sub_problem(double *c, size_t c_len, uint16_t *rows, 
                                        size_t cols_len, double *q, size_t q_len, const uint8_t *start,
                                        size_t start_len, uint16_t *map, size_t map_len, double *constant, double *f,
                                        size_t f_len, uint32_t *u, size_t u_len);
+
+/* Mends an entry list: drops the entries with an end not below n, puts the others in order, by column, then row, and adds
+ * those at one place in the order given, from the first weight on. Rows, columns and order are not tested; entries on the
+ * diagonal stay. The new number of entries is the count; places past it are zero, and the grade is that of the mended field.
+ * `report` gets three numbers for each change, by rising position: the position in the lists given, a kind, and the
+ * position in the mended lists, or OMBRADIEC_NOWHERE; up to three numbers an entry. A good list comes back unchanged, with
+ * no change. On OMBRADIEC_ROOM the entries are unchanged. Both scratches are as the number of entries given asks. */
+#define OMBRADIEC_DROPPED 0 /* an end is not below n */
+#define OMBRADIEC_MOVED 1   /* the first at its place, and at another position than before */
+#define OMBRADIEC_JOINED 2  /* added to an earlier entry at its place */
+#define OMBRADIEC_NOWHERE 65535
+ombradiec_answer ombradiec_mend(const double *c, size_t c_len, uint16_t *rows, size_t rows_len, uint16_t *cols,
+                                size_t cols_len, double *q, size_t q_len, uint16_t *report, size_t report_len,
+                                double *f, size_t f_len, uint32_t *u, size_t u_len);
 
 /* Counts the anchors of the components of at least `least` variables, and puts them at the front of `list`; a diagonal is
  * allowed; on an exact field each anchor alone is 0 in some best completion and 1 in another. */

@@ -266,6 +266,57 @@ class Why(unittest.TestCase):
         self.assertGreater(count, 100)
 
 
+class Mend(unittest.TestCase):
+    def test_in_words_by_line(self):
+        text = b"group a 0\ngroup b 0\ngroup c 0\npair c b 1\npair a b 5\npair c b -1  # again\npair a x 4\npair a b 2\n"
+        self.assertEqual(run("mend", "f", files={"f": text}), (0, b"".join([
+            b"f:4: pair c b: moved from place 1 to place 2\n",
+            b"f:5: pair a b: moved from place 2 to place 1\n",
+            b"f:6: pair c b: joined to line 4, which has 0.0 in all\n",
+            b"f:7: pair a x: dropped, since there is no group x\n",
+            b"f:8: pair a b: joined to line 5, which has 7.0 in all\n",
+            b"5 of 5 pairs changed, 2 left\n"]), ""))
+
+    def test_a_good_list(self):
+        self.assertEqual(run("mend", "f", files={"f": b"group a 0\ngroup b 0\npair b a 1\npair a b 2\n"}), (0, b"0 of 2 pairs changed, 2 left\n", ""))
+
+    def test_qubo(self):
+        self.assertEqual(run("mend", "f.qubo", files={"f.qubo": b"2\n0 1 4\n7 7 1\n1 0 2\n"}), (0, b"".join([
+            b"f.qubo:2: pair 0 1: moved from place 1 to place 2\n",
+            b"f.qubo:3: pair 7 7: dropped, since there is no group 7\n",
+            b"f.qubo:4: pair 1 0: moved from place 3 to place 1\n",
+            b"3 of 3 pairs changed, 2 left\n"]), ""))
+
+    def test_a_sum_that_is_not_finite(self):
+        status, out, said = run("mend", "f", files={"f": b"group a 0\ngroup b 0\npair a b 1e308\npair a b 1e308\n"})
+        self.assertEqual((status, out), (1, b""))
+        self.assertIn("refused 18", said)
+
+    def test_a_fault_has_its_line(self):
+        status, out, said = run("mend", "f", files={"f": b"group a 0\npair a a x\n"})
+        self.assertEqual((status, out, said), (1, b"", "records: f:2: `x` is no number\n"))
+
+    def test_as_the_call_has_it(self):
+        lines = contents("crates", "replay", "stdout").decode().splitlines()
+        data, at, tried = contents("crates", "replay", "stdin"), 0, 0
+        for line in lines:
+            head = struct.unpack("<B11I4Q", data[at:at + 77])
+            code, (n, rows, columns, weights, start, constraints) = head[0], head[1:7]
+            body = at + 77
+            at = body + 8 * n + 2 * rows + 2 * columns + 8 * weights + start + 2 * constraints
+            if code != 15 or not line.startswith("0 "):
+                continue
+            body += 8 * n
+            ends = struct.unpack(f"<{rows + columns}H", data[body:body + 2 * (rows + columns)])
+            quad = struct.unpack(f"<{weights}d", data[body + 2 * (rows + columns):body + 2 * (rows + columns) + 8 * weights])
+            left, changes = records.mended(n, list(zip(ends[:rows], ends[rows:], quad)))
+            told = dict(word.split("=", 1) for word in line.split(" ") if "=" in word)
+            self.assertEqual(told["changes"], ";".join(",".join(map(str, change)) for change in changes) or "-")
+            self.assertEqual(told["entries"], ";".join(f"{r},{c},{struct.pack('>d', q).hex()}" for r, c, q in left) or "-")
+            tried += 1
+        self.assertGreater(tried, 200)
+
+
 class Shipped(unittest.TestCase):
     def test_example(self):
         text = contents("example", "plan.txt").decode()

@@ -67,13 +67,49 @@ pub struct SubProblem {
     pub constant: f64,
 }
 
+/// What [`mend`](crate::mend) did with one entry of the list that it was given; positions count from 0.
+#[derive(Clone, Copy, Debug, PartialEq, Eq, PartialOrd, Ord, Hash)]
+pub enum Change {
+    /// It lay outside the field.
+    Dropped {
+        /// Its position in the list given.
+        from: usize,
+    },
+    /// It is the first at its place, and stands at another position now.
+    Moved {
+        /// Its position in the list given.
+        from: usize,
+        /// Its position in the mended list.
+        to: usize,
+    },
+    /// It was added to an earlier entry at its place.
+    Joined {
+        /// Its position in the list given.
+        from: usize,
+        /// The position of its place in the mended list.
+        to: usize,
+    },
+}
+
+impl Change {
+    /// The change that these three numbers say.
+    pub(crate) fn of(numbers: &[u16]) -> Change {
+        let (from, to) = (numbers[0].into(), numbers[2].into());
+        match numbers[1] {
+            0 => Change::Dropped { from },
+            1 => Change::Moved { from, to },
+            _ => Change::Joined { from, to },
+        }
+    }
+}
+
 /// Why a call gave no answer; tested in this order. The four that have a position are one test: they say what is wrong with
 /// the first entry at fault, its row before its column and both before its place; `at` counts
 /// [`Field::entries`](crate::Field::entries) from 0.
 ///
 /// No refusal changes a field or start values. The others up to [`Scratch`](Refusal::Scratch) change no answer list either;
 /// [`Inexact`](Refusal::Inexact) and [`Unforced`](Refusal::Unforced), which are [`reason`](crate::reason)'s and the first [`Kept::new`](crate::Kept::new)'s, leave its list too.
-/// [`Room`](Refusal::Room) and [`Clash`](Refusal::Clash) are found only when the work is done.
+/// [`Sum`](Refusal::Sum) is [`mend`](crate::mend)'s. [`Room`](Refusal::Room) and [`Clash`](Refusal::Clash) are found only when the work is done.
 #[derive(Clone, Copy, Debug, PartialEq, Eq, PartialOrd, Ord, Hash)]
 pub enum Refusal {
     /// There are more than 4,096 variables.
@@ -95,7 +131,7 @@ pub enum Refusal {
         /// The position of the entry, from 0.
         at: usize,
     },
-    /// This entry stands before the entry before; [`Field`](crate::Field) puts its entries in order, so none does.
+    /// This entry stands before the entry before; in a [`Field::new`](crate::Field::new) none does.
     Order {
         /// The position of the entry, from 0.
         at: usize,
@@ -104,6 +140,8 @@ pub enum Refusal {
     Diagonal,
     /// A weight is not finite.
     Weights,
+    /// The weights at one place have a sum that is not finite.
+    Sum,
     /// The start values are not n long.
     Start,
     /// A probed or pinned variable is not below n or not free, a released one not below n or free, or a constraint is not as
@@ -141,6 +179,7 @@ impl Refusal {
             15 => Refusal::Column { at },
             16 => Refusal::Repeat { at },
             17 => Refusal::Order { at },
+            18 => Refusal::Sum,
             _ => return None,
         })
     }
@@ -168,6 +207,7 @@ impl Refusal {
             Refusal::Clash => 10,
             Refusal::Inexact => 12,
             Refusal::Unforced => 13,
+            Refusal::Sum => 18,
         }
     }
 
@@ -204,6 +244,7 @@ impl fmt::Display for Refusal {
             Refusal::Order { .. } => "it is out of order: entries rise by column, then row",
             Refusal::Diagonal => "an entry is on the diagonal",
             Refusal::Weights => "a weight is not finite",
+            Refusal::Sum => "the weights at one place have a sum that is not finite",
             Refusal::Start => "the start values are not one 0, 1 or 2 for each variable",
             Refusal::Argument => "a variable, a value or a constraint is not as the call asks",
             Refusal::Scratch => "a scratch is too short",
@@ -218,7 +259,7 @@ impl fmt::Display for Refusal {
 impl Error for Refusal {}
 
 /// Reads a call's number: bits 0 to 7 the refusal, 8 to 15 the grade, 16 to 43 the count or the position that a refusal names,
-/// 44 to 63 the pairs examined or the variables left.
+/// 44 to 63 the pairs examined, the variables left or the changes.
 pub(crate) fn read(answer: u64) -> Result<Done, Refusal> {
     let count = ((answer >> 16) & 0xfff_ffff) as usize;
     match (answer & 0xff) as u8 {

@@ -1,6 +1,6 @@
 //! Each call, safe. In every `unsafe` block each pointer and length are those of one slice or vector that is borrowed for the
 //! call, so the memory is there, and what the library writes to overlaps nothing else. The library asks no more.
-use crate::answer::{read, read_reason, Done, Reason, Refusal, SubProblem};
+use crate::answer::{read, read_reason, Change, Done, Reason, Refusal, SubProblem};
 use crate::field::{Constraint, Field, Scratch, Values};
 use crate::library::*;
 
@@ -196,6 +196,50 @@ pub fn sub_problem(field: &mut Field, start: &Values, scratch: &mut Scratch) -> 
     q.truncate(entries);
     map.truncate(variables);
     Ok(SubProblem { grade: done.grade, map, constant })
+}
+
+/// Mends the entry list: drops the entries outside the field, puts the others in order, and adds those at one place in the
+/// order given. Says each change, by rising position in the list given; a good list has none. A diagonal stays.
+/// [`Field::new`] puts entries in order and keeps repeats; [`Field::listed`] keeps the list as it is.
+///
+/// ```
+/// use ombradiec::{mend, Change, Field, Scratch};
+/// let mut field = Field::listed(&[0.0, 0.0], &[(5, 0, 1.0), (0, 1, 2.0), (1, 0, 3.0), (0, 1, 0.5)]);
+/// let changes = mend(&mut field, &mut Scratch::new())?;
+/// assert_eq!(field, Field::new(&[0.0, 0.0], &[(1, 0, 3.0), (0, 1, 2.5)]));
+/// assert_eq!(
+///     changes,
+///     [Change::Dropped { from: 0 }, Change::Moved { from: 2, to: 0 }, Change::Joined { from: 3, to: 1 }]
+/// );
+/// # Ok::<(), ombradiec::Refusal>(())
+/// ```
+pub fn mend(field: &mut Field, scratch: &mut Scratch) -> Result<Vec<Change>, Refusal> {
+    let (f, u) = scratch.lend(field.variables(), field.quad.len());
+    let mut report = vec![0; 3 * field.quad.len()];
+    let Field { linear: c, rows, cols, quad: q } = field;
+    let done = read(unsafe {
+        ombradiec_mend(
+            c.as_ptr(),
+            c.len(),
+            rows.as_mut_ptr(),
+            rows.len(),
+            cols.as_mut_ptr(),
+            cols.len(),
+            q.as_mut_ptr(),
+            q.len(),
+            report.as_mut_ptr(),
+            report.len(),
+            f.as_mut_ptr(),
+            f.len(),
+            u.as_mut_ptr(),
+            u.len(),
+        )
+    })?;
+    let (entries, changes) = (done.count, done.pairs);
+    rows.truncate(entries);
+    cols.truncate(entries);
+    q.truncate(entries);
+    Ok(report.chunks(3).take(changes).map(Change::of).collect())
 }
 
 /// Puts one variable of each complement-symmetric component of at least `least` variables, none of which has a start value,

@@ -9,8 +9,8 @@ pub struct Field {
 }
 
 impl Field {
-    /// A field of these weights, with its entries put in order: by column, then row. Whether it is well-formed is what each
-    /// call tests.
+    /// A field of these weights, with its entries put in order: by column, then row, repeats and entries outside it too.
+    /// Whether it is well-formed is what each call tests.
     ///
     /// ```
     /// let field = ombradiec::Field::new(&[0.5, -1.0], &[(1, 0, 3.0), (0, 1, 4.0)]);
@@ -20,6 +20,11 @@ impl Field {
     pub fn new(linear: &[f64], entries: &[(u16, u16, f64)]) -> Field {
         let mut entries = entries.to_vec();
         entries.sort_by_key(|&(row, column, _)| (column, row));
+        Field::listed(linear, &entries)
+    }
+
+    /// A field whose entry list stays as it is given, for [`mend`](crate::mend).
+    pub fn listed(linear: &[f64], entries: &[(u16, u16, f64)]) -> Field {
         Field {
             linear: linear.to_vec(),
             rows: entries.iter().map(|e| e.0).collect(),
@@ -38,7 +43,7 @@ impl Field {
         &self.linear
     }
 
-    /// The entries (row, column, q), by column, then row.
+    /// The entries (row, column, q), in the order of the list.
     pub fn entries(&self) -> impl Iterator<Item = (u16, u16, f64)> + '_ {
         (0..self.quad.len()).map(|k| (self.rows[k], self.cols[k], self.quad[k]))
     }

@@ -3,7 +3,8 @@
 //! [`closure`] forces what the signs of the gradient decide; on an exact field every best solution has these values, though
 //! others may be the same in every best solution too. [`components`], [`preprocess`] and [`heavy`] force more: values that
 //! some best solution has. [`reason`] says why the closure forces a value. [`probe`], [`pairs`] and [`anchors`] find constraints and symmetries.
-//! [`sub_problem`] leaves the field of the variables that are still free. [`Kept`] keeps the rows while variables are pinned and released.
+//! [`sub_problem`] leaves the field of the variables that are still free. [`mend`] makes a field of any entry list. [`Kept`]
+//! keeps the rows while variables are pinned and released.
 //!
 //! Each call is proved to meet its promise, for every input; this crate is a thin, safe layer over the archive
 //! `libombradiec.a` (x86-64 Linux), which `rt staticlib ombradiec` makes. It depends on nothing else.
@@ -28,9 +29,9 @@ mod field;
 mod kept;
 mod library;
 
-pub use answer::{Done, Grade, Ground, Reason, Refusal, SubProblem};
+pub use answer::{Change, Done, Grade, Ground, Reason, Refusal, SubProblem};
 pub use calls::{
-    anchors, closure, components, heavy, no_effect, pairs, preprocess, probe, probe_limited, probe_one, propagate,
+    anchors, closure, components, heavy, mend, no_effect, pairs, preprocess, probe, probe_limited, probe_one, propagate,
     reason, shift, sub_problem,
 };
 pub use field::{Constraint, Field, Kind, Scratch, Values};

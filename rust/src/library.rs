@@ -93,6 +93,22 @@ extern "C" {
         u: *mut u32,
         u_len: usize,
     ) -> u64;
+    pub fn ombradiec_mend(
+        c: *const f64,
+        c_len: usize,
+        rows: *mut u16,
+        rows_len: usize,
+        cols: *mut u16,
+        cols_len: usize,
+        q: *mut f64,
+        q_len: usize,
+        report: *mut u16,
+        report_len: usize,
+        f: *mut f64,
+        f_len: usize,
+        u: *mut u32,
+        u_len: usize,
+    ) -> u64;
     pub fn ombradiec_anchors(
         c: *const f64,
         c_len: usize,

@@ -107,6 +107,19 @@ fn a_smaller_problem_that_is_refused_leaves_the_field() {
 }
 
 #[test]
+fn a_sum_that_is_not_finite_leaves_the_list() {
+    let mut field = Field::listed(&[0.0, 0.0], &[(1, 0, 1e308), (9, 9, 1e308), (1, 0, 1e308), (1, 0, -1e308)]);
+    let before = field.clone();
+    assert_eq!(mend(&mut field, &mut Scratch::new()), Err(Refusal::Sum));
+    assert_eq!(field, before);
+    // what lies outside the field is dropped, however large its sum would be
+    let mut outside = Field::listed(&[0.0, 0.0], &[(9, 9, 1e308), (9, 9, 1e308)]);
+    let changes = mend(&mut outside, &mut Scratch::new()).unwrap();
+    assert_eq!((outside.entries().count(), changes), (0, vec![Change::Dropped { from: 0 }, Change::Dropped { from: 1 }]));
+    assert_eq!(Refusal::Sum.number(), 18);
+}
+
+#[test]
 fn a_list_without_room_ends_as_zeros() {
     let mut list = [7];
     assert_eq!(no_effect(&Field::new(&[0.0; 2], &[]), &mut list, &mut Scratch::new()), Err(Refusal::Room));

@@ -207,7 +207,7 @@ not-eleven Passed F s e = by (gradeOf F) (ap (λ (l : List ℕ). getD l 0 0) e)
     by Inexact q = omega arith
 not-eleven (Failed r) F s e = by (numberOf r) (number-most r) (number-other r .1) (ap (λ (l : List ℕ). getD l 9 0) e)
   where
-    by : (n : ℕ) → n ≤ 17 → n ≢ 11 → getD (refusedText n) 9 0 ≡ 49 → ⊥
+    by : (n : ℕ) → n ≤ 18 → n ≢ 11 → getD (refusedText n) 9 0 ≡ 49 → ⊥
     by n few other q = go (ltb n 10) refl
       where
         go : (b : Bool) → ltb n 10 ≡ b → ⊥

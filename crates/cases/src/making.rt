@@ -23,7 +23,7 @@ use stream::head::Head;
 ghost use Prim.Native.Nat.{_≤_};
 
 fn paired(answer: Paired) -> Outcome
-    ensures { λ r. ⌜ r .number ≤ 17 ⌝ }
+    ensures { λ r. ⌜ r .number ≤ 18 ⌝ }
 {
     match answer {
         Paired::Done(grade, count, examined) => {
@@ -43,7 +43,7 @@ fn paired(answer: Paired) -> Outcome
 
 // A reason's ground, with its unit, bound and count.
 fn grounded(ground: u8, unit: u8, bound: f64, count: usize) -> Outcome
-    ensures { λ r. ⌜ r .number ≤ 17 ⌝ }
+    ensures { λ r. ⌜ r .number ≤ 18 ⌝ }
 {
     Outcome {
         number: 0,
@@ -57,7 +57,7 @@ fn grounded(ground: u8, unit: u8, bound: f64, count: usize) -> Outcome
 }
 
 fn because(ground: Ground, unit: u8, count: usize) -> Outcome
-    ensures { λ r. ⌜ r .number ≤ 17 ⌝ }
+    ensures { λ r. ⌜ r .number ≤ 18 ⌝ }
 {
     match ground {
         Ground::Given => grounded(0, unit, 0.0, count),
@@ -67,7 +67,7 @@ fn because(ground: Ground, unit: u8, count: usize) -> Outcome
 }
 
 fn reasoned(answer: Reasoned) -> Outcome
-    ensures { λ r. ⌜ r .number ≤ 17 ⌝ }
+    ensures { λ r. ⌜ r .number ≤ 18 ⌝ }
 {
     match answer {
         Reasoned::Because(ground, unit, count) => because(ground, unit, count),
@@ -86,7 +86,7 @@ fn in_components(
     f: &mut [f64],
     u: &mut [u32],
 ) -> Outcome
-    ensures { λ r. ⌜ r .number ≤ 17 ⌝ }
+    ensures { λ r. ⌜ r .number ≤ 18 ⌝ }
 {
     if code == COMPONENTS {
         return answered(components::components(c, rows, cols, q, start, f, u));
@@ -108,7 +108,7 @@ fn in_start(
     f: &mut [f64],
     u: &mut [u32],
 ) -> Outcome
-    ensures { λ r. ⌜ r .number ≤ 17 ⌝ }
+    ensures { λ r. ⌜ r .number ≤ 18 ⌝ }
 {
     if code == CLOSURE {
         return counted(closure::closure(c, rows, cols, q, start, f, u));
@@ -128,7 +128,7 @@ fn in_list(
     f: &mut [f64],
     u: &mut [u32],
 ) -> Outcome
-    ensures { λ r. ⌜ r .number ≤ 17 ⌝ }
+    ensures { λ r. ⌜ r .number ≤ 18 ⌝ }
 {
     if head.code == PAIRS {
         return paired(pairs::pairs(c, rows, cols, q, start, head.limit, list, f, u));
@@ -158,7 +158,7 @@ pub fn make(
     f: &mut [f64],
     u: &mut [u32],
 ) -> Outcome
-    ensures { λ r. ⌜ r .number ≤ 17 ⌝ }
+    ensures { λ r. ⌜ r .number ≤ 18 ⌝ }
 {
     let code = head.code;
     if code <= PREPROCESS {

@@ -6,12 +6,12 @@ use mathlib.Core.List.{List, [], _∷_}
 use native.Mathlib.Omega.{arith}
 use lib.ListN.{getD}
 use Rattle.field.specs.declared.Refusal.{Refusal}
-use Rattle.field.specs.declared.Refusal.the-variants.{Variables, Lists, Row, Column, Repeat, Order, Diagonal, Weights, Start, Argument, Scratch, Room, Clash, Inexact, Unforced}
+use Rattle.field.specs.declared.Refusal.the-variants.{Variables, Lists, Row, Column, Repeat, Order, Diagonal, Weights, Start, Argument, Scratch, Room, Clash, Inexact, Unforced, Sum}
 use Rattle.field.specs.Answers.{numberOf, positionOf}
 
 -- 3 and 11 are no refusal's
 named : ℕ → ℕ → Refusal
-named number k = getD (Variables ∷ Lists ∷ Clash ∷ Diagonal ∷ Weights ∷ Start ∷ Argument ∷ Scratch ∷ Room ∷ Clash ∷ Clash ∷ Inexact ∷ Unforced ∷ Row k ∷ Column k ∷ Repeat k ∷ Order k ∷ []) (number - 1) Clash
+named number k = getD (Variables ∷ Lists ∷ Clash ∷ Diagonal ∷ Weights ∷ Start ∷ Argument ∷ Scratch ∷ Room ∷ Clash ∷ Clash ∷ Inexact ∷ Unforced ∷ Row k ∷ Column k ∷ Repeat k ∷ Order k ∷ Sum ∷ []) (number - 1) Clash
 
 named-number : (r : Refusal) → named (numberOf r) (positionOf r) ≡ r
 unfolding named
@@ -30,13 +30,14 @@ named-number Room = refl
 named-number Clash = refl
 named-number Inexact = refl
 named-number Unforced = refl
+named-number Sum = refl
 
 -- equal numbers and equal positions name one refusal
 pub number-names : (r s : Refusal) → numberOf r ≡ numberOf s → positionOf r ≡ positionOf s → r ≡ s
 number-names r s e p = sym (named-number r) ∙ ap (λ k. named k (positionOf r)) e ∙ ap (named (numberOf s)) p ∙ named-number s
 
--- the largest number is 17, and 11 is none
-pub number-most : (r : Refusal) → numberOf r ≤ 17
+-- the largest number is 18, and 11 is none
+pub number-most : (r : Refusal) → numberOf r ≤ 18
 number-most Variables = omega arith
 number-most Lists = omega arith
 number-most (Row k) = omega arith
@@ -52,6 +53,7 @@ number-most Room = omega arith
 number-most Clash = omega arith
 number-most Inexact = omega arith
 number-most Unforced = omega arith
+number-most Sum = omega arith
 
 pub number-other : (r : Refusal) → (numberOf r ≢ 3) × (numberOf r ≢ 11)
 number-other Variables = ((λ e. omega arith), λ e. omega arith)
@@ -69,3 +71,4 @@ number-other Room = ((λ e. omega arith), λ e. omega arith)
 number-other Clash = ((λ e. omega arith), λ e. omega arith)
 number-other Inexact = ((λ e. omega arith), λ e. omega arith)
 number-other Unforced = ((λ e. omega arith), λ e. omega arith)
+number-other Sum = ((λ e. omega arith), λ e. omega arith)

@@ -1,7 +1,7 @@
--- The table's number of each answer (document 01, "Answers, tested in this order"; document 02, C-11 and C-12), and the position that a refusal names. Assumes nothing.
+-- The table's number of each answer (document 01, "Answers, tested in this order"; document 02, C-11, C-12 and C-18), and the position that a refusal names. Assumes nothing.
 use Prim.Native.Nat.{ℕ}
 use Rattle.field.specs.declared.Refusal.{Refusal}
-use Rattle.field.specs.declared.Refusal.the-variants.{Variables, Lists, Row, Column, Repeat, Order, Diagonal, Weights, Start, Argument, Scratch, Room, Clash, Inexact, Unforced}
+use Rattle.field.specs.declared.Refusal.the-variants.{Variables, Lists, Row, Column, Repeat, Order, Diagonal, Weights, Start, Argument, Scratch, Room, Clash, Inexact, Unforced, Sum}
 use Rattle.field.specs.declared.Checked.{Checked}
 use Rattle.field.specs.declared.Checked.the-variants.{Passed, Failed}
 use Rattle.field.specs.declared.Answer.{Answer}
@@ -25,6 +25,7 @@ numberOf Room = 9
 numberOf Clash = 10
 numberOf Inexact = 12
 numberOf Unforced = 13
+numberOf Sum = 18
 
 -- "the position of the first entry at fault", from 0; 0 for a refusal that names none
 abbrev pub positionOf : Refusal → ℕ
@@ -43,6 +44,7 @@ positionOf Room = 0
 positionOf Clash = 0
 positionOf Inexact = 0
 positionOf Unforced = 0
+positionOf Sum = 0
 
 abbrev pub checkedNumber : Checked → ℕ
 checkedNumber Passed = 0

@@ -30,6 +30,7 @@ pub enum Refusal {
     Clash,
     Inexact,
     Unforced,
+    Sum,
 }
 
 impl Refusal {
@@ -52,6 +53,7 @@ impl Refusal {
             Refusal::Clash => 10,
             Refusal::Inexact => 12,
             Refusal::Unforced => 13,
+            Refusal::Sum => 18,
         }
     }
 
@@ -75,6 +77,7 @@ impl Refusal {
             Refusal::Clash => 0,
             Refusal::Inexact => 0,
             Refusal::Unforced => 0,
+            Refusal::Sum => 0,
         }
     }
 }

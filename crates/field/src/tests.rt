@@ -23,7 +23,7 @@ pub fn few_variables(n: usize) -> bool
 }
 
 // 2
-fn lists_match(rows: &[u16], cols: &[u16], q: &[f64]) -> bool
+pub fn lists_match(rows: &[u16], cols: &[u16], q: &[f64]) -> bool
     ensures { λ r. ⌜ r ≡ listsMatch (before rows) (before cols) (before q) ⌝ }
 {
     if rows.len() != q.len() {
@@ -50,7 +50,7 @@ fn in_order(n: usize, rows: &[u16], cols: &[u16]) -> bool
 }
 
 // 5
-fn weights_finite(c: &[f64], q: &[f64]) -> bool
+pub fn weights_finite(c: &[f64], q: &[f64]) -> bool
     ensures { λ r. ⌜ r ≡ weightsFinite (before c) (before q) ⌝ }
 {
     if !all_finite(c) {

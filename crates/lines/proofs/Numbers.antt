@@ -14,23 +14,23 @@ use Rattle.lines.specs.declared.Outcome.{Outcome}
 use Rattle.lines.specs.Outcomes.{refused, refusing, answered, checked, counted}
 
 -- an outcome that equals one of these
-few : {a b : Outcome} → a ≡ b → b .number ≤ 17 → a .number ≤ 17
+few : {a b : Outcome} → a ≡ b → b .number ≤ 18 → a .number ≤ 18
 few e h = omega (arith, ap (λ (o : Outcome). o .number) e)
 
-pub refusing-few : {o : Outcome} (r : Refusal) → o ≡ refusing r → o .number ≤ 17
+pub refusing-few : {o : Outcome} (r : Refusal) → o ≡ refusing r → o .number ≤ 18
 refusing-few r e = few e (number-most r)
 
-pub absent-few : {o : Outcome} → o ≡ refused 11 → o .number ≤ 17
+pub absent-few : {o : Outcome} → o ≡ refused 11 → o .number ≤ 18
 absent-few e = few e (omega arith)
 
-pub answered-few : {o : Outcome} (a : Answer) → o ≡ answered a → o .number ≤ 17
+pub answered-few : {o : Outcome} (a : Answer) → o ≡ answered a → o .number ≤ 18
 answered-few (Done g) e = few e (omega arith)
 answered-few (Refused r) e = refusing-few r e
 
-pub checked-few : {o : Outcome} (a : Checked) → o ≡ checked a → o .number ≤ 17
+pub checked-few : {o : Outcome} (a : Checked) → o ≡ checked a → o .number ≤ 18
 checked-few Passed e = few e (omega arith)
 checked-few (Failed r) e = refusing-few r e
 
-pub counted-few : {o : Outcome} (a : Counted) → o ≡ counted a → o .number ≤ 17
+pub counted-few : {o : Outcome} (a : Counted) → o ≡ counted a → o .number ≤ 18
 counted-few (Counts g count) e = few e (omega arith)
 counted-few (Refuses r) e = refusing-few r e

@@ -53,6 +53,8 @@ pub const SHIFT: u8 = 13;
 
 pub const SUB_PROBLEM: u8 = 14;
 
+pub const MEND: u8 = 15;
+
 pub const REASON: u8 = 16;
 
 pub const KEEP: u8 = 17;
@@ -70,6 +72,9 @@ const INEXACT: u32 = 12;
 
 const UNFORCED: u32 = 13;
 
+// The number of repeats whose sum is not finite.
+const SUM: u32 = 18;
+
 // What lent slices hold before a call; none can be part of an answer.
 pub const FLOAT: f64 = 165.5;
 
@@ -79,7 +84,7 @@ pub const BYTE: u8 = 165;
 
 pub const SHORT: u16 = 42_405;
 
-// What a call answered: the number, and on 0 the grade, the count of items, the count of pairs, of the smaller problem its entries, and a reason's ground,
+// What a call answered: the number, and on 0 the grade, the count of items, the count of pairs, of the smaller problem and of a mended list its entries, and a reason's ground,
 // unit and bound; on 14 to 17 the count is a position. A ground is 0 given, 1 lower, 2 upper.
 pub struct Outcome {
     pub number: u32,
@@ -99,10 +104,13 @@ fn has_position(number: u32) -> bool {
     number <= ORDER
 }
 
-// 1 to 8 and 14 to 17 change nothing lent.
+// 1 to 8 and 14 to 18 change nothing lent.
 fn is_early(number: u32) -> bool {
     if number == 0 {
         return false;
+    }
+    if number == SUM {
+        return true;
     }
     if has_position(number) {
         return true;
@@ -327,7 +335,7 @@ fn has_floats(code: u8) -> bool {
     if code == REASON {
         return true;
     }
-    if code == SUB_PROBLEM {
+    if is_among(code, SUB_PROBLEM, MEND) {
         return true;
     }
     if code == KEEP {

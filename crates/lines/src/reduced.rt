@@ -1,4 +1,5 @@
-// The line of the smaller problem, which closes up in the field's lists.
+// The lines of the smaller problem and of a mended list, which close up in the field's lists.
+use crate::MEND;
 use crate::Outcome;
 use crate::SUB_PROBLEM;
 use crate::put_answer_list;
@@ -71,7 +72,7 @@ fn put_smaller(
     put_weight(out, told, constant)
 }
 
-// The whole line.
+// The whole line of the smaller problem.
 pub fn put_reduced(
     out: &mut [u8],
     used: usize,
@@ -97,4 +98,50 @@ pub fn put_reduced(
     }
     let unchanged = put_unchanged(out, listed, contents, c, rows, cols, q);
     put_scratch(out, unchanged, SUB_PROBLEM, outcome.number, f, u)
+}
+
+// The entries, and whether zeros are behind them.
+fn put_kept(
+    out: &mut [u8],
+    used: usize,
+    count: usize,
+    c: &[f64],
+    rows: &[u16],
+    cols: &[u16],
+    q: &[f64],
+) -> usize
+    ensures { λ r. ⌜ r ≤ length (after out) ⌝ }
+{
+    let m = entries_in(rows, cols, q, count);
+    let is_zeros = zeros_past(c, rows, cols, q, c.len(), m);
+    let named = put_text(out, used, b" m=");
+    let counted = put_number(out, named, count);
+    put_closed(out, counted, rows, cols, q, m, b"zeros", is_zeros)
+}
+
+// The whole line of a mended list.
+pub fn put_mended(
+    out: &mut [u8],
+    used: usize,
+    outcome: Outcome,
+    contents: &[u8],
+    c: &[f64],
+    rows: &[u16],
+    cols: &[u16],
+    q: &[f64],
+    list: &[u16],
+    f: &[f64],
+    u: &[u32],
+) -> usize
+    requires { ⌜ standing (length (now c)) (length (now rows)) (length (now cols)) (length (now q)) ≤ length (now contents) ⌝ }
+    ensures { λ r. ⌜ r ≤ length (after out) ⌝ }
+{
+    let begun = put_outcome(out, used, MEND, outcome);
+    let listed = put_answer_list(out, begun, b" changes=", outcome, list, true);
+    if outcome.number == 0 {
+        let kept = put_kept(out, listed, outcome.pairs, c, rows, cols, q);
+        return put_scratch(out, kept, MEND, outcome.number, f, u);
+    }
+    let unchanged = put_unchanged(out, listed, contents, c, rows, cols, q);
+    put_scratch(out, unchanged, MEND, outcome.number, f, u)
 }

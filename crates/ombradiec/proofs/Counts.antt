@@ -28,6 +28,12 @@ use Rattle.sub_problem.specs.declared.Reduced.the-variants as reduced
 use Rattle.sub_problem.specs.Reduced.{staysAt}
 use Rattle.sub_problem.specs.Call as reducing
 use Rattle.sub_problem.proofs.Numbering.{back-few}
+use Rattle.mending.proofs.Marks.{places-few}
+use Rattle.mending.proofs.Accepted.{mended-long}
+use Rattle.mend.specs.declared.Mended.{Mended}
+use Rattle.mend.specs.declared.Mended.the-variants as mended
+use Rattle.mend.specs.Call as mending
+use Rattle.mend.proofs.Laws.{mend-passes, changes-few}
 use Rattle.anchors.specs.Model.{newAt, anchorAt, anchorsTo, anchorsOf}
 use Rattle.anchors.specs.Call as anchoring
 use Rattle.anchors.proofs.Searching.{new-few}
@@ -40,9 +46,9 @@ use Rattle.reason.specs.declared.Reasoned.{Reasoned}
 use Rattle.reason.specs.declared.Reasoned.the-variants as reasoned
 use Rattle.reason.specs.Call as reasoning
 use Rattle.reason.proofs.Laws.{list-few, unit-few}
-use Rattle.packing.specs.Layout.{countOf, pairedCount, pairsExamined, reasonedCount, reasonedUnit, boundAfter, newEntries, newVariables, constantAfter}
-use Rattle.ombradiec.specs.Reading.{Few, FewListed, FewLeft}
-use Rattle.ombradiec.proofs.Positions.{word-near}
+use Rattle.packing.specs.Layout.{countOf, pairedCount, pairsExamined, reasonedCount, reasonedUnit, boundAfter, newEntries, newVariables, constantAfter, mendedEntries, mendedChanges}
+use Rattle.ombradiec.specs.Reading.{Few, FewListed, FewLeft, FewMended}
+use Rattle.ombradiec.proofs.Positions.{word-near, mend-near}
 
 -- ---- closure: at most n
 
@@ -112,6 +118,27 @@ module _ (F : Field) (s l : List ℕ) (f : List Float) (u : List ℕ) where
   pub constant-is : {a : Reduced} {G : Field} {l′ : List ℕ} {f′ : List Float} {u′ : List ℕ} (x : Float) {y : Float} → reducing.left a G l′ f′ u′ ≡ reducing.subProblemCall F s l f u
       → y ≡ constantAfter a x → y ≡ constantAfter (reducing.subProblemCall F s l f u .answer) x
   constant-is x e p = p ∙ ap (λ (z : reducing.Left). constantAfter (z .answer) x) e
+
+-- ---- mend: at most m entries and m changes
+
+module _ (F : Field) (report : List ℕ) (f : List Float) (u : List ℕ) where
+  pub mend-fits : FewMended (mending.mendCall F report f u .answer)
+  unfolding mending.mendCall
+  mend-fits =
+      answer-has mended.Refused _ (mending.mendTests F (length f) (length u)) _ _ FewMended
+      (λ r e. record { entries = omega (arith, mend-near F (length f) (length u) r e); changes = omega arith }) (record { entries = omega arith; changes = omega arith }, tt) (λ e.
+      let M = mend-passes F (length f) (length u) .0 e in
+      record {
+        entries = omega (arith, mended-long F, places-few F, M .listed .few-entries);
+        changes = omega (arith, changes-few F, M .listed .few-entries);
+      })
+
+  pub mend-few : {a : Mended} {rows′ cols′ : List ℕ} {q′ : List Float} {report′ : List ℕ} {f′ : List Float} {u′ : List ℕ}
+      → mending.left a rows′ cols′ q′ report′ f′ u′ ≡ mending.mendCall F report f u → FewMended a
+  mend-few e = record {
+    entries = omega (arith, mend-fits .entries, ap (λ (x : mending.Left). mendedEntries (x .answer)) e);
+    changes = omega (arith, mend-fits .changes, ap (λ (x : mending.Left). mendedChanges (x .answer)) e);
+  }
 
 -- ---- anchors: at most one from each start
 

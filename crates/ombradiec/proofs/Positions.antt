@@ -9,7 +9,7 @@ use Rattle.field.specs.declared.Answer.{Answer}
 use Rattle.field.specs.declared.Checked.{Checked}
 use Rattle.field.specs.declared.Answer.the-variants.{Refused}
 use Rattle.field.specs.declared.Checked.the-variants.{Failed}
-use Rattle.field.specs.declared.Refusal.the-variants.{Variables, Start, Argument, Scratch}
+use Rattle.field.specs.declared.Refusal.the-variants.{Variables, Start, Argument, Scratch, Lists, Weights, Sum}
 use Rattle.field.specs.Field.{Field}
 use Rattle.field.specs.Tests.{readyTests}
 use Rattle.field.specs.Faults.{Near}
@@ -17,6 +17,7 @@ use Rattle.field.proofs.Faults.{near-none, near-test, near-group, loose-near, s
 use Rattle.calls.specs.Values as values
 use Rattle.calls.proofs.Usual.{answer-has}
 use Rattle.no_effect.specs.Call.{wordTests}
+use Rattle.mend.specs.Call.{sumTests, mendTests}
 use Rattle.probe.specs.Call as probing
 use Rattle.propagation.specs.Tests.{propagationTests}
 use Rattle.propagation.specs.Call as propagating
@@ -27,6 +28,13 @@ use Rattle.packing.specs.Layout.{checkedCount, answerCount}
 pub word-near : (F : Field) (words : ℕ) → Near (wordTests F words)
 unfolding wordTests
 word-near F words = near-group _ _ (loose-near F) (near-test Scratch _ _ (omega arith) near-none)
+
+pub mend-near : (F : Field) (floats words : ℕ) → Near (mendTests F floats words)
+unfolding mendTests sumTests
+mend-near F floats words =
+    near-group _ _
+    (near-test Variables _ _ (omega arith) (near-test Lists _ _ (omega arith) (near-test Weights _ _ (omega arith) (near-test Sum _ _ (omega arith) near-none))))
+    (near-test Scratch _ _ (omega arith) (near-test Scratch _ _ (omega arith) near-none))
 
 probe-near : (F : Field) (s : List ℕ) (i v floats words : ℕ) → Near (probing.probeTests F s i v floats words)
 unfolding probing.probeTests

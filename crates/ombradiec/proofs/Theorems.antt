@@ -16,18 +16,19 @@ use Rattle.heavy.specs.Call as heavy
 use Rattle.no_effect.specs.Call as effectless
 use Rattle.shift.specs.Call as shifting
 use Rattle.sub_problem.specs.Call as reducing
+use Rattle.mend.specs.Call as mending
 use Rattle.anchors.specs.Call as anchoring
 use Rattle.pairs.specs.Call as pairing
 use Rattle.probe.specs.Call as probing
 use Rattle.reason.specs.Call as reasoning
 use Rattle.probes.specs.Call as searching
 use Rattle.propagation.specs.Call as propagating
-use Rattle.packing.specs.Layout.{Reads, packedChecked, checkedCount, packedAnswer, packedCounted, packedPaired, pairedGrade, pairedCount, pairsExamined, packedReasoned, packedReduced, reducedGrade, newEntries, newVariables}
+use Rattle.packing.specs.Layout.{Reads, packedChecked, checkedCount, packedAnswer, packedCounted, packedPaired, pairedGrade, pairedCount, pairsExamined, packedReasoned, packedReduced, reducedGrade, newEntries, newVariables, packedMended, mendedGrade, mendedEntries, mendedChanges}
 use Rattle.ombradiec.specs.Exported.{Exported}
 use Rattle.ombradiec.specs.Reading.{AnswerRead, CountRead, ReasonRead}
-use Rattle.packing.proofs.Reading.{checked-reads, answer-reads, counted-reads, paired-reads, reasoned-reads, reduced-reads}
+use Rattle.packing.proofs.Reading.{checked-reads, answer-reads, counted-reads, paired-reads, reasoned-reads, reduced-reads, mended-reads}
 use Rattle.ombradiec.proofs.Positions.{values-fit, probe-one-fits, propagate-fits}
-use Rattle.ombradiec.proofs.Counts.{closure-fits, no-effect-fits, shift-fits, sub-problem-fits, anchors-fit, pairs-fit, reason-fits}
+use Rattle.ombradiec.proofs.Counts.{closure-fits, no-effect-fits, shift-fits, sub-problem-fits, mend-fits, anchors-fit, pairs-fit, reason-fits}
 use Rattle.ombradiec.proofs.Probed.{probe-fits, probe-limited-fits}
 
 -- ---- any call: `answerIn` takes the answer from the record of what a call leaves
@@ -106,6 +107,11 @@ pub sub-problem-reads : (F : Field) (s l : List ℕ) (f : List Float) (u : List 
     → let a = reducing.subProblemCall F s l f u .answer in Reads r (reducing.reducedNumber a) (reducedGrade a) (newEntries a) (newVariables a)
 sub-problem-reads F s l f u e =
     rw (number-is (λ (x : reducing.Left). x .answer) (λ a. refl) e) (reduced-reads (reducing.subProblemCall F s l f u .answer) (sub-problem-fits F s l f u .entries))
+
+pub mend-reads : (F : Field) (report : List ℕ) (f : List Float) (u : List ℕ) {rows′ cols′ : List ℕ} {q′ : List Float} {report′ : List ℕ} {f′ : List Float} {u′ : List ℕ} {r : ℕ}
+    → Exported packedMended (λ a. mending.left a rows′ cols′ q′ report′ f′ u′) r (mending.mendCall F report f u)
+    → let a = mending.mendCall F report f u .answer in Reads r (mending.mendedNumber a) (mendedGrade a) (mendedEntries a) (mendedChanges a)
+mend-reads F report f u e = rw (number-is (λ (x : mending.Left). x .answer) (λ a. refl) e) (mended-reads (mending.mendCall F report f u .answer) (mend-fits F report f u .entries))
 
 pub propagate-reads : (s list u : List ℕ) {s′ u′ : List ℕ} {r : ℕ} → Exported packedChecked (λ a. propagating.left a s′ u′) r (propagating.propagateCall s list u)
     → let a = propagating.propagateCall s list u .answer in Reads r (checkedNumber a) 0 (checkedCount a) 0

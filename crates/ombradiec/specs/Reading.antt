@@ -4,10 +4,11 @@ use Rattle.field.specs.declared.Answer.{Answer}
 use Rattle.field.specs.declared.Counted.{Counted}
 use Rattle.field.specs.Answers.{answerNumber, countedNumber}
 use Rattle.pairs.specs.declared.Paired.{Paired}
-use Rattle.packing.specs.Layout.{Reads, answerGrade, answerCount, countedGrade, countOf, pairedCount, pairsExamined, reasonedGrade, reasonedCount, reasonedUnit, reasonedParts, newEntries, newVariables}
+use Rattle.packing.specs.Layout.{Reads, answerGrade, answerCount, countedGrade, countOf, pairedCount, pairsExamined, reasonedGrade, reasonedCount, reasonedUnit, reasonedParts, newEntries, newVariables, mendedEntries, mendedChanges}
 use Rattle.reason.specs.declared.Reasoned.{Reasoned}
 use Rattle.reason.specs.Call.{reasonedNumber}
 use Rattle.sub_problem.specs.declared.Reduced.{Reduced}
+use Rattle.mend.specs.declared.Mended.{Mended}
 
 -- the refusal and the grade of the answer, and no count but the position that a refusal names
 abbrev pub AnswerRead : Answer → ℕ → Type 0
@@ -35,3 +36,8 @@ pub record FewListed (a : Reasoned) : Type 0 where
 pub record FewLeft (a : Reduced) : Type 0 where
   pub entries : newEntries a < 0x1000_0000
   pub variables : newVariables a < 0x10_0000
+
+-- both counts of a mended list have room
+pub record FewMended (a : Mended) : Type 0 where
+  pub entries : mendedEntries a < 0x1000_0000
+  pub changes : mendedChanges a < 0x10_0000

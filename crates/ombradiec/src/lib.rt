@@ -4,6 +4,7 @@ use packing::constant_after;
 use packing::pack_answer;
 use packing::pack_checked;
 use packing::pack_counted;
+use packing::pack_mended;
 use packing::pack_paired;
 use packing::pack_reasoned;
 use packing::pack_reduced;
@@ -19,6 +20,7 @@ ghost use Rattle.no_effect.specs.Call as effectless;
 ghost use Rattle.shift.specs.Closing.{leftBehind};
 ghost use Rattle.shift.specs.Call as shifting;
 ghost use Rattle.sub_problem.specs.Call as reducing;
+ghost use Rattle.mend.specs.Call as mending;
 ghost use Rattle.anchors.specs.Call as anchoring;
 ghost use Rattle.pairs.specs.Call as pairing;
 ghost use Rattle.probe.specs.Call as probing;
@@ -28,7 +30,7 @@ ghost use Rattle.kept.specs.Kept.{kept};
 ghost use Rattle.kept.specs.Calls as keeping;
 ghost use Rattle.probes.specs.Call as searching;
 ghost use Rattle.propagation.specs.Call as propagating;
-ghost use Rattle.packing.specs.Layout.{packedChecked, packedAnswer, packedCounted, packedPaired, packedReasoned, boundAfter, packedReduced, constantAfter};
+ghost use Rattle.packing.specs.Layout.{packedChecked, packedAnswer, packedCounted, packedPaired, packedReasoned, boundAfter, packedReduced, constantAfter, packedMended};
 ghost use Rattle.ombradiec.specs.Exported.{Exported};
 
 // The gradient closure, and how many free variables have a flat row at its end.
@@ -142,6 +144,22 @@ pub extern "C" fn ombradiec_sub_problem(
     let answer = sub_problem::sub_problem(c, rows, cols, q, start, map, f, u);
     *constant = constant_after(answer, *constant);
     pack_reduced(answer)
+}
+
+// The entry list mended in place; the number of changes stands where other calls have the pairs examined.
+#[no_mangle]
+pub extern "C" fn ombradiec_mend(
+    c: &[f64],
+    rows: &mut [u16],
+    cols: &mut [u16],
+    q: &mut [f64],
+    report: &mut [u16],
+    f: &mut [f64],
+    u: &mut [u32],
+) -> u64
+    ensures { λ r. ⌜ Exported packedMended (λ a. mending.left a (after rows) (after cols) (after q) (after report) (after f) (after u)) r (mending.mendCall (given c rows cols q) (before report) (before f) (before u)) ⌝ }
+{
+    pack_mended(mend::mend(c, rows, cols, q, report, f, u))
 }
 
 // The anchors of components of at least `least` variables.

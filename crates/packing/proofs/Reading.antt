@@ -22,9 +22,12 @@ use Rattle.reason.specs.Call.{reasonedNumber}
 use Rattle.sub_problem.specs.declared.Reduced.{Reduced}
 use Rattle.sub_problem.specs.declared.Reduced.the-variants as reduced
 use Rattle.sub_problem.specs.Call.{reducedNumber}
+use Rattle.mend.specs.declared.Mended.{Mended}
+use Rattle.mend.specs.declared.Mended.the-variants as mended
+use Rattle.mend.specs.Call.{mendedNumber}
 use Rattle.field.specs.Answers.{numberOf, positionOf, checkedNumber, answerNumber, countedNumber}
 use Rattle.field.proofs.Answers.{number-most}
-use Rattle.packing.specs.Layout.{packed, Reads, gradeNumber, packedChecked, checkedCount, packedAnswer, packedCounted, answerGrade, answerCount, countedGrade, countOf, packedPaired, pairedGrade, pairedCount, pairsExamined, groundNumber, reasonedGrade, reasonedCount, reasonedUnit, reasonedParts, packedReasoned, packedReduced, reducedGrade, newEntries, newVariables}
+use Rattle.packing.specs.Layout.{packed, Reads, gradeNumber, packedChecked, checkedCount, packedAnswer, packedCounted, answerGrade, answerCount, countedGrade, countOf, packedPaired, pairedGrade, pairedCount, pairsExamined, groundNumber, reasonedGrade, reasonedCount, reasonedUnit, reasonedParts, packedReasoned, packedReduced, reducedGrade, newEntries, newVariables, packedMended, mendedGrade, mendedEntries, mendedChanges}
 
 pub layout-reads : (refusal grade count pairs : ℕ) → refusal < 0x100 → grade < 0x100 → count < 0x1000_0000
     → Reads (packed refusal grade count pairs) refusal grade count pairs
@@ -86,3 +89,7 @@ module _ {a : Reasoned} (g : Ground) (k m : ℕ) (e : a ≡ reason.Because g k m
 pub reduced-reads : (a : Reduced) → newEntries a < 0x1000_0000 → Reads (packedReduced a) (reducedNumber a) (reducedGrade a) (newEntries a) (newVariables a)
 reduced-reads (reduced.Done g n m k) few = done-reads g m n few
 reduced-reads (reduced.Refused r) few = refusal-reads r few
+
+pub mended-reads : (a : Mended) → mendedEntries a < 0x1000_0000 → Reads (packedMended a) (mendedNumber a) (mendedGrade a) (mendedEntries a) (mendedChanges a)
+mended-reads (mended.Done g m changes) few = done-reads g m changes few
+mended-reads (mended.Refused r) few = refusal-reads r few

@@ -22,12 +22,15 @@ use Rattle.reason.specs.Call.{reasonedNumber}
 use Rattle.sub_problem.specs.declared.Reduced.{Reduced}
 use Rattle.sub_problem.specs.declared.Reduced.the-variants as reduced
 use Rattle.sub_problem.specs.Call.{reducedNumber}
+use Rattle.mend.specs.declared.Mended.{Mended}
+use Rattle.mend.specs.declared.Mended.the-variants as mended
+use Rattle.mend.specs.Call.{mendedNumber}
 use Rattle.field.specs.Answers.{positionOf, checkedNumber, answerNumber, countedNumber}
 
 -- ---- the layout
 
 -- the refusal in bits 0 to 7, the grade in 8 to 15, the count in 16 to 43, the pairs examined in 44 to 63, where a reason has 4 times its unit and its ground,
--- and the smaller problem its new n
+-- the smaller problem its new n, and a mended list the number of changes
 abbrev pub packed : ℕ → ℕ → ℕ → ℕ → ℕ
 packed refusal grade count pairs = refusal + 0x100 * grade + 0x1_0000 * count + 0x1000_0000_0000 * pairs
 
@@ -130,6 +133,19 @@ abbrev pub constantAfter : Reduced → Float → Float
 constantAfter (reduced.Done g n m k) x = k
 constantAfter (reduced.Refused r) x = x
 
+abbrev pub mendedGrade : Mended → ℕ
+mendedGrade (mended.Done g m changes) = gradeNumber g
+mendedGrade (mended.Refused r) = 0
+
+-- the new m
+abbrev pub mendedEntries : Mended → ℕ
+mendedEntries (mended.Done g m changes) = m
+mendedEntries (mended.Refused r) = positionOf r
+
+abbrev pub mendedChanges : Mended → ℕ
+mendedChanges (mended.Done g m changes) = changes
+mendedChanges (mended.Refused r) = 0
+
 -- ---- the number of each answer
 
 abbrev pub packedChecked : Checked → ℕ
@@ -149,3 +165,6 @@ packedReasoned a = packed (reasonedNumber a) (reasonedGrade a) (reasonedCount a)
 
 abbrev pub packedReduced : Reduced → ℕ
 packedReduced a = packed (reducedNumber a) (reducedGrade a) (newEntries a) (newVariables a)
+
+abbrev pub packedMended : Mended → ℕ
+packedMended a = packed (mendedNumber a) (mendedGrade a) (mendedEntries a) (mendedChanges a)

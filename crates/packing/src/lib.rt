@@ -4,6 +4,7 @@ use field::Checked;
 use field::Counted;
 use field::Grade;
 use field::Refusal;
+use mend::Mended;
 use pairs::Paired;
 use reason::Ground;
 use reason::Reasoned;
@@ -11,7 +12,7 @@ use sub_problem::Reduced;
 ghost use mathlib.Core.Path.{_≡_};
 ghost use Prim.Native.Nat.{_<_};
 ghost use Rattle.field.specs.Answers.{numberOf, positionOf};
-ghost use Rattle.packing.specs.Layout.{packed, gradeNumber, packedChecked, checkedCount, packedAnswer, answerCount, packedCounted, countOf, packedPaired, pairedCount, pairsExamined, groundNumber, packedReasoned, reasonedCount, reasonedUnit, boundOf, boundAfter, packedReduced, newEntries, newVariables, constantAfter};
+ghost use Rattle.packing.specs.Layout.{packed, gradeNumber, packedChecked, checkedCount, packedAnswer, answerCount, packedCounted, countOf, packedPaired, pairedCount, pairsExamined, groundNumber, packedReasoned, reasonedCount, reasonedUnit, boundOf, boundAfter, packedReduced, newEntries, newVariables, constantAfter, packedMended, mendedEntries, mendedChanges};
 
 fn grade_number(grade: Grade) -> u64
     ensures { λ r. ⌜ r ≡ gradeNumber grade ⌝ }
@@ -146,5 +147,16 @@ pub fn constant_after(answer: Reduced, constant: f64) -> f64
     match answer {
         Reduced::Done(_, _, _, found) => found,
         Reduced::Refused(_) => constant,
+    }
+}
+
+pub fn pack_mended(answer: Mended) -> u64
+    requires { ⌜ mendedEntries answer < 0x1000_0000 ⌝ }
+    requires { ⌜ mendedChanges answer < 0x10_0000 ⌝ }
+    ensures { λ r. ⌜ r ≡ packedMended answer ⌝ }
+{
+    match answer {
+        Mended::Done(grade, entries, changes) => pack_done(grade, entries, changes),
+        Mended::Refused(refusal) => pack_refusal(refusal),
     }
 }

@@ -8,10 +8,12 @@ use cases::contents::take_rows;
 use cases::contents::take_start;
 use cases::contents::take_weights;
 use cases::keeping::answer_keep;
+use cases::mended::answer_mend;
 use cases::reducing::answer_sub_problem;
 use cases::shifting::answer_shift;
 use lines::BYTE;
 use lines::KEEP;
+use lines::MEND;
 use lines::Outcome;
 use lines::SHIFT;
 use lines::SUB_PROBLEM;
@@ -114,6 +116,9 @@ fn answer_call(
 {
     if head.code == SUB_PROBLEM {
         return answer_sub_problem(head, contents, start, list, f, u, out, used);
+    }
+    if head.code == MEND {
+        return answer_mend(head, contents, list, f, u, out, used);
     }
     if head.code == KEEP {
         return answer_keep(head, contents, at, start, found, list, f, u, out, used);

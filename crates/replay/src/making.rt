@@ -22,7 +22,7 @@ fn in_both(
     f: &mut [f64],
     u: &mut [u32],
 ) -> Outcome
-    ensures { λ r. ⌜ r .number ≤ 17 ⌝ }
+    ensures { λ r. ⌜ r .number ≤ 18 ⌝ }
 {
     if head.code == PROBE {
         return counted(probes::probe(c, rows, cols, q, start, found, list, f, u));
@@ -43,7 +43,7 @@ pub fn make(
     f: &mut [f64],
     u: &mut [u32],
 ) -> Outcome
-    ensures { λ r. ⌜ r .number ≤ 17 ⌝ }
+    ensures { λ r. ⌜ r .number ≤ 18 ⌝ }
 {
     if head.code == HEAVY {
         return answered(heavy::heavy(c, rows, cols, q, start, f, u));

@@ -11,6 +11,7 @@ use Rattle.heavy.specs.Call as heavy
 use Rattle.no_effect.specs.Call as no-effect
 use Rattle.shift.specs.Call as shift
 use Rattle.sub_problem.specs.Call as sub-problem
+use Rattle.mend.specs.Call as mend
 use Rattle.anchors.specs.Call as anchors
 use Rattle.pairs.specs.Call as pairs
 use Rattle.probe.specs.Call as probe
@@ -40,6 +41,9 @@ module _ (F : Field) (s : List ℕ) (f : List Float) (u : List ℕ) where
 
   pub sub-problem-one : (list : List ℕ) → One (sub-problem.subProblemCall F s list f u)
   sub-problem-one list = one
+
+  pub mend-one : (report : List ℕ) → One (mend.mendCall F report f u)
+  mend-one report = one
 
   pub anchors-one : (least : ℕ) (list : List ℕ) → One (anchors.anchorsCall F s least list f u)
   anchors-one least list = one

@@ -53,6 +53,9 @@ use Rattle.sub_problem.specs.Call as sub-problem
 use Rattle.kept.specs.Kept as kept
 use Rattle.kept.specs.Calls as keeps
 use Rattle.kept.specs.Operations.{operatedAll}
+use Rattle.mending.specs.Places as named
+use Rattle.mending.specs.Changes as changes
+use Rattle.mend.specs.Call as mend
 use Rattle.worked.specs.Cases.{cases, given, numbers, expected}
 
 -- each call's promise gives exactly the answer of the list, and leaves exactly what it says in all that was lent
@@ -61,7 +64,7 @@ unfolding given expected numbers
     called staged keeping values.valuesBy
     probe.probeOneCall probe.probeOne probe.newOnly probe.newAt probe.probeTests probe.mayProbe
     probes.probeCall probes.probeLimitedCall probes.candidatesCall probes.fits probes.allValues probes.allRecords
-    pairs.pairsCall anchors.anchorsCall sub-problem.subProblemCall sub-problem.finished
+    pairs.pairsCall anchors.anchorsCall sub-problem.subProblemCall sub-problem.finished mend.mendCall mend.mendTests mend.sumTests mend.fits
     propagation.propagateCall literals.propagationTests literals.constraintsFit literals.allFit
     readyTests standardTests openTests looseTests shapeTests fewVariables listsMatch inOrder isFine firstFrom wrongAt faultOf offDiagonal weightsFinite startFits floatsFit wordsFit
     endsBelow allRise allFinite bytesSmall allBelow gradeOf isExact unitOf firstOf serves allWeigh weighs wholeIn plus minus magnitude
@@ -90,5 +93,6 @@ unfolding given expected numbers
     keeps.makeCall keeps.pinCall keeps.releaseCall keeps.closeCall keeps.runFrom keeps.boundsFit keeps.recordTests keeps.lentTests keeps.mayPin keeps.pinTests keeps.mayRelease keeps.releaseTests operatedAll
     kept.storedRow kept.boundsOf kept.strictTo kept.made kept.turnAt kept.turnTo kept.changed removeTerm
     picked smaller.gatheredTo smaller.adjusted smaller.givenTo smaller.withGiven
+    named.placeOf named.entriesTo named.onto named.added named.sumAt named.sumsFinite named.placesTo named.placesOf named.mended changes.changeAt changes.changesTo changes.changesOf changes.numbered
     add sub mul neg le lt eq ne ofInt ofBits
 worked = refl

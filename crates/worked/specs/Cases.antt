@@ -1,5 +1,5 @@
 -- Document 01's values worked by hand, cases a to n, those of document 02's requests, and others beside them: each names its call, what it is given, and its answer. Assumes nothing.
-use Prim.Native.Nat.{ℕ, _+_, _-_, _*_}
+use Prim.Native.Nat.{ℕ, _+_, _-_, _*_, _/_}
 use mathlib.Core.Bool.{true, false}
 use mathlib.Core.List.{List, [], _∷_, _++_}
 use lib.IntN.{pos}
@@ -11,7 +11,7 @@ use Rattle.constraints.specs.Record.{room}
 use Rattle.field.specs.declared.Grade.{Grade}
 use Rattle.field.specs.declared.Grade.the-variants.{Exact, Inexact}
 use Rattle.field.specs.declared.Refusal.{Refusal}
-use Rattle.field.specs.declared.Refusal.the-variants.{Row, Column, Repeat, Order, Argument, Room, Clash, Inexact as NotExact, Unforced}
+use Rattle.field.specs.declared.Refusal.the-variants.{Row, Column, Repeat, Order, Argument, Room, Clash, Inexact as NotExact, Unforced, Sum}
 use Rattle.field.specs.declared.Checked.{Checked}
 use Rattle.field.specs.declared.Checked.the-variants.{Passed, Failed}
 use Rattle.field.specs.declared.Answer.the-variants.{Done, Refused}
@@ -38,8 +38,10 @@ use Rattle.sub_problem.specs.Call as sub-problem
 use Rattle.kept.specs.Kept.{Kept, kept}
 use Rattle.kept.specs.Calls as keeping
 use Rattle.kept.specs.Operations.{Operation, pin, release, operated, operatedAll}
+use Rattle.mend.specs.declared.Mended.the-variants as mended
+use Rattle.mend.specs.Call as mend
 use Rattle.worked.specs.Fields.{nought, half, sixteenth, limit, above-limit, minus-half, minus-one, two, minus-two, three, minus-three, four, minus-four, minus-five, six, minus-six, seven, heavy-rate, one, least, minus-nought, huge, minus-huge}
-use Rattle.worked.specs.Fields.{alone, joined, apart, opposed, swallowing, unbalanced, two-parts, overflowing, on-diagonal, with-zero, parted, popped, one-term, two-pairs, three-pairs, four-pairs, linked, at-tolerance, placed, cancelling, both-ways, waiting, in-chain, crossed, on-both-diagonals, edited}
+use Rattle.worked.specs.Fields.{alone, joined, apart, opposed, swallowing, unbalanced, two-parts, overflowing, on-diagonal, with-zero, parted, popped, one-term, two-pairs, three-pairs, four-pairs, linked, at-tolerance, placed, cancelling, both-ways, waiting, in-chain, crossed, on-both-diagonals, edited, listed, whole-limit, past-whole, five}
 
 -- a call, the field with its grade, the start values, what else it is given, and what it answers
 pub data Case : Type 0 where
@@ -76,6 +78,12 @@ pub data Case : Type 0 where
   keeps : Field → List ℕ → List Operation → List ℕ → Kept → ℕ → List ℕ → Case
   -- no record is made, and scratch is all zeros
   keeps-none : Field → List ℕ → Refusal → Case
+  -- the mended field with its grade, and the numbers of the changes
+  mends : Field → Grade → Field → List ℕ → Case
+  -- a sum is not finite: nothing changes
+  overflows : Field → Case
+  -- the report is too short for the changes
+  lacks-report : Field → List ℕ → Case
 
 -- ---- the list
 
@@ -233,6 +241,17 @@ cases =
     -- a bound of 0 is stored as 0.0; an inexact field has no record
     ∷ keeps (joined (minus-nought ∷ one ∷ []) minus-four) (2 ∷ 2 ∷ []) (pin 1 0 ∷ []) (0 ∷ []) (kept (2 ∷ 0 ∷ []) (nought ∷ nought ∷ nought ∷ nought ∷ []) 0) 1 (2 ∷ 0 ∷ [])
     ∷ keeps-none swallowing (2 ∷ 2 ∷ 2 ∷ 2 ∷ []) NotExact
+    -- C-18: out of order; a repeat; an entry outside, and a lone -0.0; all of them, with a sum that rounds at each step: (5 + 2^53) + 1
+    ∷ mends (listed 2 (0 ∷ 1 ∷ []) (1 ∷ 0 ∷ []) (one ∷ two ∷ [])) Exact (listed 2 (1 ∷ 0 ∷ []) (0 ∷ 1 ∷ []) (two ∷ one ∷ [])) (0 ∷ 1 ∷ 1 ∷ 1 ∷ 1 ∷ 0 ∷ [])
+    ∷ mends (listed 2 (0 ∷ 0 ∷ []) (1 ∷ 1 ∷ []) (one ∷ two ∷ [])) Exact (listed 2 (0 ∷ []) (1 ∷ []) (three ∷ [])) (1 ∷ 2 ∷ 0 ∷ [])
+    ∷ mends (listed 2 (5 ∷ 1 ∷ 0 ∷ []) (0 ∷ 0 ∷ 1 ∷ []) (one ∷ three ∷ minus-nought ∷ [])) Exact (listed 2 (1 ∷ 0 ∷ []) (0 ∷ 1 ∷ []) (three ∷ minus-nought ∷ []))
+    (0 ∷ 0 ∷ 65535 ∷ 1 ∷ 1 ∷ 0 ∷ 2 ∷ 1 ∷ 1 ∷ [])
+    ∷ mends (listed 3 (2 ∷ 0 ∷ 2 ∷ 7 ∷ 0 ∷ 0 ∷ []) (1 ∷ 1 ∷ 1 ∷ 7 ∷ 1 ∷ 1 ∷ []) (one ∷ five ∷ minus-one ∷ four ∷ whole-limit ∷ one ∷ [])) Inexact
+    (listed 3 (0 ∷ 2 ∷ []) (1 ∷ 1 ∷ []) (past-whole ∷ nought ∷ [])) (0 ∷ 1 ∷ 1 ∷ 1 ∷ 1 ∷ 0 ∷ 2 ∷ 2 ∷ 1 ∷ 3 ∷ 0 ∷ 65535 ∷ 4 ∷ 2 ∷ 0 ∷ 5 ∷ 2 ∷ 0 ∷ [])
+    -- a sum that is not finite, one of dropped entries alone, and the first list with room for one change
+    ∷ overflows (listed 2 (1 ∷ 1 ∷ 1 ∷ []) (0 ∷ 0 ∷ 0 ∷ []) (huge ∷ huge ∷ minus-huge ∷ []))
+    ∷ mends (listed 2 (9 ∷ 9 ∷ []) (9 ∷ 9 ∷ []) (huge ∷ huge ∷ [])) Exact (listed 2 [] [] []) (0 ∷ 0 ∷ 65535 ∷ 1 ∷ 0 ∷ 65535 ∷ [])
+    ∷ lacks-report (listed 2 (0 ∷ 1 ∷ []) (1 ∷ 0 ∷ []) (one ∷ two ∷ [])) (7 ∷ 7 ∷ 7 ∷ 9 ∷ [])
     ∷ []
 
 -- ---- what each call leaves, and what the list says
@@ -250,6 +269,7 @@ pub data Outcome : Type 0 where
   in-lists : sub-problem.Left → Outcome
   in-record : List ℕ → Kept → keeping.Closed → Outcome
   in-making : keeping.Left → Outcome
+  in-entries : mend.Left → Outcome
 
 -- scratch of the least length, with numbers in it
 abbrev pub floats : Field → List Float
@@ -322,6 +342,9 @@ given (lacks-room F s l) = in-lists (sub-problem.subProblemCall F s l (floats F)
 given (keeps F s os ns K flat l) =
     in-record (numbers F (begun F s) os) (after F s os) (keeping.closeCall F (after F s os .values) (after F s os .bounds) (replicate (length l) 7) (floats F) (words F))
 given (keeps-none F s r) = in-making (keeping.makeCall F s (bounds F) 7 (floats F) (words F))
+given (mends F g G l) = in-entries (mend.mendCall F (lent l) (floats F) (words F))
+given (overflows F) = in-entries (mend.mendCall F (lent []) (floats F) (words F))
+given (lacks-report F l) = in-entries (mend.mendCall F l (floats F) (words F))
 
 -- what the list says: the answer, the values or the list with what is past it, and scratch that is all zeros
 unfoldable pub expected : Case → Outcome
@@ -343,3 +366,8 @@ expected (reduces F g s G k b) = in-lists (sub-problem.left (reduced.Done g (var
 expected (lacks-room F s l) = in-lists (sub-problem.left (reduced.Refused Room) F (cleared 0 l) (cleared zero64 (floats F)) (cleared 0 (words F)))
 expected (keeps F s os ns K flat l) = in-record ns K (keeping.closed (Counts Exact flat) l (cleared zero64 (floats F)) (cleared 0 (words F)))
 expected (keeps-none F s r) = in-making (keeping.left (Refused r) (bounds F) 7 (cleared zero64 (floats F)) (cleared 0 (words F)))
+expected (mends F g G l) =
+    let H = closed G F in
+    in-entries (mend.left (mended.Done g (entries G) (length l / 3)) (H .rows) (H .cols) (H .quad) (front l) (cleared zero64 (floats F)) (cleared 0 (words F)))
+expected (overflows F) = in-entries (mend.left (mended.Refused Sum) (F .rows) (F .cols) (F .quad) (lent []) (floats F) (words F))
+expected (lacks-report F l) = in-entries (mend.left (mended.Refused Room) (F .rows) (F .cols) (F .quad) (cleared 0 l) (cleared zero64 (floats F)) (cleared 0 (words F)))

@@ -219,6 +219,20 @@ waiting = fieldOf (minus-five ∷ minus-five ∷ minus-one ∷ []) (0 ∷ 1 ∷ 
 abbrev pub heavy-rate : Float
 heavy-rate = fin true 1 (pos 40)
 
+-- n variables with c = 0, and an entry list as it stands
+abbrev pub listed : ℕ → List ℕ → List ℕ → List Float → Field
+listed n rows cols q = fieldOf (replicate n nought) rows cols q
+
+-- 2^53, and 2^53 + 4
+abbrev pub whole-limit : Float
+whole-limit = fin false 1 (pos 53)
+
+abbrev pub past-whole : Float
+past-whole = fin false 2251799813685249 (pos 2)
+
+abbrev pub five : Float
+five = fin false 5 (pos 0)
+
 -- c=(-5,-1,3), (1,0) 2, (0,1) 4, (0,2) -6, (1,2) 8
 abbrev pub crossed : Field
 crossed = fieldOf (minus-five ∷ minus-one ∷ three ∷ []) (1 ∷ 0 ∷ 0 ∷ 1 ∷ []) (0 ∷ 1 ∷ 2 ∷ 2 ∷ []) (two ∷ four ∷ minus-six ∷ eight ∷ [])

@@ -5,7 +5,7 @@ use mathlib.Core.List.{List, [], _∷_}
 use lib.Dec.{ltb}
 use lib.Ieee.{binary64, fits}
 use Rattle.field.specs.Field.{Field}
-use Rattle.worked.specs.Cases.{Case, closes, completes, preprocesses, rounds, probes-one, probes-all, probes-some, compares, anchors-at, propagates, argues, refuses, explains, explains-none, reduces, lacks-room, keeps, keeps-none}
+use Rattle.worked.specs.Cases.{Case, closes, completes, preprocesses, rounds, probes-one, probes-all, probes-some, compares, anchors-at, propagates, argues, refuses, explains, explains-none, reduces, lacks-room, keeps, keeps-none, mends, overflows, lacks-report}
 use Rattle.kept.specs.Operations.{Operation, pin, release}
 
 -- every element passes
@@ -44,3 +44,6 @@ held (reduces F g s G k b) = heldField F && heldBytes s
 held (lacks-room F s l) = heldField F && heldBytes s
 held (keeps F s os ns K flat l) = heldField F && heldBytes s && every heldOperation os
 held (keeps-none F s r) = heldField F && heldBytes s
+held (mends F g G l) = heldField F
+held (overflows F) = heldField F
+held (lacks-report F l) = heldField F && every (λ w. ltb w 65536) l

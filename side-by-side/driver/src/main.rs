@@ -2,6 +2,7 @@
 
 mod flat;
 mod kept;
+mod mend;
 mod reason;
 
 use hercules::constraint::{Constraint, ConstraintType};
@@ -22,7 +23,7 @@ fn main() -> io::Result<()> {
     output.flush()
 }
 
-/// The refusals are worked out here from document 01's table, the flat rows by the run once more, and reasons and records from document 02's words; all else is the text's.
+/// The refusals are worked out here from document 01's table, the flat rows by the run once more, and reasons, records and mended lists from document 02's words; all else is the text's.
 fn answer(case: &Case) -> Answer {
     if let Some(refusal) = table::refusal(case) {
         return Answer::Refused(refusal);
@@ -37,6 +38,11 @@ fn answer(case: &Case) -> Answer {
             }
             Err(number) => return Answer::NoReason(number),
         },
+        Call::Mend => {
+            let mended = mend::mend(case);
+            done.changes = Some(mended.changes);
+            done.entries = Some(mended.entries);
+        }
         Call::Keep if !table::exact(case) => return Answer::NoReason(12),
         Call::Keep => {
             let mut kept = kept::after_script(case);
@@ -119,7 +125,7 @@ fn work(case: &Case, qubo: &Qubo, given: FixedVarMap, done: &mut Done) {
             assert!(kept.iter().enumerate().all(|(at, pair)| at == pair.0));
             done.variables = Some(kept.into_iter().map(|pair| pair.1).collect());
         }
-        Call::Propagation | Call::Reason | Call::Keep => unreachable!("these are worked elsewhere"),
+        Call::Propagation | Call::Reason | Call::Mend | Call::Keep => unreachable!("these are worked elsewhere"),
     }
 }
 
@@ -213,7 +219,8 @@ fn field_back(done: &mut Done, qubo: &Qubo) {
 fn fits(case: &Case, done: &Done) -> bool {
     let constraints = done.constraints.as_ref().map_or(0, Vec::len);
     let variables = done.variables.as_ref().map_or(0, Vec::len);
+    let changes = done.changes.as_ref().map_or(0, Vec::len);
     (done.found.is_none() || case.found_room as usize == case.n())
-        && constraints <= case.constraint_room as usize / 3
+        && constraints.max(changes) <= case.constraint_room as usize / 3
         && variables <= case.variable_room as usize
 }

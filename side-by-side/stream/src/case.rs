@@ -18,12 +18,13 @@ pub enum Call {
     NoEffect,
     Shift,
     SubProblem,
-    Reason = 16,
+    Mend,
+    Reason,
     Keep,
 }
 
 /// The calls with their names, in the order of their codes.
-pub const CALLS: [(Call, &str); 16] = [
+pub const CALLS: [(Call, &str); 17] = [
     (Call::Closure, "closure"),
     (Call::Components, "components"),
     (Call::Preprocess, "preprocess"),
@@ -38,6 +39,7 @@ pub const CALLS: [(Call, &str); 16] = [
     (Call::NoEffect, "no-effect"),
     (Call::Shift, "shift"),
     (Call::SubProblem, "sub-problem"),
+    (Call::Mend, "mend"),
     (Call::Reason, "reason"),
     (Call::Keep, "keep"),
 ];
@@ -66,7 +68,7 @@ impl Call {
 
     /// Takes start values.
     pub fn has_start(self) -> bool {
-        !matches!(self, Self::NoEffect | Self::Shift)
+        !matches!(self, Self::NoEffect | Self::Shift | Self::Mend)
     }
 
     /// Writes its values into the start values.
@@ -80,8 +82,13 @@ impl Call {
 
     /// Asks for standard form.
     pub fn needs_standard(self) -> bool {
-        use Call::{Anchors, NoEffect, Shift, SubProblem};
-        self.has_field() && !matches!(self, Anchors | NoEffect | Shift | SubProblem)
+        use Call::{Anchors, Mend, NoEffect, Shift, SubProblem};
+        self.has_field() && !matches!(self, Anchors | NoEffect | Shift | SubProblem | Mend)
+    }
+
+    /// Asks for entries inside the field, in order.
+    pub fn needs_order(self) -> bool {
+        self.has_field() && self != Self::Mend
     }
 
     /// Probes one variable at one value.
@@ -99,6 +106,11 @@ impl Call {
         matches!(self, Self::Probe | Self::LimitedProbe | Self::Pairs)
     }
 
+    /// Answers in a list of changes, which is lent where others have a list of constraints.
+    pub fn finds_changes(self) -> bool {
+        self == Self::Mend
+    }
+
     /// Answers in a list of variables.
     pub fn finds_variables(self) -> bool {
         matches!(
@@ -107,9 +119,9 @@ impl Call {
         )
     }
 
-    /// Closes the field up in place.
+    /// Changes the field in place.
     pub fn changes_field(self) -> bool {
-        matches!(self, Self::Shift | Self::SubProblem)
+        matches!(self, Self::Shift | Self::SubProblem | Self::Mend)
     }
 
     pub fn takes_floats(self) -> bool {

@@ -59,6 +59,8 @@ pub struct Done {
     pub pairs: Option<u64>,
     pub constraints: Option<Vec<(usize, usize, usize)>>,
     pub found: Option<Vec<u8>>,
+    /// Input position, kind and output position.
+    pub changes: Option<Vec<(usize, usize, usize)>>,
     pub reason: Option<Reason>,
     pub variables: Option<Vec<usize>>,
     pub linear: Option<Vec<f64>>,
@@ -85,7 +87,7 @@ pub fn line(case: &Case, answer: &Answer) -> String {
     }
     if let Answer::Done(done) = answer {
         if call.has_field() {
-            words.push(table::grade(case).to_string());
+            words.push(grade(case, done).to_string());
         }
         done_words(case, done, &mut words);
     } else {
@@ -97,6 +99,9 @@ pub fn line(case: &Case, answer: &Answer) -> String {
         }
         if call.finds_constraints() {
             words.push(format!("constraints={lists}"));
+        }
+        if call.finds_changes() {
+            words.push(format!("changes={lists}"));
         }
         if call.finds_values() {
             words.push(format!("found={lists}"));
@@ -115,6 +120,20 @@ pub fn line(case: &Case, answer: &Answer) -> String {
         words.push(format!("words={scratch}"));
     }
     words.join(" ")
+}
+
+/// The grade of the field as it was given, and of a mended list's field as it is left.
+fn grade(case: &Case, done: &Done) -> &'static str {
+    match &done.entries {
+        Some(entries) if case.call == crate::Call::Mend => {
+            let mut mended = case.clone();
+            mended.rows = entries.iter().map(|e| e.0 as u16).collect();
+            mended.columns = entries.iter().map(|e| e.1 as u16).collect();
+            mended.weights = entries.iter().map(|e| e.2).collect();
+            table::grade(&mended)
+        }
+        _ => table::grade(case),
+    }
 }
 
 fn done_words(case: &Case, done: &Done, words: &mut Vec<String>) {
@@ -139,6 +158,12 @@ fn done_words(case: &Case, done: &Done, words: &mut Vec<String>) {
     if let Some(found) = &done.found {
         words.push(format!("found={}", digits(found)));
     }
+    if let Some(changes) = &done.changes {
+        words.push(format!("count={}", changes.len()));
+        let numbers = changes.iter().map(|(from, kind, to)| format!("{from},{kind},{to}"));
+        words.push(format!("changes={}", joined(numbers, ";")));
+        words.push("past=kept".to_string());
+    }
     if let Some(reason) = &done.reason {
         words.push(format!("ground={}", reason.ground.name()));
         words.push(format!("unit={}", reason.unit));
@@ -161,10 +186,10 @@ fn done_words(case: &Case, done: &Done, words: &mut Vec<String>) {
             .iter()
             .map(|&(i, j, q)| format!("{i},{j},{}", hex(q)));
         words.push(format!("entries={}", joined(places, ";")));
-        let past = if case.call == crate::Call::SubProblem {
-            "zeros"
-        } else {
+        let past = if case.call == crate::Call::Shift {
             "kept"
+        } else {
+            "zeros"
         };
         words.push(format!("field-past={past}"));
     }

@@ -2,6 +2,7 @@
 
 use crate::{Call, Case};
 use std::cmp::Ordering;
+use std::collections::BTreeMap;
 
 pub const MOST_VARIABLES: usize = 4_096;
 pub const MOST_ENTRIES: usize = 32_768;
@@ -17,16 +18,17 @@ pub struct Refusal {
 /// Says whether a test fails on the case.
 type Fails = fn(&Case) -> bool;
 
-/// The first test that fails, in the table's order: 1, 2, 14 to 17 as one, and 4 to 8.
+/// The first test that fails, in the table's order: 1, 2, 14 to 17 as one, 4, 5, document 02's 18, and 6 to 8.
 pub fn refusal(case: &Case) -> Option<Refusal> {
     let call = case.call;
     let before: [(u8, bool, Fails); 2] = [
         (1, true, too_many),
         (2, call.has_field(), lists_broken),
     ];
-    let after: [(u8, bool, Fails); 5] = [
+    let after: [(u8, bool, Fails); 6] = [
         (4, call.needs_standard(), diagonal),
         (5, call.has_field(), not_finite),
+        (18, call == Call::Mend, sum_not_finite),
         (6, call.has_start(), start_broken),
         (7, true, arguments_broken),
         (8, true, scratch_short),
@@ -41,7 +43,7 @@ pub fn refusal(case: &Case) -> Option<Refusal> {
         })
     };
     first(&before)
-        .or_else(|| fault(case).filter(|_| call.has_field()))
+        .or_else(|| fault(case).filter(|_| call.needs_order()))
         .or_else(|| first(&after))
 }
 
@@ -87,6 +89,15 @@ fn not_finite(case: &Case) -> bool {
         .iter()
         .chain(&case.weights)
         .all(|x| x.is_finite())
+}
+
+/// Document 02, C-18: the weights at a place of the field, added in the order of the list, have a sum that is not finite.
+fn sum_not_finite(case: &Case) -> bool {
+    let mut sums = BTreeMap::new();
+    for (i, j, q) in case.entries().filter(|&(i, j, _)| i.max(j) < case.n()) {
+        sums.entry((i, j)).and_modify(|sum| *sum += q).or_insert(q);
+    }
+    sums.values().any(|sum: &f64| !sum.is_finite())
 }
 
 fn start_broken(case: &Case) -> bool {

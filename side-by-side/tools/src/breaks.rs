@@ -9,14 +9,18 @@ pub fn break_case(random: &mut Random, case: &mut Case, number: u8) -> bool {
     match number {
         1 => too_many(random, case),
         2 if call.has_field() => break_lists(random, case),
-        3 if call.has_field() => break_order(random, case),
+        3 if call.needs_order() => break_order(random, case),
         4 if call.needs_standard() && case.n() > 0 => add_diagonal(random, case),
         5 if call.has_field() => return break_weight(random, case),
         6 if call.has_start() => break_start(random, case),
         7 if call.probes_one() => break_probe(random, case),
         7 if call == Call::Propagation => break_constraints(random, case),
         8 if call.takes_words() => cut_scratch(random, case),
-        9 if call.finds_constraints() || call.finds_values() || call.finds_variables() => {
+        9 if call.finds_constraints()
+            || call.finds_changes()
+            || call.finds_values()
+            || call.finds_variables() =>
+        {
             cut_room(random, case);
         }
         _ => return false,

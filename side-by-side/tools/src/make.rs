@@ -45,6 +45,9 @@ fn whole_case(random: &mut Random, call: Call, small: bool) -> Case {
         }
         put_field(&mut case, field);
     }
+    if call == Call::Mend {
+        disorder(random, &mut case);
+    }
     if call.has_start() {
         case.start = start(random, n);
     }
@@ -93,6 +96,47 @@ pub fn put_field(case: &mut Case, field: Field) {
     case.rows = field.entries.iter().map(|e| e.0 as u16).collect();
     case.columns = field.entries.iter().map(|e| e.1 as u16).collect();
     case.weights = field.entries.iter().map(|e| e.2).collect();
+}
+
+/// Entries repeated, put elsewhere, taken outside the field and shuffled, each in some of the lists; some weights are zeros of
+/// either sign, and some so large that their sum may not be finite.
+pub fn disorder(random: &mut Random, case: &mut Case) {
+    let n = case.n();
+    let mut entries: Vec<_> = case.entries().map(|(i, j, q)| (i as u16, j as u16, q)).collect();
+    let most = (table::MOST_ENTRIES - entries.len()).min(entries.len() + 4);
+    let far = [n as u16, n as u16 + 1, u16::MAX];
+    if random.often(800) {
+        for _ in 0..random.below(most + 1) {
+            let any = (random.below(n + 1) as u16, random.below(n + 1) as u16, random.fraction());
+            let at = random.below(entries.len().max(1));
+            let old = entries.get(at).copied().unwrap_or(any);
+            let new = match random.below(8) {
+                0 => any,
+                1 => (random.pick(&far), old.1, old.2),
+                2 => (old.0, random.pick(&far), old.2),
+                3 => (old.0, old.1, random.pick(&[0.0, -0.0, -old.2])),
+                4 if random.often(200) => (old.0, old.1, random.pick(&[1e308, -1e308, 1e304])),
+                _ => (old.0, old.1, random.fraction() * 8.0),
+            };
+            if random.often(300) {
+                entries.insert(at.min(entries.len()), new);
+            } else {
+                entries.push(new);
+            }
+        }
+    }
+    match random.below(4) {
+        0 => random.shuffle(&mut entries),
+        1 => entries.reverse(),
+        2 if entries.len() > 1 => {
+            let at = random.below(entries.len() - 1);
+            entries.swap(at, at + 1);
+        }
+        _ => {}
+    }
+    case.rows = entries.iter().map(|e| e.0).collect();
+    case.columns = entries.iter().map(|e| e.1).collect();
+    case.weights = entries.iter().map(|e| e.2).collect();
 }
 
 /// Every weight times one power of two, 2^-23 to 2^28: some units and sizes are within the grade's limits, some beyond.
@@ -205,6 +249,15 @@ pub fn arguments(random: &mut Random, case: &mut Case) {
             _ => ample,
         };
         case.constraint_room = room as u32;
+    }
+    if call.finds_changes() {
+        let m = case.weights.len();
+        case.constraint_room = match random.below(10) {
+            0 => random.below(12),
+            1 => 3 * random.below(m + 1),
+            2 => 3 * m + random.below(3),
+            _ => 3 * m,
+        } as u32;
     }
     if call.finds_variables() {
         case.variable_room = match random.below(10) {

@@ -131,6 +131,8 @@ pub fn ample(case: &mut Case) {
     case.found_room = if call.finds_values() { n } else { 0 };
     case.constraint_room = if call.finds_constraints() {
         3 * n * n
+    } else if call.finds_changes() {
+        3 * case.weights.len() as u32
     } else {
         0
     };
@@ -208,8 +210,8 @@ const LEAST: usize = 2_100;
 /// Every recorded case of the given calls, in the order of the codes; what came with document 02 stands last, so that the others keep their places.
 pub fn recorded(calls: &[Call]) -> Vec<Case> {
     let mut cases = Vec::new();
-    let asked =
-        |call: &Call| calls.contains(call) && !matches!(call, Call::SubProblem | Call::Keep);
+    let last = [Call::SubProblem, Call::Keep, Call::Mend];
+    let asked = |call: &Call| calls.contains(call) && !last.contains(call);
     let earlier: Vec<Call> = CALLS.iter().map(|row| row.0).filter(asked).collect();
     for &call in &earlier {
         worked(call, &mut cases);
@@ -236,6 +238,9 @@ pub fn recorded(calls: &[Call]) -> Vec<Case> {
     }
     if calls.contains(&Call::Keep) {
         keeping(&mut cases);
+    }
+    if calls.contains(&Call::Mend) {
+        mended(&mut cases);
     }
     cases
 }
@@ -305,6 +310,60 @@ fn keeping(cases: &mut Vec<Case>) {
     limits(call, cases);
     small(call, 200, cases);
     faults(call, cases);
+}
+
+/// An entry list to be mended: its name, the number of variables and the entries as they stand.
+pub type Listed = (&'static str, usize, &'static [(u16, u16, f64)]);
+
+/// 2^53.
+const TWO_53: f64 = 9_007_199_254_740_992.0;
+
+/// Document 02's C-18: out of order, a repeat, an entry outside, all of them with a sum that rounds at each step, a sum that is
+/// not finite, one only outside, and lists that are good, on the diagonal, empty or without variables.
+pub const LISTED: [Listed; 11] = [
+    ("out of order", 2, &[(0, 1, 1.0), (1, 0, 2.0)]),
+    ("a repeat", 2, &[(0, 1, 1.0), (0, 1, 2.0)]),
+    ("outside", 2, &[(5, 0, 1.0), (1, 0, 3.0), (0, 1, -0.0)]),
+    (
+        "all kinds",
+        3,
+        &[(2, 1, 1.0), (0, 1, 5.0), (2, 1, -1.0), (7, 7, 4.0), (0, 1, TWO_53), (0, 1, 1.0)],
+    ),
+    ("not finite", 2, &[(1, 0, 1e308), (1, 0, 1e308), (1, 0, -1e308)]),
+    ("dropped alone", 2, &[(9, 9, 1e308), (9, 9, 1e308)]),
+    ("turned", 2, &[(1, 0, -1e308), (1, 0, 1e308), (1, 0, 1e308)]),
+    ("good", 2, &[(1, 0, -0.0), (0, 1, 0.0)]),
+    ("diagonal", 2, &[(1, 1, 4.0), (0, 0, 2.0), (1, 1, -4.0)]),
+    ("empty", 2, &[]),
+    ("no variables", 0, &[(0, 0, 1.0)]),
+];
+
+/// The list as a case, with room for every change.
+pub fn listed_case(listed: &Listed) -> Case {
+    let mut case = Case::new(Call::Mend);
+    case.linear = vec![0.0; listed.1];
+    case.rows = listed.2.iter().map(|e| e.0).collect();
+    case.columns = listed.2.iter().map(|e| e.1).collect();
+    case.weights = listed.2.iter().map(|e| e.2).collect();
+    ample(&mut case);
+    case
+}
+
+/// The cases of mended lists.
+fn mended(cases: &mut Vec<Case>) {
+    let call = Call::Mend;
+    cases.extend(LISTED.iter().map(listed_case));
+    // The first without room for its two changes, and the one of 18 with short scratch, which stands after it.
+    let mut short = listed_case(&LISTED[0]);
+    short.constraint_room = 5;
+    cases.push(short);
+    let mut cut = listed_case(&LISTED[4]);
+    cut.floats -= 1;
+    cases.push(cut);
+    worked(call, cases);
+    refusals(call, cases);
+    limits(call, cases);
+    small(call, 250, cases);
 }
 
 /// The cases of the smaller problem.

@@ -27,6 +27,13 @@ fn main() -> io::Result<()> {
         number += 1;
         let line = answers.next().expect("an answer for each case")?;
         let count = counts.entry(case.call).or_default();
+        if case.call == Call::Mend {
+            match mended(&case, &line) {
+                Ok(done) => count.0 += done,
+                Err(what) => fail(number, &case, &line, &what),
+            }
+            continue;
+        }
         if !(line.starts_with("0 exact ") || case.call == Call::Propagation)
             || case.n() > MOST_DEFINED
         {
@@ -41,10 +48,7 @@ fn main() -> io::Result<()> {
                 count.0 += defined;
                 count.1 += demanded;
             }
-            Err(what) => {
-                println!("case {number}: {what}\n{}\nanswer {line}", case.show());
-                std::process::exit(1);
-            }
+            Err(what) => fail(number, &case, &line, &what),
         }
     }
     println!("call: cases whose answer is the definition's; cases whose completions obey");
@@ -52,6 +56,40 @@ fn main() -> io::Result<()> {
         println!("{}: {defined}; {demanded}", call.name());
     }
     Ok(())
+}
+
+fn fail(number: u64, case: &Case, line: &str, what: &str) -> ! {
+    println!("case {number}: {what}\n{}\nanswer {line}", case.show());
+    std::process::exit(1);
+}
+
+/// The closure accepts a mended list, but for a diagonal; one that it accepted before comes back as it was.
+fn mended(case: &Case, line: &str) -> Result<u64, String> {
+    if !line.starts_with("0 ") {
+        return Ok(0);
+    }
+    let mut before = case.clone();
+    before.call = Call::Closure;
+    before.start = vec![2; case.n()];
+    let mut after = before.clone();
+    (after.rows, after.columns, after.weights) = (Vec::new(), Vec::new(), Vec::new());
+    for item in items(line, "entries", ';') {
+        let words: Vec<_> = item.split(',').collect();
+        after.rows.push(words[0].parse().expect("a row"));
+        after.columns.push(words[1].parse().expect("a column"));
+        after.weights.push(weight(words[2]));
+    }
+    let refused = |case: &Case| table::refusal(case).filter(|refusal| refusal.number != 4);
+    if let Some(refusal) = refused(&after) {
+        return Err(format!("the closure refuses the mended list with {}", refusal.number));
+    }
+    let bits = |case: &Case| case.weights.iter().map(|q| q.to_bits()).collect::<Vec<_>>();
+    if refused(&before).is_none() {
+        same("places", &(&after.rows, &after.columns), &(&before.rows, &before.columns))?;
+        same("weights", &bits(&after), &bits(&before))?;
+        same("changes", &part(line, "changes"), &Some(""))?;
+    }
+    Ok(1)
 }
 
 type Checked = Result<(u64, u64), String>;
@@ -202,7 +240,7 @@ fn field_call(case: &Case, line: &str) -> Checked {
                 "a best completion breaks a value",
             )?;
         }
-        Call::Propagation => {}
+        Call::Propagation | Call::Mend => {}
     }
     Ok((defined, 1))
 }

@@ -1,17 +1,18 @@
-//! Document 01's values worked by hand, its two that were run, and document 02's examples under C-11, C-13, C-14, C-17, C-19 and C-21.
+//! Document 01's values worked by hand, its two that were run, and document 02's examples under C-11, C-13, C-14, C-17, C-18, C-19 and C-21.
 //! Usage: `worked` writes them as a stream of cases, `worked ANSWERS` checks the answers to it.
 
 use std::io::{self, BufWriter, Write};
 use stream::line::part;
 use stream::{Call, Case};
 use tools::recorded::{
-    ample, kept_case, reason_case, worked_case, Worked, FLAT, KEPT, REASONS, SMALLER, WORKED,
+    ample, kept_case, listed_case, reason_case, worked_case, Worked, FLAT, KEPT, LISTED, REASONS,
+    SMALLER, WORKED,
 };
 
 /// A value's name, the call, and what stands in the answer: its first words, a part's name and content.
 type Expected = (&'static str, Call, &'static str, &'static str, &'static str);
 
-const EXPECTED: [Expected; 105] = [
+const EXPECTED: [Expected; 120] = [
     ("a", Call::Closure, "0 exact ", "values", ""),
     ("b", Call::Closure, "0 exact ", "values", "2"),
     ("b", Call::Preprocess, "0 exact ", "values", "0"),
@@ -315,6 +316,57 @@ const EXPECTED: [Expected; 105] = [
         "bounds",
         "0000000000000000,0000000000000000,0000000000000000,0000000000000000",
     ),
+    (
+        "out of order",
+        Call::Mend,
+        "0 exact ",
+        "entries",
+        "1,0,4000000000000000;0,1,3ff0000000000000",
+    ),
+    ("out of order", Call::Mend, "0 exact ", "changes", "0,1,1;1,1,0"),
+    ("a repeat", Call::Mend, "0 exact ", "entries", "0,1,4008000000000000"),
+    ("a repeat", Call::Mend, "0 exact ", "changes", "1,2,0"),
+    (
+        "outside",
+        Call::Mend,
+        "0 exact ",
+        "entries",
+        "1,0,4008000000000000;0,1,8000000000000000",
+    ),
+    (
+        "outside",
+        Call::Mend,
+        "0 exact ",
+        "changes",
+        "0,0,65535;1,1,0;2,1,1",
+    ),
+    (
+        "all kinds",
+        Call::Mend,
+        "0 inexact ",
+        "entries",
+        "0,1,4340000000000002;2,1,0000000000000000",
+    ),
+    (
+        "all kinds",
+        Call::Mend,
+        "0 inexact ",
+        "changes",
+        "0,1,1;1,1,0;2,2,1;3,0,65535;4,2,0;5,2,0",
+    ),
+    ("not finite", Call::Mend, "18 ", "field", "kept"),
+    ("not finite", Call::Mend, "18 ", "words", "kept"),
+    ("dropped alone", Call::Mend, "0 exact ", "entries", ""),
+    ("dropped alone", Call::Mend, "0 exact ", "changes", "0,0,65535;1,0,65535"),
+    ("turned", Call::Mend, "0 inexact ", "changes", "1,2,0;2,2,0"),
+    (
+        "good",
+        Call::Mend,
+        "0 exact ",
+        "entries",
+        "1,0,8000000000000000;0,1,0000000000000000",
+    ),
+    ("good", Call::Mend, "0 exact ", "changes", ""),
 ];
 
 fn worked_field(name: &str) -> &'static Worked {
@@ -363,6 +415,10 @@ fn case_of(&(name, call, ..): &Expected) -> Case {
         let (field, variable) = name.split_once(": x").expect("a variable");
         let variable = variable.parse().expect("its number");
         return reason_case(worked_field(field), variable);
+    }
+    if call == Call::Mend {
+        let listed = LISTED.iter().find(|listed| listed.0 == name);
+        return listed_case(listed.expect("a worked list"));
     }
     let field = name.split(", x1").next().unwrap_or(name);
     let mut case = worked_case(call, worked_field(field));

@@ -1,0 +1,36 @@
+-- The number of this answer, by its cases. Assumes nothing.
+use mathlib.Core.Path.{sym, ap, _∙_}
+use native.Mathlib.Omega.{arith}
+use borrow.Author.Needs.{needs}
+use Rattle.packing.specs.Layout.{packedMended, mendedEntries, mendedChanges}
+use Rattle.packing.proofs.pack_mended.Statement.{statement}
+use Rattle.packing.proofs.pack_mended.Tie as tie
+
+enum-known-answer : tie.Need-enum-known-answer
+enum-known-answer c = search needs
+
+pack-done-requires : tie.Need-pack-done-requires
+pack-done-requires c κs = (omega (arith, ap mendedEntries (c .before .answer .given .1)), omega (arith, ap mendedChanges (c .before .answer .given .1)))
+
+enum-known-answer-2 : tie.Need-enum-known-answer-2
+enum-known-answer-2 c = search needs
+
+pack-refusal-requires : tie.Need-pack-refusal-requires
+pack-refusal-requires c κs = omega (arith, ap mendedEntries (c .before .answer2 .given .1))
+
+returns : tie.Need-returns
+returns c = c .pack-done .ensures ∙ ap packedMended (sym (c .before .before .answer .given .1))
+
+returns-2 : tie.Need-returns-2
+returns-2 c = c .pack-refusal .ensures ∙ ap packedMended (sym (c .before .before .answer2 .given .1))
+
+pub pack-mended-spec : {M : Type 1} → statement M
+pack-mended-spec =
+    tie.close
+    (tie.spec
+    enum-known-answer
+    pack-done-requires
+    enum-known-answer-2
+    pack-refusal-requires
+    returns
+    returns-2)
