@@ -1,5 +1,5 @@
 // The public call: propagation of constraints over start values.
-mod tests;
+pub mod tests;
 
 use field::Checked;
 use field::Refusal;

@@ -44,7 +44,7 @@ fn all_fit(n: usize, list: &[u16]) -> bool
 }
 
 // 7
-fn constraints_fit(n: usize, list: &[u16]) -> bool
+pub fn constraints_fit(n: usize, list: &[u16]) -> bool
     ensures { λ r. ⌜ r ≡ constraintsFit n (before list) ⌝ }
 {
     if list.len() > 196608 {

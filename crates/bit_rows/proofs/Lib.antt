@@ -1,0 +1,4 @@
+pub mod Bits
+pub mod Count
+pub mod Rows
+pub mod Stages

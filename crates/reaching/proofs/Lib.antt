@@ -1,0 +1,9 @@
+pub mod Truth
+pub mod Reach
+pub mod Meets
+pub mod Choice
+pub mod Via
+pub mod Picked
+pub mod Counts
+pub mod Alone
+pub mod Theorems
