@@ -131,5 +131,15 @@ int main(void)
     print("propagate", answer, "values", start[0], start[1]);
     answer = ombradiec_propagate(SLICE(start), both, 3, SLICE(words));
     print("propagate", answer, "values", start[0], start[1]);
+
+    uint8_t assignment[2];
+    uint16_t counts[4];
+    static uint64_t longs[OMBRADIEC_REACH_WORDS(2)];
+    for (size_t length = 3; length <= 6; length += 3) {
+        answer = ombradiec_allow(2, both, length, SLICE(assignment), SLICE(counts), SLICE(longs), SLICE(words));
+        printf("allow: refusal %d, allows %d, named %zu, assignment %d %d, counts %d %d %d %d\n",
+               OMBRADIEC_REFUSAL(answer), OMBRADIEC_ALLOWS(answer), OMBRADIEC_NAMED(answer), assignment[0],
+               assignment[1], counts[0], counts[1], counts[2], counts[3]);
+    }
     return 0;
 }

@@ -48,6 +48,9 @@ typedef uint64_t ombradiec_answer;
 #define OMBRADIEC_LEFT(answer) ((size_t)((answer) >> 44))
 /* of mend: the changes, which are the items of the report */
 #define OMBRADIEC_CHANGES(answer) ((size_t)((answer) >> 44))
+/* of allow: 1 for yes, 0 for no; of a no the lowest variable each of whose values implies the other */
+#define OMBRADIEC_ALLOWS(answer) OMBRADIEC_EXACT(answer)
+#define OMBRADIEC_NAMED(answer) OMBRADIEC_COUNT(answer)
 
 /* The refusals, tested in this order. Those up to SCRATCH change nothing lent; past it all of the scratch ends as zeros.
  * INEXACT and UNFORCED are reason's, and leave its list and its bound; INEXACT is keep's too, and leaves the record.
@@ -55,7 +58,7 @@ typedef uint64_t ombradiec_answer;
  * ROW to ORDER are one test: at the first entry at fault the row is tested before the column, and both before its place.
  * 3, which stood for the four, is not given any more. */
 #define OMBRADIEC_DONE 0
-#define OMBRADIEC_VARIABLES 1 /* more than 4,096 variables */
+#define OMBRADIEC_VARIABLES 1 /* more than 4,096 variables, of allow more than 1,024 */
 #define OMBRADIEC_LISTS 2     /* the entry lists differ in length, or have more than 32,768 entries */
 #define OMBRADIEC_ROW 14      /* the row of an entry is not below n */
 #define OMBRADIEC_COLUMN 15   /* the column of an entry is not below n */
@@ -80,11 +83,15 @@ typedef uint64_t ombradiec_answer;
 #define OMBRADIEC_MOST_ENTRIES 32768
 #define OMBRADIEC_MOST_PAIRS 250000
 #define OMBRADIEC_MOST_CONSTRAINTS 65536
+/* the limit of variables of allow */
+#define OMBRADIEC_MOST_REACHED 1024
 
-/* the least scratch for n variables and m entries, in elements; of propagate m is the number of records */
+/* the least scratch for n variables and m entries, in elements; of propagate and allow m is the number of records */
 #define OMBRADIEC_FLOATS(n, m) (8 * (size_t)(n) + 4 * (size_t)(m) + 16)
 #define OMBRADIEC_WORDS(n, m) (16 * (size_t)(n) + 8 * (size_t)(m) + 16)
-/* enough for every field, and of words for propagate too */
+/* the least u64 scratch of allow for n variables, in elements */
+#define OMBRADIEC_REACH_WORDS(n) (128 * (size_t)(n))
+/* enough for every field, and of words for propagate and allow too */
 #define OMBRADIEC_MOST_FLOATS OMBRADIEC_FLOATS(OMBRADIEC_MOST_VARIABLES, OMBRADIEC_MOST_ENTRIES)
 #define OMBRADIEC_MOST_WORDS OMBRADIEC_WORDS(OMBRADIEC_MOST_VARIABLES, OMBRADIEC_MOST_CONSTRAINTS)
 
@@ -248,6 +255,15 @@ ombradiec_answer ombradiec_close(const double *c, size_t c_len, const uint16_t *
                                  const uint16_t *cols, size_t cols_len, const double *q, size_t q_len,
                                  const uint8_t *values, size_t values_len, const double *bounds, size_t bounds_len,
                                  uint8_t *list, size_t list_len, double *f, size_t f_len, uint32_t *u, size_t u_len);
+
+/* Says whether some assignment of 0 and 1 to the variables meets every constraint, with nothing given. On yes the first
+ * `variables` places of `assignment` hold the least one: each variable, in rising order, is 0 wherever some assignment with
+ * the earlier choices still allows it. On no they hold 2. `counts` gets for value v of variable i, at 2 i + v, how many
+ * values of variables follow from it, itself included. `w`, of at least OMBRADIEC_REACH_WORDS(variables) elements, and `u`
+ * are scratch. The time grows with the square of the variables. */
+ombradiec_answer ombradiec_allow(size_t variables, const uint16_t *constraints, size_t constraints_len,
+                                 uint8_t *assignment, size_t assignment_len, uint16_t *counts, size_t counts_len,
+                                 uint64_t *w, size_t w_len, uint32_t *u, size_t u_len);
 
 #ifdef __cplusplus
 }

@@ -1,3 +1,4 @@
+use crate::field::Values;
 use std::error::Error;
 use std::fmt;
 
@@ -103,6 +104,16 @@ impl Change {
     }
 }
 
+/// What [`allow`](crate::allow) answers.
+#[derive(Clone, Debug, PartialEq, Eq)]
+pub struct Allowed {
+    /// The least assignment that meets every constraint; or, where none does, the lowest variable each of whose values
+    /// implies the other.
+    pub least: Result<Values, usize>,
+    /// At 2i + v, how many values of variables follow from value v of variable i, itself included.
+    pub counts: Vec<u16>,
+}
+
 /// Why a call gave no answer; tested in this order. The four that have a position are one test: they say what is wrong with
 /// the first entry at fault, its row before its column and both before its place; `at` counts
 /// [`Field::entries`](crate::Field::entries) from 0.
@@ -112,7 +123,7 @@ impl Change {
 /// [`Sum`](Refusal::Sum) is [`mend`](crate::mend)'s. [`Room`](Refusal::Room) and [`Clash`](Refusal::Clash) are found only when the work is done.
 #[derive(Clone, Copy, Debug, PartialEq, Eq, PartialOrd, Ord, Hash)]
 pub enum Refusal {
-    /// There are more than 4,096 variables.
+    /// There are more than 4,096 variables, for [`allow`](crate::allow) more than 1,024.
     Variables,
     /// There are more than 32,768 entries.
     Lists,
@@ -236,7 +247,7 @@ impl fmt::Display for Refusal {
             write!(f, "entry {at}, from 0: ")?;
         }
         f.write_str(match self {
-            Refusal::Variables => "there are more than 4,096 variables",
+            Refusal::Variables => "there are more than 4,096 variables, or for allow more than 1,024",
             Refusal::Lists => "the entry lists differ in length, or have more than 32,768 entries",
             Refusal::Row { .. } => "its row is not a variable",
             Refusal::Column { .. } => "its column is not a variable",

@@ -1,6 +1,6 @@
 //! Each call, safe. In every `unsafe` block each pointer and length are those of one slice or vector that is borrowed for the
 //! call, so the memory is there, and what the library writes to overlaps nothing else. The library asks no more.
-use crate::answer::{read, read_reason, Change, Done, Reason, Refusal, SubProblem};
+use crate::answer::{read, read_reason, Allowed, Change, Done, Grade, Reason, Refusal, SubProblem};
 use crate::field::{Constraint, Field, Scratch, Values};
 use crate::library::*;
 
@@ -505,4 +505,47 @@ pub fn propagate(start: &mut Values, constraints: &[Constraint], scratch: &mut S
     let (records, records_len) = (constraints.as_ptr().cast(), 3 * constraints.len());
     read(unsafe { ombradiec_propagate(start.as_mut_ptr(), start.len(), records, records_len, u.as_mut_ptr(), u.len()) })
         .map(|_| ())
+}
+
+/// Says whether some assignment of 0 and 1 to so many variables meets every constraint, with nothing given, and what follows
+/// from each value. Each variable of the assignment, in rising order, is 0 wherever some assignment with the earlier choices
+/// still allows it. The time grows with the square of the variables, of which there are at most 1,024.
+///
+/// ```
+/// use ombradiec::{allow, Constraint, Kind, Scratch};
+/// let mut scratch = Scratch::new();
+/// let equal = Constraint::new(0, 1, Kind::Equal);
+/// let one = Constraint::new(0, 1, Kind::ExactlyOne);
+/// let allowed = allow(2, &[one], &mut scratch)?;
+/// assert_eq!(allowed.least.unwrap().given().collect::<Vec<_>>(), [(0, false), (1, true)]);
+/// assert_eq!(allowed.counts, [2, 2, 2, 2]);
+/// assert_eq!(allow(2, &[equal, one], &mut scratch)?.least, Err(0));
+/// # Ok::<(), ombradiec::Refusal>(())
+/// ```
+pub fn allow(variables: usize, constraints: &[Constraint], scratch: &mut Scratch) -> Result<Allowed, Refusal> {
+    let (w, u) = scratch.lend_longs(variables, constraints.len());
+    // More variables than it takes are refused before the lists are looked at.
+    let n = variables.min(1_024);
+    let (mut assignment, mut counts) = (Values::free(n), vec![0; 2 * n]);
+    // A constraint is three u16 and nothing else.
+    let (records, records_len) = (constraints.as_ptr().cast(), 3 * constraints.len());
+    let (values, numbers) = (&mut assignment.0, &mut counts);
+    let done = read(unsafe {
+        ombradiec_allow(
+            variables,
+            records,
+            records_len,
+            values.as_mut_ptr(),
+            values.len(),
+            numbers.as_mut_ptr(),
+            numbers.len(),
+            w.as_mut_ptr(),
+            w.len(),
+            u.as_mut_ptr(),
+            u.len(),
+        )
+    })?;
+    // Yes stands where a field's grade stands elsewhere.
+    let least = if done.grade == Grade::Exact { Ok(assignment) } else { Err(done.count) };
+    Ok(Allowed { least, counts })
 }

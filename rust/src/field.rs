@@ -216,6 +216,7 @@ impl Constraint {
 pub struct Scratch {
     floats: Vec<f64>,
     words: Vec<u32>,
+    longs: Vec<u64>,
 }
 
 impl Scratch {
@@ -232,5 +233,14 @@ impl Scratch {
         self.floats.resize(floats.max(self.floats.len()), 0.0);
         self.words.resize(words.max(self.words.len()), 0);
         (&mut self.floats[..floats], &mut self.words[..words])
+    }
+
+    /// Scratch of [`allow`](crate::allow) for n variables and k constraints; no more than the most that it takes need.
+    pub(crate) fn lend_longs(&mut self, n: usize, k: usize) -> (&mut [u64], &mut [u32]) {
+        let (n, k) = (n.min(1_024), k.min(65_536));
+        let (longs, words) = (128 * n, 16 * n + 8 * k + 16);
+        self.longs.resize(longs.max(self.longs.len()), 0);
+        self.words.resize(words.max(self.words.len()), 0);
+        (&mut self.longs[..longs], &mut self.words[..words])
     }
 }

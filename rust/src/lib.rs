@@ -5,6 +5,7 @@
 //! some best solution has. [`reason`] says why the closure forces a value. [`probe`], [`pairs`] and [`anchors`] find constraints and symmetries.
 //! [`sub_problem`] leaves the field of the variables that are still free. [`mend`] makes a field of any entry list. [`Kept`]
 //! keeps the rows while variables are pinned and released.
+//! [`propagate`] gives what constraints imply of given values, and [`allow`] says whether they allow anything at all.
 //!
 //! Each call is proved to meet its promise, for every input; this crate is a thin, safe layer over the archive
 //! `libombradiec.a` (x86-64 Linux), which `rt staticlib ombradiec` makes. It depends on nothing else.
@@ -29,10 +30,10 @@ mod field;
 mod kept;
 mod library;
 
-pub use answer::{Change, Done, Grade, Ground, Reason, Refusal, SubProblem};
+pub use answer::{Allowed, Change, Done, Grade, Ground, Reason, Refusal, SubProblem};
 pub use calls::{
-    anchors, closure, components, heavy, mend, no_effect, pairs, preprocess, probe, probe_limited, probe_one, propagate,
-    reason, shift, sub_problem,
+    allow, anchors, closure, components, heavy, mend, no_effect, pairs, preprocess, probe, probe_limited, probe_one,
+    propagate, reason, shift, sub_problem,
 };
 pub use field::{Constraint, Field, Kind, Scratch, Values};
 pub use kept::Kept;

@@ -324,4 +324,17 @@ extern "C" {
         u: *mut u32,
         u_len: usize,
     ) -> u64;
+    pub fn ombradiec_allow(
+        variables: usize,
+        constraints: *const u16,
+        constraints_len: usize,
+        assignment: *mut u8,
+        assignment_len: usize,
+        counts: *mut u16,
+        counts_len: usize,
+        w: *mut u64,
+        w_len: usize,
+        u: *mut u32,
+        u_len: usize,
+    ) -> u64;
 }

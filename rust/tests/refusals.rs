@@ -207,6 +207,21 @@ fn an_end_may_say_two_things() {
 }
 
 #[test]
+fn allowing_takes_its_own_limits() {
+    let mut scratch = Scratch::new();
+    let chain: Vec<_> = (0..1_023).map(|i| Constraint::new(i, i + 1, Kind::Equal)).collect();
+    let allowed = allow(1_024, &chain, &mut scratch).unwrap();
+    assert_eq!(allowed.counts, [1_024; 2_048]);
+    assert!(allowed.least.unwrap().given().map(|(_, value)| value).eq([false; 1_024]));
+    let split = [&chain[..], &[Constraint::new(3, 900, Kind::ExactlyOne)]].concat();
+    let refused = allow(1_024, &split, &mut scratch).unwrap();
+    assert_eq!((refused.least, refused.counts), (Err(0), vec![2_048; 2_048]));
+    assert_eq!(allow(1_025, &chain, &mut scratch), Err(Refusal::Variables));
+    assert_eq!(allow(1_023, &chain, &mut scratch), Err(Refusal::Argument));
+    assert_eq!(allow(0, &[], &mut scratch).map(|allowed| allowed.counts), Ok(Vec::new()));
+}
+
+#[test]
 fn a_refusal_says_why() {
     assert_eq!(Refusal::Clash.to_string(), "the constraints clash");
 }

@@ -1,4 +1,5 @@
 // The words of an answer's line, in the order of docs/CASES.md, and which call has which.
+pub mod allowed;
 pub mod outcomes;
 mod reasoned;
 pub mod recorded;
@@ -59,6 +60,8 @@ pub const REASON: u8 = 16;
 
 pub const KEEP: u8 = 17;
 
+pub const ALLOW: u8 = 20;
+
 // The number of a call that is not here.
 pub const ABSENT: u32 = 11;
 
@@ -79,6 +82,8 @@ const SUM: u32 = 18;
 pub const FLOAT: f64 = 165.5;
 
 pub const WORD: u32 = 165;
+
+pub const LONG: u64 = 165;
 
 pub const BYTE: u8 = 165;
 
@@ -309,6 +314,18 @@ fn put_variables(out: &mut [u8], used: usize, code: u8, outcome: Outcome, list: 
     put_answer_list(out, used, b" variables=", outcome, list, false)
 }
 
+// A list of values that a refusal left.
+fn put_bytes_left(out: &mut [u8], used: usize, number: u32, bytes: &[u8]) -> usize
+    ensures { λ r. ⌜ r ≤ length (after out) ⌝ }
+{
+    if is_early(number) {
+        let is_kept = all_bytes(bytes, BYTE);
+        return put_promise(out, used, b"kept", is_kept);
+    }
+    let is_zeros = all_bytes(bytes, 0);
+    put_promise(out, used, b"zeros", is_zeros)
+}
+
 // The found values.
 fn put_found(out: &mut [u8], used: usize, code: u8, number: u32, found: &[u8]) -> usize
     ensures { λ r. ⌜ r ≤ length (after out) ⌝ }
@@ -320,12 +337,7 @@ fn put_found(out: &mut [u8], used: usize, code: u8, number: u32, found: &[u8]) -
     if number == 0 {
         return put_digits(out, named, found);
     }
-    if is_early(number) {
-        let is_kept = all_bytes(found, BYTE);
-        return put_promise(out, named, b"kept", is_kept);
-    }
-    let is_zeros = all_bytes(found, 0);
-    put_promise(out, named, b"zeros", is_zeros)
+    put_bytes_left(out, named, number, found)
 }
 
 fn has_floats(code: u8) -> bool {

@@ -1,8 +1,10 @@
 -- The position that a refusal names is below 32,768, and has room in the number of each call's answer. Assumes nothing.
-use Prim.Native.Nat.{ℕ, _<_}
+use Prim.Native.Nat.{ℕ, _≤_, _<_}
 use mathlib.Core.Path.{_≡_, ap}
+use mathlib.Core.Bool.{Bool, true, false, cond}
 use mathlib.Core.List.{List, []}
 use native.Mathlib.Omega.{arith}
+use lib.Dec.{ltb}
 use lib.ListN.{length}
 use lib.Ieee.{Float}
 use Rattle.field.specs.declared.Answer.{Answer}
@@ -21,7 +23,16 @@ use Rattle.mend.specs.Call.{sumTests, mendTests}
 use Rattle.probe.specs.Call as probing
 use Rattle.propagation.specs.Tests.{propagationTests}
 use Rattle.propagation.specs.Call as propagating
-use Rattle.packing.specs.Layout.{checkedCount, answerCount}
+use Rattle.meaning.specs.Literal.{Implication}
+use Rattle.literals.specs.Ends.{rules}
+use Rattle.reaching.specs.Via.{reaches}
+use Rattle.reaching.proofs.Picked.{first-within}
+use Rattle.allow.specs.declared.Allowed.{Allowed}
+use Rattle.allow.specs.declared.Allowed.the-variants as allow
+use Rattle.allow.specs.Answer.{named, allowedOf}
+use Rattle.allow.specs.Call as allowing
+use Rattle.allow.proofs.Means.{ready-is}
+use Rattle.packing.specs.Layout.{checkedCount, answerCount, allowedCount}
 
 -- ---- the tests of the calls that do not make those of `ready`
 
@@ -76,3 +87,28 @@ module _ (s list u : List ℕ) where
 
   pub propagate-few : {a : Checked} {s′ u′ : List ℕ} → propagating.left a s′ u′ ≡ propagating.propagateCall s list u → checkedCount a < 0x1000_0000
   propagate-few e = omega (arith, propagate-fits, ap (λ (x : propagating.Left). checkedCount (x .answer)) e)
+
+-- ---- what constraints allow: a no names a variable
+
+allow-near : (n : ℕ) (list : List ℕ) (longs words : ℕ) → Near (allowing.allowTests n list longs words)
+unfolding allowing.allowTests
+allow-near n list longs words =
+    near-test Variables _ _ (omega arith) (near-test Argument _ _ (omega arith) (near-test Scratch _ _ (omega arith) (near-test Scratch _ _ (omega arith) near-none)))
+
+named-few : (E : List Implication) (n : ℕ) → allowedCount (allowedOf E n) ≤ n
+unfolding allowedOf
+named-few E n = go (ltb (named E n) n)
+  where
+    go : (b : Bool) → allowedCount (cond b (allow.No (named E n)) allow.Yes) ≤ n
+    go true = first-within (reaches E n) n
+    go false = omega arith
+
+module _ (n : ℕ) (list a c w u : List ℕ) where
+  pub allow-fits : allowedCount (allowing.allowCall n list a c w u .answer) < 0x1000_0000
+  unfolding allowing.allowCall
+  allow-fits =
+      answer-has allow.Refuses _ (allowing.allowTests n list (length w) (length u)) _ _ (λ x. allowedCount x < 0x1000_0000) (λ r e. omega (arith, allow-near n list (length w) (length u) r e)) (omega arith, tt)
+      (λ e. omega (arith, named-few (rules list) n, ready-is n list (length w) (length u) .0 e .few))
+
+  pub allow-few : {x : Allowed} {a′ c′ w′ u′ : List ℕ} → allowing.left x a′ c′ w′ u′ ≡ allowing.allowCall n list a c w u → allowedCount x < 0x1000_0000
+  allow-few e = omega (arith, allow-fits, ap (λ (z : allowing.Left). allowedCount (z .answer)) e)

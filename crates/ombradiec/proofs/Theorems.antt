@@ -23,11 +23,12 @@ use Rattle.probe.specs.Call as probing
 use Rattle.reason.specs.Call as reasoning
 use Rattle.probes.specs.Call as searching
 use Rattle.propagation.specs.Call as propagating
-use Rattle.packing.specs.Layout.{Reads, packedChecked, checkedCount, packedAnswer, packedCounted, packedPaired, pairedGrade, pairedCount, pairsExamined, packedReasoned, packedReduced, reducedGrade, newEntries, newVariables, packedMended, mendedGrade, mendedEntries, mendedChanges}
+use Rattle.allow.specs.Call as allowing
+use Rattle.packing.specs.Layout.{Reads, packedChecked, checkedCount, packedAnswer, packedCounted, packedPaired, pairedGrade, pairedCount, pairsExamined, packedReasoned, packedReduced, reducedGrade, newEntries, newVariables, packedMended, mendedGrade, mendedEntries, mendedChanges, packedAllowed, allowedGrade, allowedCount}
 use Rattle.ombradiec.specs.Exported.{Exported}
 use Rattle.ombradiec.specs.Reading.{AnswerRead, CountRead, ReasonRead}
-use Rattle.packing.proofs.Reading.{checked-reads, answer-reads, counted-reads, paired-reads, reasoned-reads, reduced-reads, mended-reads}
-use Rattle.ombradiec.proofs.Positions.{values-fit, probe-one-fits, propagate-fits}
+use Rattle.packing.proofs.Reading.{checked-reads, answer-reads, counted-reads, paired-reads, reasoned-reads, reduced-reads, mended-reads, allowed-reads}
+use Rattle.ombradiec.proofs.Positions.{values-fit, probe-one-fits, propagate-fits, allow-fits}
 use Rattle.ombradiec.proofs.Counts.{closure-fits, no-effect-fits, shift-fits, sub-problem-fits, mend-fits, anchors-fit, pairs-fit, reason-fits}
 use Rattle.ombradiec.proofs.Probed.{probe-fits, probe-limited-fits}
 
@@ -116,3 +117,8 @@ mend-reads F report f u e = rw (number-is (λ (x : mending.Left). x .answer) (λ
 pub propagate-reads : (s list u : List ℕ) {s′ u′ : List ℕ} {r : ℕ} → Exported packedChecked (λ a. propagating.left a s′ u′) r (propagating.propagateCall s list u)
     → let a = propagating.propagateCall s list u .answer in Reads r (checkedNumber a) 0 (checkedCount a) 0
 propagate-reads s list u e = rw (number-is (λ (x : propagating.Left). x .answer) (λ a. refl) e) (checked-reads (propagating.propagateCall s list u .answer) (propagate-fits s list u))
+
+-- of what constraints allow: yes is 1 in place of the grade, and the count is the variable that a no names
+pub allow-reads : (n : ℕ) (list a c w u : List ℕ) {a′ c′ w′ u′ : List ℕ} {r : ℕ} → Exported packedAllowed (λ x. allowing.left x a′ c′ w′ u′) r (allowing.allowCall n list a c w u)
+    → let x = allowing.allowCall n list a c w u .answer in Reads r (allowing.allowedNumber x) (allowedGrade x) (allowedCount x) 0
+allow-reads n list a c w u e = rw (number-is (λ (z : allowing.Left). z .answer) (λ x. refl) e) (allowed-reads (allowing.allowCall n list a c w u .answer) (allow-fits n list a c w u))

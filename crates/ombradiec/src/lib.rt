@@ -1,6 +1,7 @@
 // The public calls for programs in C and Rust: each exported function is the call of its crate, and answers with one number.
 use packing::bound_after;
 use packing::constant_after;
+use packing::pack_allowed;
 use packing::pack_answer;
 use packing::pack_checked;
 use packing::pack_counted;
@@ -30,7 +31,8 @@ ghost use Rattle.kept.specs.Kept.{kept};
 ghost use Rattle.kept.specs.Calls as keeping;
 ghost use Rattle.probes.specs.Call as searching;
 ghost use Rattle.propagation.specs.Call as propagating;
-ghost use Rattle.packing.specs.Layout.{packedChecked, packedAnswer, packedCounted, packedPaired, packedReasoned, boundAfter, packedReduced, constantAfter, packedMended};
+ghost use Rattle.allow.specs.Call as allowing;
+ghost use Rattle.packing.specs.Layout.{packedChecked, packedAnswer, packedCounted, packedPaired, packedReasoned, boundAfter, packedReduced, constantAfter, packedMended, packedAllowed};
 ghost use Rattle.ombradiec.specs.Exported.{Exported};
 
 // The gradient closure, and how many free variables have a flat row at its end.
@@ -364,4 +366,19 @@ pub extern "C" fn ombradiec_close(
     ensures { λ r. ⌜ Exported packedCounted (λ a. keeping.closed a (after list) (after f) (after u)) r (keeping.closeCall (given c rows cols q) (before values) (before bounds) (before list) (before f) (before u)) ⌝ }
 {
     pack_counted(kept::close(c, rows, cols, q, values, bounds, list, f, u))
+}
+
+// Whether the records allow any assignment, the least one, and how many literals each literal reaches.
+#[no_mangle]
+pub extern "C" fn ombradiec_allow(
+    variables: usize,
+    constraints: &[u16],
+    assignment: &mut [u8],
+    counts: &mut [u16],
+    w: &mut [u64],
+    u: &mut [u32],
+) -> u64
+    ensures { λ r. ⌜ Exported packedAllowed (λ a. allowing.left a (after assignment) (after counts) (after w) (after u)) r (allowing.allowCall variables (before constraints) (before assignment) (before counts) (before w) (before u)) ⌝ }
+{
+    pack_allowed(allow::allow(variables, constraints, assignment, counts, w, u))
 }

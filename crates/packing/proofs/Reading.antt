@@ -25,9 +25,12 @@ use Rattle.sub_problem.specs.Call.{reducedNumber}
 use Rattle.mend.specs.declared.Mended.{Mended}
 use Rattle.mend.specs.declared.Mended.the-variants as mended
 use Rattle.mend.specs.Call.{mendedNumber}
+use Rattle.allow.specs.declared.Allowed.{Allowed}
+use Rattle.allow.specs.declared.Allowed.the-variants as allow
+use Rattle.allow.specs.Call.{allowedNumber}
 use Rattle.field.specs.Answers.{numberOf, positionOf, checkedNumber, answerNumber, countedNumber}
 use Rattle.field.proofs.Answers.{number-most}
-use Rattle.packing.specs.Layout.{packed, Reads, gradeNumber, packedChecked, checkedCount, packedAnswer, packedCounted, answerGrade, answerCount, countedGrade, countOf, packedPaired, pairedGrade, pairedCount, pairsExamined, groundNumber, reasonedGrade, reasonedCount, reasonedUnit, reasonedParts, packedReasoned, packedReduced, reducedGrade, newEntries, newVariables, packedMended, mendedGrade, mendedEntries, mendedChanges}
+use Rattle.packing.specs.Layout.{packed, Reads, gradeNumber, packedChecked, checkedCount, packedAnswer, packedCounted, answerGrade, answerCount, countedGrade, countOf, packedPaired, pairedGrade, pairedCount, pairsExamined, groundNumber, reasonedGrade, reasonedCount, reasonedUnit, reasonedParts, packedReasoned, packedReduced, reducedGrade, newEntries, newVariables, packedMended, mendedGrade, mendedEntries, mendedChanges, packedAllowed, allowedGrade, allowedCount}
 
 pub layout-reads : (refusal grade count pairs : ℕ) → refusal < 0x100 → grade < 0x100 → count < 0x1000_0000
     → Reads (packed refusal grade count pairs) refusal grade count pairs
@@ -93,3 +96,8 @@ reduced-reads (reduced.Refused r) few = refusal-reads r few
 pub mended-reads : (a : Mended) → mendedEntries a < 0x1000_0000 → Reads (packedMended a) (mendedNumber a) (mendedGrade a) (mendedEntries a) (mendedChanges a)
 mended-reads (mended.Done g m changes) few = done-reads g m changes few
 mended-reads (mended.Refused r) few = refusal-reads r few
+
+pub allowed-reads : (a : Allowed) → allowedCount a < 0x1000_0000 → Reads (packedAllowed a) (allowedNumber a) (allowedGrade a) (allowedCount a) 0
+allowed-reads allow.Yes few = layout-reads 0 1 0 0 (omega arith) (omega arith) (omega arith)
+allowed-reads (allow.No i) few = layout-reads 0 0 i 0 (omega arith) (omega arith) few
+allowed-reads (allow.Refuses r) few = refusal-reads r few

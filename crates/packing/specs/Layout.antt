@@ -25,11 +25,14 @@ use Rattle.sub_problem.specs.Call.{reducedNumber}
 use Rattle.mend.specs.declared.Mended.{Mended}
 use Rattle.mend.specs.declared.Mended.the-variants as mended
 use Rattle.mend.specs.Call.{mendedNumber}
+use Rattle.allow.specs.declared.Allowed.{Allowed}
+use Rattle.allow.specs.declared.Allowed.the-variants as allow
+use Rattle.allow.specs.Call.{allowedNumber}
 use Rattle.field.specs.Answers.{positionOf, checkedNumber, answerNumber, countedNumber}
 
 -- ---- the layout
 
--- the refusal in bits 0 to 7, the grade in 8 to 15, the count in 16 to 43, the pairs examined in 44 to 63, where a reason has 4 times its unit and its ground,
+-- the refusal in bits 0 to 7, the grade in 8 to 15, where `allow` has yes, the count in 16 to 43, the pairs examined in 44 to 63, where a reason has 4 times its unit and its ground,
 -- the smaller problem its new n, and a mended list the number of changes
 abbrev pub packed : ℕ → ℕ → ℕ → ℕ → ℕ
 packed refusal grade count pairs = refusal + 0x100 * grade + 0x1_0000 * count + 0x1000_0000_0000 * pairs
@@ -146,6 +149,18 @@ abbrev pub mendedChanges : Mended → ℕ
 mendedChanges (mended.Done g m changes) = changes
 mendedChanges (mended.Refused r) = 0
 
+-- 1 yes, 0 no
+abbrev pub allowedGrade : Allowed → ℕ
+allowedGrade allow.Yes = 1
+allowedGrade (allow.No i) = 0
+allowedGrade (allow.Refuses r) = 0
+
+-- the variable that a no names
+abbrev pub allowedCount : Allowed → ℕ
+allowedCount allow.Yes = 0
+allowedCount (allow.No i) = i
+allowedCount (allow.Refuses r) = positionOf r
+
 -- ---- the number of each answer
 
 abbrev pub packedChecked : Checked → ℕ
@@ -168,3 +183,6 @@ packedReduced a = packed (reducedNumber a) (reducedGrade a) (newEntries a) (newV
 
 abbrev pub packedMended : Mended → ℕ
 packedMended a = packed (mendedNumber a) (mendedGrade a) (mendedEntries a) (mendedChanges a)
+
+abbrev pub packedAllowed : Allowed → ℕ
+packedAllowed a = packed (allowedNumber a) (allowedGrade a) (allowedCount a) 0

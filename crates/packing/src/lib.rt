@@ -1,4 +1,5 @@
 // An answer as one number, for programs in C and Rust.
+use allow::Allowed;
 use field::Answer;
 use field::Checked;
 use field::Counted;
@@ -12,7 +13,7 @@ use sub_problem::Reduced;
 ghost use mathlib.Core.Path.{_≡_};
 ghost use Prim.Native.Nat.{_<_};
 ghost use Rattle.field.specs.Answers.{numberOf, positionOf};
-ghost use Rattle.packing.specs.Layout.{packed, gradeNumber, packedChecked, checkedCount, packedAnswer, answerCount, packedCounted, countOf, packedPaired, pairedCount, pairsExamined, groundNumber, packedReasoned, reasonedCount, reasonedUnit, boundOf, boundAfter, packedReduced, newEntries, newVariables, constantAfter, packedMended, mendedEntries, mendedChanges};
+ghost use Rattle.packing.specs.Layout.{packed, gradeNumber, packedChecked, checkedCount, packedAnswer, answerCount, packedCounted, countOf, packedPaired, pairedCount, pairsExamined, groundNumber, packedReasoned, reasonedCount, reasonedUnit, boundOf, boundAfter, packedReduced, newEntries, newVariables, constantAfter, packedMended, mendedEntries, mendedChanges, packedAllowed, allowedCount};
 
 fn grade_number(grade: Grade) -> u64
     ensures { λ r. ⌜ r ≡ gradeNumber grade ⌝ }
@@ -158,5 +159,17 @@ pub fn pack_mended(answer: Mended) -> u64
     match answer {
         Mended::Done(grade, entries, changes) => pack_done(grade, entries, changes),
         Mended::Refused(refusal) => pack_refusal(refusal),
+    }
+}
+
+// Yes is 1 where a field's grade stands elsewhere, and no is 0, with the variable that it names as the count.
+pub fn pack_allowed(answer: Allowed) -> u64
+    requires { ⌜ allowedCount answer < 0x1000_0000 ⌝ }
+    ensures { λ r. ⌜ r ≡ packedAllowed answer ⌝ }
+{
+    match answer {
+        Allowed::Yes => 0x100,
+        Allowed::No(variable) => 0x1_0000 * (variable as u64),
+        Allowed::Refuses(refusal) => pack_refusal(refusal),
     }
 }

@@ -1,5 +1,6 @@
 // A case is answered in slices as long as its head says: parts of the buffers, and of arrays that each case has anew.
 use crate::making::make;
+use cases::allowing::answer_allow;
 use cases::contents::fill_lent;
 use cases::contents::start_at;
 use cases::contents::take_columns;
@@ -11,6 +12,7 @@ use cases::keeping::answer_keep;
 use cases::mended::answer_mend;
 use cases::reducing::answer_sub_problem;
 use cases::shifting::answer_shift;
+use lines::ALLOW;
 use lines::BYTE;
 use lines::KEEP;
 use lines::MEND;
@@ -19,6 +21,7 @@ use lines::SHIFT;
 use lines::SUB_PROBLEM;
 use lines::put_line;
 use stream::head::ENTRIES;
+use stream::head::FLOATS;
 use stream::head::Head;
 use stream::head::VARIABLES;
 ghost use Prim.Native.Nat.{_+_, _≤_};
@@ -160,23 +163,26 @@ fn answer_in_parts(
     )
 }
 
-// Answers a case in the parts of the buffers that its head asks for.
+// Answers a case in the parts of the buffers that its head asks for. The f64 scratch is no buffer but made anew, so that it and the u64 scratch of `allow` do not stand on the stack at once.
 pub fn answer(
     head: Head,
     contents: &[u8],
     list: &mut [u16],
-    f: &mut [f64],
     u: &mut [u32],
     out: &mut [u8],
     used: usize,
 ) -> usize
     requires { ⌜ Fits head (length (now contents)) ⌝ }
-    requires { ⌜ Buffers (length (now list)) (length (now f)) (length (now u)) ⌝ }
+    requires { ⌜ Buffers (length (now list)) 163900 (length (now u)) ⌝ }
     ensures { λ r. ⌜ r ≤ length (after out) ⌝ }
 {
     if head.code == SHIFT {
         return answer_shift(head, contents, out, used);
     }
+    if head.code == ALLOW {
+        return answer_allow(head, contents, list, u, out, used);
+    }
+    let mut f = [0.0f64; FLOATS];
     let listed = stream::head::list(head);
     let floats = head.floats;
     let words = head.words;

@@ -6,7 +6,6 @@ mod making;
 
 use cases::reading::Next;
 use cases::reading::next_case;
-use stream::head::FLOATS;
 use stream::head::LISTED;
 use stream::head::WORDS;
 ghost use lib.ListN.{length};
@@ -18,15 +17,15 @@ const CONTENTS: usize = 430_164;
 const LINES: usize = 16_384;
 
 // A proved loop has to end, and nothing says that a stream does: the turns count down from a number that no run uses up.
-fn answer_all(contents: &mut [u8], list: &mut [u16], f: &mut [f64], u: &mut [u32], out: &mut [u8])
-    requires { ⌜ Buffers (length (now list)) (length (now f)) (length (now u)) ⌝ }
+fn answer_all(contents: &mut [u8], list: &mut [u16], u: &mut [u32], out: &mut [u8])
+    requires { ⌜ Buffers (length (now list)) 163900 (length (now u)) ⌝ }
 {
     let mut used: usize = 0;
     let mut turns = u64::MAX;
     while turns > 0 {
         let next = next_case(contents, out, used);
         if let Next::Case(head) = next {
-            used = fresh::answer(head, contents, list, f, u, out, used);
+            used = fresh::answer(head, contents, list, u, out, used);
             turns -= 1;
         } else {
             return;
@@ -38,18 +37,16 @@ fn answer_all(contents: &mut [u8], list: &mut [u16], f: &mut [f64], u: &mut [u32
 fn answer_in(
     contents: &mut [u8; CONTENTS],
     list: &mut [u16; LISTED],
-    f: &mut [f64; FLOATS],
     u: &mut [u32; WORDS],
     out: &mut [u8; LINES],
 ) {
-    answer_all(contents, list, f, u, out);
+    answer_all(contents, list, u, out);
 }
 
 fn main() {
     let mut contents = [0u8; CONTENTS];
     let mut list = [0u16; LISTED];
-    let mut f = [0.0f64; FLOATS];
     let mut u = [0u32; WORDS];
     let mut out = [0u8; LINES];
-    answer_in(&mut contents, &mut list, &mut f, &mut u, &mut out);
+    answer_in(&mut contents, &mut list, &mut u, &mut out);
 }

@@ -167,6 +167,19 @@ pub fn all_words(words: &[u32], x: u32) -> bool
     true
 }
 
+pub fn all_longs(longs: &[u64], x: u64) -> bool
+    ensures { λ r. ⌜ r ≡ allBelow (λ i. eqb (getD (before longs) i 0) x) (length (before longs)) ⌝ }
+{
+    let mut i: usize = 0;
+    while i < longs.len() {
+        if longs[i] != x {
+            return false;
+        }
+        i += 1;
+    }
+    true
+}
+
 fn equal(x: f64, y: f64) -> bool
     ensures { λ r. ⌜ r ≡ eq x y ⌝ }
 {

@@ -20,6 +20,7 @@ use Rattle.propagation.specs.Call as propagation
 use Rattle.reason.specs.Call as reason
 use Rattle.kept.specs.Kept.{Kept}
 use Rattle.kept.specs.Calls as keeping
+use Rattle.allow.specs.Call as allow
 use Rattle.worked.specs.One.{One}
 
 -- a promise that is one equation
@@ -84,3 +85,6 @@ module _ (F : Field) (K : Kept) (i : ℕ) where
 
   pub release-one : One (keeping.releaseCall F K i)
   release-one = one
+
+pub allow-one : (n : ℕ) (list a c w u : List ℕ) → One (allow.allowCall n list a c w u)
+allow-one n list a c w u = one

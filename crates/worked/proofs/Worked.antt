@@ -56,6 +56,9 @@ use Rattle.kept.specs.Operations.{operatedAll}
 use Rattle.mending.specs.Places as named
 use Rattle.mending.specs.Changes as changes
 use Rattle.mend.specs.Call as mend
+use Rattle.reaching.specs.Via as via
+use Rattle.allow.specs.Answer as answer
+use Rattle.allow.specs.Call as allow
 use Rattle.worked.specs.Cases.{cases, given, numbers, expected}
 
 -- each call's promise gives exactly the answer of the list, and leaves exactly what it says in all that was lent
@@ -92,6 +95,8 @@ unfolding given expected numbers
     until.basis until.stopOf until.scanned until.until rests.rests listed.listedOf listed.listedTo listed.isListed listed.joinsTo
     keeps.makeCall keeps.pinCall keeps.releaseCall keeps.closeCall keeps.runFrom keeps.boundsFit keeps.recordTests keeps.lentTests keeps.mayPin keeps.pinTests keeps.mayRelease keeps.releaseTests operatedAll
     kept.storedRow kept.boundsOf kept.strictTo kept.made kept.turnAt kept.turnTo kept.changed removeTerm
+    allow.allowCall allow.allowTests allow.fits answer.allowedOf answer.assignmentOf answer.countsTo answer.countsOf
+    via.arrow via.within via.via via.anyBelow via.choicesLead via.must via.picked via.contradicts via.firstContradictory via.countBelow
     picked smaller.gatheredTo smaller.adjusted smaller.givenTo smaller.withGiven
     named.placeOf named.entriesTo named.onto named.added named.sumAt named.sumsFinite named.placesTo named.placesOf named.mended changes.changeAt changes.changesTo changes.changesOf changes.numbered
     add sub mul neg le lt eq ne ofInt ofBits

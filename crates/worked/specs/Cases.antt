@@ -40,6 +40,10 @@ use Rattle.kept.specs.Calls as keeping
 use Rattle.kept.specs.Operations.{Operation, pin, release, operated, operatedAll}
 use Rattle.mend.specs.declared.Mended.the-variants as mended
 use Rattle.mend.specs.Call as mend
+use Rattle.allow.specs.declared.Allowed.{Allowed}
+use Rattle.allow.specs.declared.Allowed.the-variants as allowed
+use Rattle.allow.specs.declared.Allowed.the-variants.{Yes, No}
+use Rattle.allow.specs.Call as allow
 use Rattle.worked.specs.Fields.{nought, half, sixteenth, limit, above-limit, minus-half, minus-one, two, minus-two, three, minus-three, four, minus-four, minus-five, six, minus-six, seven, heavy-rate, one, least, minus-nought, huge, minus-huge}
 use Rattle.worked.specs.Fields.{alone, joined, apart, opposed, swallowing, unbalanced, two-parts, overflowing, on-diagonal, with-zero, parted, popped, one-term, two-pairs, three-pairs, four-pairs, linked, at-tolerance, placed, cancelling, both-ways, waiting, in-chain, crossed, on-both-diagonals, edited, listed, whole-limit, past-whole, five}
 
@@ -84,6 +88,10 @@ pub data Case : Type 0 where
   overflows : Field → Case
   -- the report is too short for the changes
   lacks-report : Field → List ℕ → Case
+  -- no field: the number of variables and records, the answer, the assignment and the counts
+  allows : ℕ → List ℕ → Allowed → List ℕ → List ℕ → Case
+  -- one place for a value or a count is missing
+  lacks-places : ℕ → List ℕ → ℕ → ℕ → Case
 
 -- ---- the list
 
@@ -252,6 +260,22 @@ cases =
     ∷ overflows (listed 2 (1 ∷ 1 ∷ 1 ∷ []) (0 ∷ 0 ∷ 0 ∷ []) (huge ∷ huge ∷ minus-huge ∷ []))
     ∷ mends (listed 2 (9 ∷ 9 ∷ []) (9 ∷ 9 ∷ []) (huge ∷ huge ∷ [])) Exact (listed 2 [] [] []) (0 ∷ 0 ∷ 65535 ∷ 1 ∷ 0 ∷ 65535 ∷ [])
     ∷ lacks-report (listed 2 (0 ∷ 1 ∷ []) (1 ∷ 0 ∷ []) (one ∷ two ∷ [])) (7 ∷ 7 ∷ 7 ∷ 9 ∷ [])
+    -- C-20, "Equal and ExactlyOne on one pair", in two records or in one; ExactlyOne alone
+    ∷ allows 2 both (No 0) (2 ∷ 2 ∷ []) (4 ∷ 4 ∷ 4 ∷ 4 ∷ [])
+    ∷ allows 2 (0 ∷ 1 ∷ 15 ∷ []) (No 0) (2 ∷ 2 ∷ []) (4 ∷ 4 ∷ 4 ∷ 4 ∷ [])
+    ∷ allows 2 (0 ∷ 1 ∷ 9 ∷ []) Yes (0 ∷ 1 ∷ []) (2 ∷ 2 ∷ 2 ∷ 2 ∷ [])
+    -- 00 and 01: x0 is 1; not 00, then x1 equals x2: x0 is 0, so the others are 1
+    ∷ allows 2 (0 ∷ 1 ∷ 3 ∷ []) Yes (1 ∷ 0 ∷ []) (4 ∷ 1 ∷ 2 ∷ 2 ∷ [])
+    ∷ allows 3 (0 ∷ 1 ∷ 1 ∷ 1 ∷ 2 ∷ 6 ∷ []) Yes (0 ∷ 1 ∷ 1 ∷ []) (3 ∷ 1 ∷ 3 ∷ 2 ∷ 3 ∷ 2 ∷ [])
+    -- x1 is 0, so x0 is 1 and x2 too; x1 can be neither, and x0 is not named
+    ∷ allows 3 (0 ∷ 2 ∷ 4 ∷ 1 ∷ 2 ∷ 12 ∷ 0 ∷ 1 ∷ 1 ∷ []) Yes (1 ∷ 0 ∷ 1 ∷ []) (6 ∷ 3 ∷ 3 ∷ 6 ∷ 6 ∷ 3 ∷ [])
+    ∷ allows 3 (1 ∷ 2 ∷ 3 ∷ 1 ∷ 2 ∷ 12 ∷ []) (No 1) (2 ∷ 2 ∷ 2 ∷ []) (1 ∷ 1 ∷ 4 ∷ 4 ∷ 4 ∷ 4 ∷ [])
+    -- no variables, and no records
+    ∷ allows 0 [] Yes [] []
+    ∷ allows 1 [] Yes (0 ∷ []) (1 ∷ 1 ∷ [])
+    -- one value or one count has no place
+    ∷ lacks-places 2 (0 ∷ 1 ∷ 9 ∷ []) 1 4
+    ∷ lacks-places 2 (0 ∷ 1 ∷ 9 ∷ []) 2 3
     ∷ []
 
 -- ---- what each call leaves, and what the list says
@@ -270,6 +294,7 @@ pub data Outcome : Type 0 where
   in-record : List ℕ → Kept → keeping.Closed → Outcome
   in-making : keeping.Left → Outcome
   in-entries : mend.Left → Outcome
+  in-reach : allow.Left → Outcome
 
 -- scratch of the least length, with numbers in it
 abbrev pub floats : Field → List Float
@@ -280,6 +305,12 @@ words F = replicate (16 * variables F + 8 * entries F + 16) 7
 
 abbrev pub constraint-words : List ℕ → List ℕ → List ℕ
 constraint-words s k = replicate (16 * length s + 8 * room k + 16) 7
+
+abbrev pub reach-longs : ℕ → List ℕ
+reach-longs n = replicate (128 * n) 7
+
+abbrev pub reach-words : ℕ → List ℕ → List ℕ
+reach-words n k = replicate (16 * n + 8 * room k + 16) 7
 
 -- nothing given
 abbrev pub free : Field → List ℕ
@@ -345,6 +376,8 @@ given (keeps-none F s r) = in-making (keeping.makeCall F s (bounds F) 7 (floats 
 given (mends F g G l) = in-entries (mend.mendCall F (lent l) (floats F) (words F))
 given (overflows F) = in-entries (mend.mendCall F (lent []) (floats F) (words F))
 given (lacks-report F l) = in-entries (mend.mendCall F l (floats F) (words F))
+given (allows n k r a c) = in-reach (allow.allowCall n k (lent a) (lent c) (reach-longs n) (reach-words n k))
+given (lacks-places n k a c) = in-reach (allow.allowCall n k (replicate a 7) (replicate c 7) (reach-longs n) (reach-words n k))
 
 -- what the list says: the answer, the values or the list with what is past it, and scratch that is all zeros
 unfoldable pub expected : Case → Outcome
@@ -371,3 +404,5 @@ expected (mends F g G l) =
     in-entries (mend.left (mended.Done g (entries G) (length l / 3)) (H .rows) (H .cols) (H .quad) (front l) (cleared zero64 (floats F)) (cleared 0 (words F)))
 expected (overflows F) = in-entries (mend.left (mended.Refused Sum) (F .rows) (F .cols) (F .quad) (lent []) (floats F) (words F))
 expected (lacks-report F l) = in-entries (mend.left (mended.Refused Room) (F .rows) (F .cols) (F .quad) (cleared 0 l) (cleared zero64 (floats F)) (cleared 0 (words F)))
+expected (allows n k r a c) = in-reach (allow.left r (front a) (front c) (cleared 0 (reach-longs n)) (cleared 0 (reach-words n k)))
+expected (lacks-places n k a c) = in-reach (allow.left (allowed.Refuses Room) (replicate a 0) (replicate c 0) (cleared 0 (reach-longs n)) (cleared 0 (reach-words n k)))

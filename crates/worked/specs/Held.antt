@@ -5,7 +5,7 @@ use mathlib.Core.List.{List, [], _∷_}
 use lib.Dec.{ltb}
 use lib.Ieee.{binary64, fits}
 use Rattle.field.specs.Field.{Field}
-use Rattle.worked.specs.Cases.{Case, closes, completes, preprocesses, rounds, probes-one, probes-all, probes-some, compares, anchors-at, propagates, argues, refuses, explains, explains-none, reduces, lacks-room, keeps, keeps-none, mends, overflows, lacks-report}
+use Rattle.worked.specs.Cases.{Case, closes, completes, preprocesses, rounds, probes-one, probes-all, probes-some, compares, anchors-at, propagates, argues, refuses, explains, explains-none, reduces, lacks-room, keeps, keeps-none, mends, overflows, lacks-report, allows, lacks-places}
 use Rattle.kept.specs.Operations.{Operation, pin, release}
 
 -- every element passes
@@ -47,3 +47,5 @@ held (keeps-none F s r) = heldField F && heldBytes s
 held (mends F g G l) = heldField F
 held (overflows F) = heldField F
 held (lacks-report F l) = heldField F && every (λ w. ltb w 65536) l
+held (allows n k r a c) = every (λ w. ltb w 65536) k
+held (lacks-places n k a c) = every (λ w. ltb w 65536) k

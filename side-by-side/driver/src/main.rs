@@ -1,5 +1,6 @@
 //! Answers a stream of cases with the Rust text: cases on standard input, one line a case on standard output.
 
+mod allow;
 mod flat;
 mod kept;
 mod mend;
@@ -23,7 +24,7 @@ fn main() -> io::Result<()> {
     output.flush()
 }
 
-/// The refusals are worked out here from document 01's table, the flat rows by the run once more, and reasons, records and mended lists from document 02's words; all else is the text's.
+/// The refusals are worked out here from document 01's table, the flat rows by the run once more, and reasons, records, mended lists and what constraints allow from document 02's words; all else is the text's.
 fn answer(case: &Case) -> Answer {
     if let Some(refusal) = table::refusal(case) {
         return Answer::Refused(refusal);
@@ -56,6 +57,7 @@ fn answer(case: &Case) -> Answer {
             }
             done.kept = Some(kept);
         }
+        Call::Allow => done.allowed = Some(allow::allow(case)),
         Call::Propagation => match propagation(case, given) {
             Some(values) => done.values = Some(list_of(case.n(), &values)),
             None => return Answer::Clash,
@@ -125,7 +127,7 @@ fn work(case: &Case, qubo: &Qubo, given: FixedVarMap, done: &mut Done) {
             assert!(kept.iter().enumerate().all(|(at, pair)| at == pair.0));
             done.variables = Some(kept.into_iter().map(|pair| pair.1).collect());
         }
-        Call::Propagation | Call::Reason | Call::Mend | Call::Keep => unreachable!("these are worked elsewhere"),
+        Call::Propagation | Call::Allow | Call::Reason | Call::Mend | Call::Keep => unreachable!("these are worked elsewhere"),
     }
 }
 
@@ -220,6 +222,10 @@ fn fits(case: &Case, done: &Done) -> bool {
     let constraints = done.constraints.as_ref().map_or(0, Vec::len);
     let variables = done.variables.as_ref().map_or(0, Vec::len);
     let changes = done.changes.as_ref().map_or(0, Vec::len);
+    if let Some(allowed) = &done.allowed {
+        return allowed.assignment.len() <= case.found_room as usize
+            && allowed.counts.len() <= case.variable_room as usize;
+    }
     (done.found.is_none() || case.found_room as usize == case.n())
         && constraints.max(changes) <= case.constraint_room as usize / 3
         && variables <= case.variable_room as usize

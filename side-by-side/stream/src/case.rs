@@ -21,10 +21,11 @@ pub enum Call {
     Mend,
     Reason,
     Keep,
+    Allow = 20,
 }
 
 /// The calls with their names, in the order of their codes.
-pub const CALLS: [(Call, &str); 17] = [
+pub const CALLS: [(Call, &str); 18] = [
     (Call::Closure, "closure"),
     (Call::Components, "components"),
     (Call::Preprocess, "preprocess"),
@@ -42,6 +43,7 @@ pub const CALLS: [(Call, &str); 17] = [
     (Call::Mend, "mend"),
     (Call::Reason, "reason"),
     (Call::Keep, "keep"),
+    (Call::Allow, "allow"),
 ];
 
 impl Call {
@@ -61,14 +63,19 @@ impl Call {
         CALLS.iter().find(|c| c.1 == name).map(|c| c.0)
     }
 
-    /// Takes a field: all calls but propagation.
+    /// Takes a field: all calls but the two that take constraints.
     pub fn has_field(self) -> bool {
-        self != Self::Propagation
+        !self.takes_constraints()
+    }
+
+    /// Takes constraints.
+    pub fn takes_constraints(self) -> bool {
+        matches!(self, Self::Propagation | Self::Allow)
     }
 
     /// Takes start values.
     pub fn has_start(self) -> bool {
-        !matches!(self, Self::NoEffect | Self::Shift | Self::Mend)
+        !matches!(self, Self::NoEffect | Self::Shift | Self::Mend | Self::Allow)
     }
 
     /// Writes its values into the start values.
@@ -124,8 +131,14 @@ impl Call {
         matches!(self, Self::Shift | Self::SubProblem | Self::Mend)
     }
 
+    /// Takes f64 scratch.
     pub fn takes_floats(self) -> bool {
-        !matches!(self, Self::Propagation | Self::NoEffect | Self::Shift)
+        self.has_field() && !matches!(self, Self::NoEffect | Self::Shift)
+    }
+
+    /// Takes u64 scratch, whose length stands where that of the f64 scratch stands elsewhere.
+    pub fn takes_longs(self) -> bool {
+        self == Self::Allow
     }
 
     pub fn takes_words(self) -> bool {
@@ -177,12 +190,12 @@ impl Case {
         }
     }
 
-    /// The number of variables: of linear weights, or in propagation of start values.
+    /// The number of variables: of linear weights, in propagation of start values, in `allow` a number of its own.
     pub fn n(&self) -> usize {
-        if self.call.has_field() {
-            self.linear.len()
-        } else {
-            self.start.len()
+        match self.call {
+            Call::Propagation => self.start.len(),
+            Call::Allow => self.variable as usize,
+            _ => self.linear.len(),
         }
     }
 
@@ -201,10 +214,12 @@ impl Case {
         let k = self.constraints.len() as u32 / 3;
         let (floats, words) = match self.call {
             Call::Propagation => (0, 16 * n + 8 * k + 16),
+            Call::Allow => (128 * n, 16 * n + 8 * k + 16),
             _ => (8 * n + 4 * m + 16, 16 * n + 8 * m + 16),
         };
+        let first = self.call.takes_floats() || self.call.takes_longs();
         (
-            if self.call.takes_floats() { floats } else { 0 },
+            if first { floats } else { 0 },
             if self.call.takes_words() { words } else { 0 },
         )
     }
@@ -333,8 +348,9 @@ impl Case {
             "room: {} values, {} constraint elements, {} variables\n",
             self.found_room, self.constraint_room, self.variable_room
         );
+        let kind = if self.call.takes_longs() { "u64" } else { "f64" };
         text += &format!(
-            "scratch: {} f64 (least {floats}), {} u32 (least {words})\n",
+            "scratch: {} {kind} (least {floats}), {} u32 (least {words})\n",
             self.floats, self.words
         );
         text += &format!(

@@ -51,6 +51,13 @@ pub struct Kept {
     pub closing: Option<(usize, Vec<u8>)>,
 }
 
+/// Whether constraints allow any assignment: the least one, or the variable that shows that none does; and how many literals each literal reaches.
+pub struct Allowed {
+    pub named: Option<usize>,
+    pub assignment: Vec<u8>,
+    pub counts: Vec<usize>,
+}
+
 /// What a call answers on 0; a part that the call does not have is nothing.
 #[derive(Default)]
 pub struct Done {
@@ -62,6 +69,7 @@ pub struct Done {
     /// Input position, kind and output position.
     pub changes: Option<Vec<(usize, usize, usize)>>,
     pub reason: Option<Reason>,
+    pub allowed: Option<Allowed>,
     pub variables: Option<Vec<usize>>,
     pub linear: Option<Vec<f64>>,
     pub entries: Option<Vec<(usize, usize, f64)>>,
@@ -109,12 +117,19 @@ pub fn line(case: &Case, answer: &Answer) -> String {
         if call.finds_variables() {
             words.push(format!("variables={lists}"));
         }
+        if call == crate::Call::Allow {
+            words.push(format!("assignment={lists}"));
+            words.push(format!("counts={lists}"));
+        }
         if call.changes_field() {
             words.push("field=kept".to_string());
         }
     }
     if call.takes_floats() {
         words.push(format!("floats={scratch}"));
+    }
+    if call.takes_longs() {
+        words.push(format!("longs={scratch}"));
     }
     if call.takes_words() {
         words.push(format!("words={scratch}"));
@@ -168,6 +183,13 @@ fn done_words(case: &Case, done: &Done, words: &mut Vec<String>) {
         words.push(format!("ground={}", reason.ground.name()));
         words.push(format!("unit={}", reason.unit));
         words.push(format!("bound={}", hex(reason.bound)));
+    }
+    if let Some(allowed) = &done.allowed {
+        words.push(allowed.named.map_or("yes".to_string(), |i| format!("no={i}")));
+        words.push(format!("assignment={}", digits(&allowed.assignment)));
+        words.push("past=kept".to_string());
+        words.push(format!("counts={}", joined(allowed.counts.iter(), ",")));
+        words.push("past=kept".to_string());
     }
     if let Some(variables) = &done.variables {
         words.push(format!("count={}", variables.len()));

@@ -7,6 +7,8 @@ use std::collections::BTreeMap;
 pub const MOST_VARIABLES: usize = 4_096;
 pub const MOST_ENTRIES: usize = 32_768;
 pub const MOST_CONSTRAINTS: usize = 65_536;
+/// Of variables in `allow`.
+pub const MOST_REACHED: usize = 1_024;
 
 /// A refusal's number, and the position of the first entry at fault where it names one.
 #[derive(Clone, Copy, Debug, PartialEq, Eq)]
@@ -47,8 +49,17 @@ pub fn refusal(case: &Case) -> Option<Refusal> {
         .or_else(|| first(&after))
 }
 
+/// The most variables that the call takes.
+pub fn most_variables(call: Call) -> usize {
+    if call == Call::Allow {
+        MOST_REACHED
+    } else {
+        MOST_VARIABLES
+    }
+}
+
 fn too_many(case: &Case) -> bool {
-    case.n() > MOST_VARIABLES
+    case.n() > most_variables(case.call)
 }
 
 fn lists_broken(case: &Case) -> bool {
@@ -111,7 +122,7 @@ fn arguments_broken(case: &Case) -> bool {
         let free = usize::try_from(case.variable).is_ok_and(|i| case.start.get(i) == Some(&2));
         return !free || case.value > 1;
     }
-    if case.call == Call::Propagation {
+    if case.call.takes_constraints() {
         let n = case.n();
         let records = case.constraints.chunks(3);
         return !case.constraints.len().is_multiple_of(3)

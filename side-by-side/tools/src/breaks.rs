@@ -14,8 +14,9 @@ pub fn break_case(random: &mut Random, case: &mut Case, number: u8) -> bool {
         5 if call.has_field() => return break_weight(random, case),
         6 if call.has_start() => break_start(random, case),
         7 if call.probes_one() => break_probe(random, case),
-        7 if call == Call::Propagation => break_constraints(random, case),
+        7 if call.takes_constraints() => break_constraints(random, case),
         8 if call.takes_words() => cut_scratch(random, case),
+        9 if call == Call::Allow => return cut_lists(random, case),
         9 if call.finds_constraints()
             || call.finds_changes()
             || call.finds_values()
@@ -29,7 +30,10 @@ pub fn break_case(random: &mut Random, case: &mut Case, number: u8) -> bool {
 }
 
 fn too_many(random: &mut Random, case: &mut Case) {
-    let n = table::MOST_VARIABLES + 1;
+    let n = table::most_variables(case.call) + 1;
+    if case.call == Call::Allow {
+        case.variable = random.pick(&[n as u64, 4_096, 65_535]);
+    }
     if case.call.has_field() {
         case.linear.resize(n, 0.0);
     }
@@ -191,7 +195,7 @@ fn break_constraints(random: &mut Random, case: &mut Case) {
             .take(3 * (table::MOST_CONSTRAINTS + 1))
             .copied()
             .collect();
-        case.words = case.least_scratch().1;
+        case.words = case.least_scratch().1.min(589_900);
         return;
     }
     let bad = match random.below(6) {
@@ -211,12 +215,28 @@ fn break_constraints(random: &mut Random, case: &mut Case) {
 }
 
 fn cut_scratch(random: &mut Random, case: &mut Case) {
+    // Far more variables than `allow` takes ask for more than any case has.
     let (floats, words) = case.least_scratch();
-    if case.call.takes_floats() && random.often(500) {
+    let (floats, words) = (floats.min(131_072), words.min(589_900));
+    if floats > 0 && random.often(500) {
         case.floats = random.pick(&[floats - 1, floats - 1, 0]);
     } else {
         case.words = random.pick(&[words - 1, words - 1, 0]);
     }
+}
+
+/// One of the two answer lists of `allow` is too short; with no variables none can be.
+fn cut_lists(random: &mut Random, case: &mut Case) -> bool {
+    let n = case.n().min(table::MOST_REACHED) as u32;
+    if n == 0 {
+        return false;
+    }
+    if random.often(500) {
+        case.found_room = random.pick(&[0, n - 1]);
+    } else {
+        case.variable_room = random.pick(&[0, n, 2 * n - 1]);
+    }
+    true
 }
 
 fn cut_room(random: &mut Random, case: &mut Case) {

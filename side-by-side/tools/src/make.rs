@@ -20,7 +20,7 @@ pub fn random_case(random: &mut Random, call: Call, small: bool) -> Case {
     for _ in 0..ways {
         let number = random.pick(&[1, 2, 3, 4, 5, 6, 7, 8, 9]);
         // A list past the limits makes a long case, so few are made.
-        if number != 1 || call == Call::Propagation || (!small && random.often(50)) {
+        if number != 1 || call.takes_constraints() || (!small && random.often(50)) {
             breaks::break_case(random, &mut case, number);
         }
     }
@@ -59,6 +59,11 @@ fn whole_case(random: &mut Random, call: Call, small: bool) -> Case {
     }
     if call == Call::Keep {
         case.constraints = script(random, &case.start);
+    }
+    if call == Call::Allow {
+        let n = n.min(table::MOST_REACHED);
+        case.variable = n as u64;
+        case.constraints = reaching(random, n, small);
     }
     arguments(random, &mut case);
     case
@@ -225,6 +230,22 @@ fn constraints(random: &mut Random, start: &[u8], small: bool) -> Vec<u16> {
     list
 }
 
+/// Records for `allow`: of one to two a variable, where yes meets no and literals reach far, or as propagation has them.
+fn reaching(random: &mut Random, n: usize, small: bool) -> Vec<u16> {
+    if n < 2 || random.often(400) {
+        return constraints(random, &vec![2; n], small);
+    }
+    let count = n / 2 + random.below(2 * n);
+    let mut list = Vec::new();
+    for _ in 0..count {
+        let a = random.below(n);
+        let b = (a + 1 + random.below(n - 1)) % n;
+        let set = random.pick(&[1, 1, 2, 2, 4, 4, 8, 8, 6, 9, 3, 12, 5, 10]);
+        list.extend([a.min(b) as u16, a.max(b) as u16, set]);
+    }
+    list
+}
+
 fn any_set(random: &mut Random) -> usize {
     if random.often(800) {
         random.pick(&stream::FORBIDDEN)
@@ -267,9 +288,14 @@ pub fn arguments(random: &mut Random, case: &mut Case) {
             _ => n,
         } as u32;
     }
+    if call == Call::Allow {
+        let spare = random.pick(&[0, 0, 0, 1, 5]);
+        case.found_room = n as u32 + spare;
+        case.variable_room = 2 * n as u32 + random.pick(&[0, 0, spare, 7]);
+    }
     let (floats, words) = case.least_scratch();
     let spare = random.pick(&[0, 0, 0, 1, 2, 17]);
-    if call.takes_floats() {
+    if call.takes_floats() || call.takes_longs() {
         case.floats = floats + spare;
     }
     if call.takes_words() {

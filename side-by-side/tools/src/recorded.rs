@@ -124,6 +124,28 @@ pub fn worked_case(call: Call, worked: &Worked) -> Case {
     case
 }
 
+/// What constraints allow, document 02's C-20: a name, the number of variables and the records.
+pub const ALLOWED: [(&str, u64, &[u16]); 9] = [
+    ("both kinds", 2, &[0, 1, 6, 0, 1, 9]),
+    ("all four", 2, &[0, 1, 15]),
+    ("exactly one", 2, &[0, 1, 9]),
+    ("x0 is 1", 2, &[0, 1, 3]),
+    ("chain", 3, &[0, 1, 1, 1, 2, 6]),
+    ("forced", 3, &[0, 2, 4, 1, 2, 12, 0, 1, 1]),
+    ("x1 is neither", 3, &[1, 2, 3, 1, 2, 12]),
+    ("no variables", 0, &[]),
+    ("no records", 1, &[]),
+];
+
+/// The case of so many variables and these records, with room for its answer.
+pub fn allow_case(variables: u64, constraints: &[u16]) -> Case {
+    let mut case = Case::new(Call::Allow);
+    case.variable = variables;
+    case.constraints = constraints.to_vec();
+    ample(&mut case);
+    case
+}
+
 /// Gives the case room for every answer and the least scratch.
 pub fn ample(case: &mut Case) {
     let n = case.n() as u32;
@@ -137,6 +159,9 @@ pub fn ample(case: &mut Case) {
         0
     };
     case.variable_room = if call.finds_variables() { n } else { 0 };
+    if call == Call::Allow {
+        (case.found_room, case.variable_room) = (n, 2 * n);
+    }
     (case.floats, case.words) = case.least_scratch();
     case.limit = if matches!(call, Call::Pairs | Call::LimitedProbe) {
         1_000
@@ -210,7 +235,7 @@ const LEAST: usize = 2_100;
 /// Every recorded case of the given calls, in the order of the codes; what came with document 02 stands last, so that the others keep their places.
 pub fn recorded(calls: &[Call]) -> Vec<Case> {
     let mut cases = Vec::new();
-    let last = [Call::SubProblem, Call::Keep, Call::Mend];
+    let last = [Call::SubProblem, Call::Keep, Call::Mend, Call::Allow];
     let asked = |call: &Call| calls.contains(call) && !last.contains(call);
     let earlier: Vec<Call> = CALLS.iter().map(|row| row.0).filter(asked).collect();
     for &call in &earlier {
@@ -241,6 +266,9 @@ pub fn recorded(calls: &[Call]) -> Vec<Case> {
     }
     if calls.contains(&Call::Mend) {
         mended(&mut cases);
+    }
+    if calls.contains(&Call::Allow) {
+        allowing(&mut cases);
     }
     cases
 }
@@ -366,6 +394,24 @@ fn mended(cases: &mut Vec<Case>) {
     small(call, 250, cases);
 }
 
+/// The cases of what constraints allow.
+fn allowing(cases: &mut Vec<Case>) {
+    let call = Call::Allow;
+    cases.extend(ALLOWED.iter().map(|row| allow_case(row.1, row.2)));
+    for set in 0..=16 {
+        cases.push(allow_case(2, &[0, 1, set]));
+        cases.push(allow_case(4, &[1, 3, set, 0, 1, 1, 1, 3, 8]));
+    }
+    refusals(call, cases);
+    // One chain of all variables, whose ends are equal or must differ; and one variable too many.
+    let chain: Vec<u16> = (0..1_023).flat_map(|i| [i, i + 1, 6]).collect();
+    cases.push(allow_case(1_024, &chain));
+    cases.push(allow_case(1_024, &[&chain[..], &[0, 1_023, 9]].concat()));
+    cases.push(allow_case(1_024, &[]));
+    cases.push(allow_case(1_025, &[]));
+    small(call, 250, cases);
+}
+
 /// The cases of the smaller problem.
 fn smaller(cases: &mut Vec<Case>) {
     let call = Call::SubProblem;
@@ -483,8 +529,11 @@ fn refusals(call: Call, cases: &mut Vec<Case>) {
         if call.has_start() {
             case.start = vec![2, 2, random.pick(&[0, 1, 2, 2])];
         }
-        if call == Call::Propagation {
+        if call.takes_constraints() {
             case.constraints = vec![0, 1, 9, 1, 2, 6];
+        }
+        if call == Call::Allow {
+            case.variable = 3;
         }
         ample(&mut case);
         case

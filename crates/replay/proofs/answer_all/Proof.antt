@@ -8,11 +8,11 @@ use Rattle.replay.proofs.answer_all.Statement.{statement}
 use Rattle.replay.proofs.answer_all.Tie as tie
 
 abbrev Inv-loop : tie.InvT-loop
-Inv-loop contents₀ list₀ f₀ u₀ out₀ used₀ turns₀ contents list f u out used turns =
-    (length contents ≡ length contents₀) × (length list ≡ length list₀) × (length f ≡ length f₀) × (length u ≡ length u₀) × (length out ≡ length out₀)
+Inv-loop contents₀ list₀ u₀ out₀ used₀ turns₀ contents list u out used turns =
+    (length contents ≡ length contents₀) × (length list ≡ length list₀) × (length u ≡ length u₀) × (length out ≡ length out₀)
 
 abbrev μ-loop : tie.MeasureT-loop
-μ-loop contents₀ list₀ f₀ u₀ out₀ used₀ turns₀ contents list f u out used turns = turns
+μ-loop contents₀ list₀ u₀ out₀ used₀ turns₀ contents list u out used turns = turns
 
 loop-holds : tie.Need-loop-holds Inv-loop μ-loop
 loop-holds c = omega arith
@@ -25,7 +25,7 @@ enum-known-next c = search needs
 
 answer-requires : tie.Need-answer-requires Inv-loop μ-loop
 answer-requires c κs =
-    let a = c .before .before .before .before .before .before in
+    let a = c .before .before .before .before .before in
     let b = a .before .before .before .before .before .before in
     (ready-case (b .next-case .ensures) (a .next .given .1), record { list-room = omega arith; floats-room = omega arith; words-room = omega arith })
 
@@ -68,12 +68,6 @@ same-length-7 c = omega arith
 same-length-8 : tie.Need-same-length-8 Inv-loop μ-loop
 same-length-8 c = omega arith
 
-same-length-9 : tie.Need-same-length-9 Inv-loop μ-loop
-same-length-9 c = omega arith
-
-same-length-10 : tie.Need-same-length-10 Inv-loop μ-loop
-same-length-10 c = omega arith
-
 returns-2 : tie.Need-returns-2 Inv-loop μ-loop
 returns-2 c = search needs
 
@@ -95,11 +89,9 @@ answer-all-spec =
     same-length-2
     same-length-3
     same-length-4
-    same-length-5
     returns
+    same-length-5
     same-length-6
     same-length-7
     same-length-8
-    same-length-9
-    same-length-10
     returns-2)

@@ -34,13 +34,14 @@ fn main() -> io::Result<()> {
             }
             continue;
         }
-        if !(line.starts_with("0 exact ") || case.call == Call::Propagation)
+        if !(line.starts_with("0 exact ") || case.call.takes_constraints())
             || case.n() > MOST_DEFINED
         {
             continue;
         }
         let checked = match case.call {
             Call::Propagation => propagation(&case, &line).map(|done| (0, done)),
+            Call::Allow => allow(&case, &line).map(|done| (0, done)),
             _ => field_call(&case, &line),
         };
         match checked {
@@ -240,7 +241,7 @@ fn field_call(case: &Case, line: &str) -> Checked {
                 "a best completion breaks a value",
             )?;
         }
-        Call::Propagation | Call::Mend => {}
+        Call::Propagation | Call::Allow | Call::Mend => {}
     }
     Ok((defined, 1))
 }
@@ -396,6 +397,23 @@ fn propagation(case: &Case, line: &str) -> Result<u64, String> {
         ok,
         "an assignment meets the constraints and breaks a value",
     )?;
+    Ok(1)
+}
+
+/// Yes comes with the least of all assignments that meet the constraints, and on no there is none.
+fn allow(case: &Case, line: &str) -> Result<u64, String> {
+    if case.n() > MOST || !line.starts_with("0 ") {
+        return Ok(0);
+    }
+    let constraints: Vec<_> = case
+        .constraints
+        .chunks_exact(3)
+        .map(|t| (usize::from(t[0]), usize::from(t[1]), usize::from(t[2])))
+        .collect();
+    let list = |x: usize| (0..case.n()).map(|i| (x >> i & 1) as u8).collect::<Vec<_>>();
+    let least = (0..1 << case.n()).filter(|&x| meets(x, &constraints)).map(list).min();
+    let given = line.starts_with("0 yes ").then(|| digits(line, "assignment"));
+    same("assignment", &given, &least)?;
     Ok(1)
 }
 

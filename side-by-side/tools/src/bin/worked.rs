@@ -1,18 +1,18 @@
-//! Document 01's values worked by hand, its two that were run, and document 02's examples under C-11, C-13, C-14, C-17, C-18, C-19 and C-21.
+//! Document 01's values worked by hand, its two that were run, and document 02's examples under C-11, C-13, C-14, C-17, C-18, C-19, C-20 and C-21.
 //! Usage: `worked` writes them as a stream of cases, `worked ANSWERS` checks the answers to it.
 
 use std::io::{self, BufWriter, Write};
 use stream::line::part;
 use stream::{Call, Case};
 use tools::recorded::{
-    ample, kept_case, listed_case, reason_case, worked_case, Worked, FLAT, KEPT, LISTED, REASONS,
+    allow_case, ample, kept_case, listed_case, reason_case, worked_case, Worked, ALLOWED, FLAT, KEPT, LISTED, REASONS,
     SMALLER, WORKED,
 };
 
 /// A value's name, the call, and what stands in the answer: its first words, a part's name and content.
 type Expected = (&'static str, Call, &'static str, &'static str, &'static str);
 
-const EXPECTED: [Expected; 120] = [
+const EXPECTED: [Expected; 138] = [
     ("a", Call::Closure, "0 exact ", "values", ""),
     ("b", Call::Closure, "0 exact ", "values", "2"),
     ("b", Call::Preprocess, "0 exact ", "values", "0"),
@@ -367,6 +367,24 @@ const EXPECTED: [Expected; 120] = [
         "1,0,8000000000000000;0,1,0000000000000000",
     ),
     ("good", Call::Mend, "0 exact ", "changes", ""),
+    ("both kinds", Call::Allow, "0 no=0 ", "assignment", "22"),
+    ("both kinds", Call::Allow, "0 no=0 ", "counts", "4,4,4,4"),
+    ("all four", Call::Allow, "0 no=0 ", "assignment", "22"),
+    ("all four", Call::Allow, "0 no=0 ", "counts", "4,4,4,4"),
+    ("exactly one", Call::Allow, "0 yes ", "assignment", "01"),
+    ("exactly one", Call::Allow, "0 yes ", "counts", "2,2,2,2"),
+    ("x0 is 1", Call::Allow, "0 yes ", "assignment", "10"),
+    ("x0 is 1", Call::Allow, "0 yes ", "counts", "4,1,2,2"),
+    ("chain", Call::Allow, "0 yes ", "assignment", "011"),
+    ("chain", Call::Allow, "0 yes ", "counts", "3,1,3,2,3,2"),
+    ("forced", Call::Allow, "0 yes ", "assignment", "101"),
+    ("forced", Call::Allow, "0 yes ", "counts", "6,3,3,6,6,3"),
+    ("x1 is neither", Call::Allow, "0 no=1 ", "assignment", "222"),
+    ("x1 is neither", Call::Allow, "0 no=1 ", "counts", "1,1,4,4,4,4"),
+    ("no variables", Call::Allow, "0 yes ", "assignment", ""),
+    ("no variables", Call::Allow, "0 yes ", "counts", ""),
+    ("no records", Call::Allow, "0 yes ", "assignment", "0"),
+    ("no records", Call::Allow, "0 yes ", "counts", "1,1"),
 ];
 
 fn worked_field(name: &str) -> &'static Worked {
@@ -410,6 +428,11 @@ fn case_of(&(name, call, ..): &Expected) -> Case {
         let &(name, linear, entries, start, script) =
             KEPT.iter().find(|row| row.0 == name).expect("a record");
         return kept_case(name, linear, entries, start, script);
+    }
+    if call == Call::Allow {
+        let row = ALLOWED.iter().find(|row| row.0 == name);
+        let (_, variables, constraints) = row.expect("a worked list");
+        return allow_case(*variables, constraints);
     }
     if call == Call::Reason {
         let (field, variable) = name.split_once(": x").expect("a variable");
