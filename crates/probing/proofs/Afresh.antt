@@ -74,7 +74,7 @@ module _ (F : Field) (i : ℕ) where
     pub queue : other .queue ≡ run .queue
     pub rows-long : length (other .rows) ≡ length (run .rows)
 
-  at-same : (run : Run) (k : ℕ) → Same run (freshAt F i run k)
+  pub at-same : (run : Run) (k : ℕ) → Same run (freshAt F i run k)
   unfolding freshAt freshRow
   at-same run k = go (isFree run (otherEnd (F .rows) (F .cols) i k))
     where
@@ -90,11 +90,11 @@ module _ (F : Field) (i : ℕ) where
       let b = at-same run k in
       record { values = a .values ∙ b .values; queue = a .queue ∙ b .queue; rows-long = a .rows-long ∙ b .rows-long }
 
-  at-here : (run : Run) (k t : ℕ) → getD (run .values) t 0 ≡ 2 → t < length (run .rows) → otherEnd (F .rows) (F .cols) i k ≡ t → rowFor (freshAt F i run k) t ≡ rowOf F (run .values) t
+  pub at-here : (run : Run) (k t : ℕ) → getD (run .values) t 0 ≡ 2 → t < length (run .rows) → otherEnd (F .rows) (F .cols) i k ≡ t → rowFor (freshAt F i run k) t ≡ rowOf F (run .values) t
   unfolding freshAt freshRow
   at-here run k t free l e = rw (e, eq-eqb (getD (run .values) t 0) 2 free) (getD-set-same (run .rows) t (rowOf F (run .values) t) noRow l)
 
-  at-other : (run : Run) (k t : ℕ) → otherEnd (F .rows) (F .cols) i k ≢ t → rowFor (freshAt F i run k) t ≡ rowFor run t
+  pub at-other : (run : Run) (k t : ℕ) → otherEnd (F .rows) (F .cols) i k ≢ t → rowFor (freshAt F i run k) t ≡ rowFor run t
   unfolding freshAt freshRow
   at-other run k t ne = go (isFree run (otherEnd (F .rows) (F .cols) i k))
     where

@@ -1,12 +1,11 @@
 -- From the workspace to a probe: the value is added, the neighbours' rows are made afresh, and the scan covers every strict row. Assumes nothing.
-use Prim.Native.Nat.{ℕ, zero, suc, _+_, _<_, _≤_}
+use Prim.Native.Nat.{ℕ, _+_, _<_, _≤_}
 use mathlib.Core.Path.{_≡_, refl, sym, ap, _∙_}
-use mathlib.Core.Logic.{_≢_, _⊎_, inl, inr, ⊎-elim}
+use mathlib.Core.Logic.{_⊎_, inl, inr}
 use mathlib.Core.Bool.{true}
-use mathlib.Core.List.{List, [], _∷_}
-use native.Mathlib.Decide.{ℕ-discrete}
+use mathlib.Core.List.{List, []}
 use native.Mathlib.Omega.{arith}
-use lib.ListN.{length, getD, set, length-set}
+use lib.ListN.{getD, set, length-set}
 use lib.Ieee.{Float}
 use Rattle.scratch.specs.Region.{region}
 use Rattle.scratch.proofs.Region.{region-at}
@@ -17,7 +16,7 @@ use Rattle.rows.specs.Row.{isStrict}
 use Rattle.rows.specs.Model.{rowOf}
 use Rattle.rows.specs.Stored.{rowOn, upTo}
 use Rattle.rows.proofs.Upto.{getD-upTo, upTo-same}
-use Rattle.places.specs.Places.{places, otherEnd}
+use Rattle.places.specs.Places.{places}
 use Rattle.places.proofs.Places.{places-touch}
 use Rattle.run.specs.Run.{Run, noRow, rowFor, scanTo, work, propagate}
 use Rattle.run.specs.Cells.{Cells, cells, base, runIn, Placed, Does}
@@ -27,26 +26,8 @@ use Rattle.run.proofs.Turns.{propagate-does}
 use Rattle.probing.specs.Remembered.{fresh, remembered, probeRun, candidates, Remembers, Probes}
 use Rattle.scanning.specs.Merge.{listAt, Listed, Joined, Covers}
 use Rattle.probing.proofs.Afresh.{None, row-elsewhere, rows-fresh}
+use Rattle.probing.proofs.Leads.{Leads, leads-or-none}
 use Rattle.scanning.proofs.Scanned.{Scanned, scanned}
-
--- ---- a place that leads to t, or none
-
-pub record Leads (F : Field) (i t : ℕ) (ks : List ℕ) : Type 0 where
-  pub place : ℕ
-  pub within : place < length ks
-  pub other : otherEnd (F .rows) (F .cols) i (getD ks place 0) ≡ t
-
-pub leads-or-none : (F : Field) (i t : ℕ) (ks : List ℕ) → Leads F i t ks ⊎ None F i t ks
-leads-or-none F i t [] = inr (λ x h. absurd (omega arith))
-leads-or-none F i t (k ∷ ks) = go (ℕ-discrete (otherEnd (F .rows) (F .cols) i k) t) (leads-or-none F i t ks)
-  where
-    more : otherEnd (F .rows) (F .cols) i k ≢ t → None F i t ks → None F i t (k ∷ ks)
-    more ne none zero h = ne
-    more ne none (suc x) h = none x (omega arith)
-
-    go : Dec (otherEnd (F .rows) (F .cols) i k ≡ t) → Leads F i t ks ⊎ None F i t ks → Leads F i t (k ∷ ks) ⊎ None F i t (k ∷ ks)
-    go (yes e) rest = inl (record { place = 0; within = omega arith; other = e })
-    go (no ne) rest = ⊎-elim (λ h. inl (record { place = suc (h .place); within = omega (arith, h .within); other = h .other })) (λ h. inr (more ne h)) rest
 
 module _ {F : Field} {s : List ℕ} {f : List Float} {u : List ℕ} {many : ℕ} (R : Remembers F s f u many) where
   -- ---- the candidates in their place

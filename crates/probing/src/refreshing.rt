@@ -1,6 +1,8 @@
 // Rows made afresh at the values, each from its variable's places.
 use rows::Row;
 use rows::store::put_row;
+use scanning::merging::next_place;
+use scratch::wide_short;
 use scratch::wide_word;
 ghost use mathlib.Core.Path.{_≡_};
 ghost use Prim.Native.Nat.{_<_};
@@ -11,6 +13,7 @@ ghost use Rattle.rows.specs.Model.{rowOf};
 ghost use Rattle.places.specs.Places.{otherEnd};
 ghost use Rattle.run.specs.Cells.{cells, Placed, Does};
 ghost use Rattle.probing.specs.Remembered as model;
+ghost use Rattle.probing.specs.Once as once;
 
 // The term of place k goes into the row of t.
 fn add_place(
@@ -85,7 +88,45 @@ fn refresh_at(
     put_row(f, c.len(), t, row);
 }
 
-// The rows of the free neighbours of i are made afresh, in the entries' order.
+// Place k of variable i, once for each neighbour: where i is not the row of entry k, and is the row of another that leads there too,
+// that one will do. The cursor x goes through the places of i as the row, whose columns rise as the rows of entry k do.
+fn refresh_once(
+    c: &[f64],
+    rows: &[u16],
+    cols: &[u16],
+    q: &[f64],
+    values: &[u8],
+    f: &mut [f64],
+    u: &[u32],
+    i: usize,
+    k: usize,
+    x: usize,
+    end: usize,
+) -> usize
+    requires { ⌜ Placed (lent c rows cols q) (cells (now values) (now f) (now u) 0) ⌝ }
+    requires { ⌜ Standard (lent c rows cols q) ⌝ }
+    requires { ⌜ k < entries (lent c rows cols q) ⌝ }
+    requires { ⌜ once.Within (lent c rows cols q) (now u) i end x ⌝ }
+    ensures { λ r. ⌜ once.Within (given c rows cols q) (before u) i end r ⌝ }
+    ensures { λ r. ⌜ once.Once (given c rows cols q) i k
+        (cells (before values) (before f) (before u) 0)
+        (cells (before values) (after f) (before u) 0) ⌝ }
+{
+    let t = wide_short(rows[k]);
+    if t == i {
+        refresh_at(c, rows, cols, q, values, f, u, i, k);
+        return x;
+    }
+    let n = c.len();
+    let twin = next_place(rows, cols, u, n + 1, x, end, i, t, n);
+    if twin.head == t {
+        return twin.at;
+    }
+    refresh_at(c, rows, cols, q, values, f, u, i, k);
+    twin.at
+}
+
+// The rows of the free neighbours of i are made afresh, each once.
 pub fn refresh(
     c: &[f64],
     rows: &[u16],
@@ -106,8 +147,9 @@ pub fn refresh(
     let n = c.len();
     let start = wide_word(u[i]);
     let end = wide_word(u[i + 1]);
+    let mut x = start;
     for p in start..end {
         let k = wide_word(u[n + 1 + p]);
-        refresh_at(c, rows, cols, q, values, f, u, i, k);
+        x = refresh_once(c, rows, cols, q, values, f, u, i, k, x, end);
     }
 }

@@ -50,7 +50,7 @@ fn picks(near: &[u16], far: &[u16], k: usize, i: usize, b: usize) -> bool
 }
 
 // The next place with the end i in the one list whose end in the other is b or more.
-fn next_place(
+pub fn next_place(
     near: &[u16],
     far: &[u16],
     u: &[u32],

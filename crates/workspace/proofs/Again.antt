@@ -24,7 +24,8 @@ use Rattle.scanning.specs.Merge.{In}
 use Rattle.probing.specs.Remembered.{freshAll, fresh, remembered, probeRun, Remembers, Probes}
 use Rattle.workspace.specs.Restored.{From, Reached, Touched}
 use Rattle.probing.proofs.Afresh.{None, all-same, none-kept}
-use Rattle.probing.proofs.Probing.{Leads, leads-or-none, probed-below}
+use Rattle.probing.proofs.Leads.{Leads, leads-or-none}
+use Rattle.probing.proofs.Probing.{probed-below}
 use Rattle.workspace.proofs.Touching.{Fixed, TouchedRun, propagate-touches}
 
 -- a variable of the queue stands in the words

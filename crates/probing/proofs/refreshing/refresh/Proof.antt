@@ -1,27 +1,25 @@
--- `refresh` is the model's fold over the places of a variable. Assumes nothing.
+-- `refresh` makes the rows of a variable's free neighbours afresh, each once, which is the model's fold over its places. Assumes nothing.
 use Prim.Native.Nat.{_-_}
 use native.Mathlib.Omega.{arith}
 use Rattle.field.specs.Field.{fieldOf}
-use Rattle.places.proofs.Walk.{walk-turn}
-use Rattle.run.specs.Cells.{cells}
-use Rattle.probing.proofs.Refreshed.{Refreshing, refresh-start, refresh-turn, refresh-done}
+use Rattle.probing.proofs.Refreshed.{Refreshing, refresh-start, refresh-reads, refresh-turn, refresh-done}
 use borrow.Author.Needs.{needs}
 use Rattle.probing.proofs.refreshing.refresh.Statement.{statement}
 use Rattle.probing.proofs.refreshing.refresh.Tie as tie
 
 abbrev Inv-loop : tie.InvT-loop
-Inv-loop c rows cols q values f₀ u i n start end p₀ f p = Refreshing (fieldOf c rows cols q) i end p (cells values f₀ u 0) (cells values f u 0)
+Inv-loop c rows cols q values f₀ u i n start end x₀ p₀ f x p = Refreshing (fieldOf c rows cols q) i end p x values u f₀ f
 
 abbrev μ-loop : tie.MeasureT-loop
-μ-loop c rows cols q values f₀ u i n start end p₀ f p = end - p
+μ-loop c rows cols q values f₀ u i n start end x₀ p₀ f x p = end - p
 
 mul-wide-word : tie.Need-mul-wide-word Inv-loop μ-loop
 mul-wide-word c = search needs
 
 shared-slice-read-wide-word : tie.Need-shared-slice-read-wide-word Inv-loop μ-loop
 shared-slice-read-wide-word c =
-    let start = c .before .before .before .before .before .before .before .before in
-    omega (arith, start .pre .0 .words-room, start .pre .1 .1)
+    let at-start = c .before .before .before .before .before .before .before .before in
+    omega (arith, at-start .pre .0 .words-room, at-start .pre .1 .1)
 
 wide-word-requires : tie.Need-wide-word-requires Inv-loop μ-loop
 wide-word-requires c κs = search needs
@@ -34,8 +32,8 @@ mul-wide-word-2 c = search needs
 
 shared-slice-read-wide-word-2 : tie.Need-shared-slice-read-wide-word-2 Inv-loop μ-loop
 shared-slice-read-wide-word-2 c =
-    let start = c .before .before .before .before .before .before .before .before .before .before in
-    omega (arith, start .pre .0 .words-room, start .pre .1 .1)
+    let at-start = c .before .before .before .before .before .before .before .before .before .before in
+    omega (arith, at-start .pre .0 .words-room, at-start .pre .1 .1)
 
 wide-word-requires-2 : tie.Need-wide-word-requires-2 Inv-loop μ-loop
 wide-word-requires-2 c κs = search needs
@@ -43,42 +41,30 @@ wide-word-requires-2 c κs = search needs
 loop-holds : tie.Need-loop-holds Inv-loop μ-loop
 loop-holds c =
     let at-wide-word = c .before .before in
-    let start = at-wide-word .before .before .before .before .before .before .before .before .before in
-    refresh-start (start .pre .0) (start .pre .1 .1) (at-wide-word .wide-word .ensures) (c .wide-word2 .ensures)
+    let at-start = at-wide-word .before .before .before .before .before .before .before .before .before in
+    refresh-start (at-start .pre .0) (at-start .pre .1 .1) (at-wide-word .wide-word .ensures) (c .wide-word2 .ensures)
 
 add-wide-word-2 : tie.Need-add-wide-word-2 Inv-loop μ-loop
 add-wide-word-2 c = search needs
 
 add-wide-word-3 : tie.Need-add-wide-word-3 Inv-loop μ-loop
-add-wide-word-3 c = omega (arith, walk-turn (c .before .loop .inv .along .walk) (c .loop-test .taken) .index)
+add-wide-word-3 c = omega (arith, refresh-reads (c .before .loop .inv) (c .loop-test .taken) .0)
 
 mul-wide-word-3 : tie.Need-mul-wide-word-3 Inv-loop μ-loop
-mul-wide-word-3 c = omega (arith, walk-turn (c .before .loop .inv .along .walk) (c .loop-test .taken) .index)
+mul-wide-word-3 c = omega (arith, refresh-reads (c .before .loop .inv) (c .loop-test .taken) .0)
 
 shared-slice-read-wide-word-3 : tie.Need-shared-slice-read-wide-word-3 Inv-loop μ-loop
-shared-slice-read-wide-word-3 c = walk-turn (c .before .before .loop .inv .along .walk) (c .before .loop-test .taken) .index
+shared-slice-read-wide-word-3 c = refresh-reads (c .before .before .loop .inv) (c .before .loop-test .taken) .0
 
 wide-word-requires-3 : tie.Need-wide-word-requires-3 Inv-loop μ-loop
 wide-word-requires-3 c κs = search needs
 
-refresh-at-requires : tie.Need-refresh-at-requires Inv-loop μ-loop
-refresh-at-requires c κs =
-    let at-wide-word3 = c .before in
-    let at-loop-test = at-wide-word3 .before .before in
+refresh-once-requires : tie.Need-refresh-once-requires Inv-loop μ-loop
+refresh-once-requires c κs =
+    let at-loop-test = c .before .before .before in
     let at-loop = at-loop-test .before in
-    let start = at-loop .before .before .before .before .before .before .before .before .before .before .before .before in (
-      at-loop .loop .inv .kept .placed,
-      (
-        start .pre .1 .0,
-        omega (
-          arith,
-          at-wide-word3 .wide-word3 .ensures,
-          walk-turn (at-loop .loop .inv .along .walk)
-              (at-loop-test .loop-test .taken) .entry,
-          start .pre .0 .shaped .rows-long,
-        ),
-      ),
-    )
+    let at-start = at-loop .before .before .before .before .before .before .before .before .before .before .before .before in
+    (at-loop .loop .inv .kept .placed, (at-start .pre .1 .0, (omega (arith, c .before .wide-word3 .ensures, refresh-reads (at-loop .loop .inv) (at-loop-test .loop-test .taken) .1 .1), at-loop .loop .inv .cursor)))
 
 add-p : tie.Need-add-p Inv-loop μ-loop
 add-p c = omega arith
@@ -88,11 +74,11 @@ loop-less c = omega (arith, c .before .before .before .before .before .before .l
 
 loop-again : tie.Need-loop-again Inv-loop μ-loop
 loop-again c =
-    let at-refresh-at = c .before .before in
-    let at-wide-word3 = at-refresh-at .before .before in
+    let at-refresh-once = c .before .before in
+    let at-wide-word3 = at-refresh-once .before .before in
     let at-loop-test = at-wide-word3 .before .before in
     let at-loop = at-loop-test .before in
-    refresh-turn (at-loop .loop .inv) (at-loop-test .loop-test .taken) (at-wide-word3 .wide-word3 .ensures) (at-refresh-at .refresh-at .ensures)
+    refresh-turn (at-loop .loop .inv) (at-loop-test .loop-test .taken) (at-wide-word3 .wide-word3 .ensures) (at-refresh-once .refresh-once .ensures .0) (at-refresh-once .refresh-once .ensures .1)
 
 same-length : tie.Need-same-length Inv-loop μ-loop
 same-length c = c .before .loop .inv .kept .floats-long
@@ -119,7 +105,7 @@ refresh-spec =
     mul-wide-word-3
     shared-slice-read-wide-word-3
     wide-word-requires-3
-    refresh-at-requires
+    refresh-once-requires
     add-p
     loop-less
     loop-again
