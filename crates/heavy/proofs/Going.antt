@@ -33,10 +33,9 @@ module _ {F : Field} {s t : List ℕ} {floats words : ℕ} (R : Ready F s floats
   lay-room ek eu = omega (arith, R .words-room, R .sound .shaped .rows-long, R .sound .start .long)
 
   -- which go over those of preprocess
-  pub round-is : (u : List ℕ) {t′ : List ℕ} {k : ℕ} → k ≡ length s → valuesLeft F u ≡ probeValues F t → t′ ≡ laidOver (region (valuesAt F) k u) t
-      → t′ ≡ round F s
+  pub round-is : (u : List ℕ) {t′ : List ℕ} → valuesLeft F u ≡ probeValues F t → t′ ≡ laidOver (region (valuesAt F) (length t) u) t → t′ ≡ round F s
   unfolding round
-  round-is u ek ev el = el ∙ rw (ek ∙ R .sound .start .long, ev, e)
+  round-is u ev el = let long : length t ≡ variables F = ap length e ∙ preprocess-start (R .sound) .long in el ∙ rw (long, ev, e)
 
 -- ---- the loop
 

@@ -13,6 +13,7 @@ use Rattle.meaning.specs.Free.{freeTo}
 use Rattle.meaning.proofs.Free.{free-at}
 use Rattle.field.specs.Field.{Field, variables}
 use Rattle.field.specs.Tests.{Ready}
+use Rattle.probing.specs.declared.Known.{Known}
 use Rattle.probing.specs.Remembered.{Remembers}
 use Rattle.finding.specs.Finds.{valuesOf}
 use Rattle.twin.specs.Twin.{firstAt}
@@ -27,7 +28,7 @@ use Rattle.heavy.specs.Rounds.{probeValues}
 pub walk-room : {F : Field} {s : List ℕ} {floats words : ℕ} → Ready F s floats words → {k : ℕ} → k ≡ words → gatherAt F + variables F ≤ k
 walk-room R e = omega (arith, R .words-room, R .sound .shaped .rows-long)
 
-module _ {F : Field} {s : List ℕ} {f : List Float} {u u₁ u₂ : List ℕ} {many count : ℕ} (R : Remembers F s f u many) (space : gatherAt F + variables F ≤ length u)
+module _ {F : Field} {s : List ℕ} {f : List Float} {u u₁ u₂ : List ℕ} {known : Known} {count : ℕ} (R : Remembers F s f u known) (space : gatherAt F + variables F ≤ length u)
     (L : Listed s (candidatesAt F) (length s) u u₁ count) (N : Noned (firstAt F) (variables F + variables F) u₁ u₂) where
   few : count ≤ variables F
   few = omega (arith, L .few, R .start .long)
@@ -56,7 +57,7 @@ module _ {F : Field} {s : List ℕ} {f : List Float} {u u₁ u₂ : List ℕ} {m
       = sym (region-at (candidatesAt F) count u₂ h 0 l) ∙ ap (λ (z : List ℕ). getD z h 0) candidates in
       rw e (free-at s (variables F) h (omega arith) .1)
 
-  pub all-walkable : Walkable F s f u₂ many count
+  pub all-walkable : Walkable F s f u₂ known count
   all-walkable = record {
     remembers = remembers-front F u u₂ front long R;
     few = R .placed .shaped .few-variables;

@@ -1,6 +1,8 @@
 // The values of a full probe, left in the words.
+use field::Grade;
 use probe::values::copy;
 use probes::values::set_none;
+use probing::Known;
 use ranking::listing::list_free;
 use walking::walk_values;
 use workspace::remembering::remember;
@@ -10,6 +12,7 @@ ghost use lib.ListN.{length};
 ghost use Rattle.scratch.specs.Lent.{before, after};
 ghost use Rattle.field.specs.Field.{lent, given, variables};
 ghost use Rattle.field.specs.Tests.{Ready};
+ghost use Rattle.field.specs.Grade.{gradeOf};
 ghost use Rattle.probing.specs.Remembered.{Remembers};
 ghost use Rattle.walking.specs.Walk.{gatherAt, valuesLeft};
 ghost use Rattle.heavy.specs.Rounds.{probeValues};
@@ -24,9 +27,9 @@ fn walk_free(
     values: &mut [u8],
     f: &mut [f64],
     u: &mut [u32],
-    many: usize,
+    known: Known,
 )
-    requires { ⌜ Remembers (lent c rows cols q) (now start) (now f) (now u) many ⌝ }
+    requires { ⌜ Remembers (lent c rows cols q) (now start) (now f) (now u) known ⌝ }
     requires { ⌜ now values ≡ now start ⌝ }
     requires { ⌜ gatherAt (lent c rows cols q) + variables (lent c rows cols q) ≤ length (now u) ⌝ }
     ensures { λ _. ⌜ valuesLeft (given c rows cols q) (after u) ≡ probeValues (given c rows cols q) (before start) ⌝ }
@@ -35,7 +38,7 @@ fn walk_free(
     let first = n + 1 + 2 * rows.len() + n + n;
     let count = list_free(start, u, first + n + n);
     set_none(u, first, n + n);
-    walk_values(c, rows, cols, q, start, values, f, u, many, count);
+    walk_values(c, rows, cols, q, start, values, f, u, known, count);
 }
 
 // Both probes of every free variable; the values, n bytes, are what they work in.
@@ -48,12 +51,14 @@ pub fn probe_values(
     values: &mut [u8],
     f: &mut [f64],
     u: &mut [u32],
+    grade: Grade,
 )
     requires { ⌜ Ready (lent c rows cols q) (now start) (length (now f)) (length (now u)) ⌝ }
     requires { ⌜ length (now values) ≡ variables (lent c rows cols q) ⌝ }
+    requires { ⌜ grade ≡ gradeOf (lent c rows cols q) ⌝ }
     ensures { λ _. ⌜ valuesLeft (given c rows cols q) (after u) ≡ probeValues (given c rows cols q) (before start) ⌝ }
 {
     copy(start, values);
-    let many = remember(c, rows, cols, q, start, values, f, u);
-    walk_free(c, rows, cols, q, start, values, f, u, many);
+    let known = remember(c, rows, cols, q, start, values, f, u, grade);
+    walk_free(c, rows, cols, q, start, values, f, u, known);
 }

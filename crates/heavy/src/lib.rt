@@ -7,11 +7,13 @@ use crate::bytes::lay;
 use crate::full::probe_values;
 use field::Answer;
 use field::Checked;
+use field::Grade;
 ghost use mathlib.Core.Path.{_≡_};
 ghost use lib.ListN.{length};
 ghost use Rattle.scratch.specs.Lent.{before, after};
 ghost use Rattle.field.specs.Field.{lent, given, variables};
 ghost use Rattle.field.specs.Tests.{Ready};
+ghost use Rattle.field.specs.Grade.{gradeOf};
 ghost use Rattle.calls.specs.Values.{left};
 ghost use Rattle.heavy.specs.Rounds.{round as roundOf, heavy as heavyOf};
 ghost use Rattle.heavy.specs.Call.{heavyCall};
@@ -26,15 +28,17 @@ fn round(
     probed: &mut [u8],
     f: &mut [f64],
     u: &mut [u32],
+    grade: Grade,
 )
     requires { ⌜ Ready (lent c rows cols q) (now values) (length (now f)) (length (now u)) ⌝ }
     requires { ⌜ length (now probed) ≡ variables (lent c rows cols q) ⌝ }
+    requires { ⌜ grade ≡ gradeOf (lent c rows cols q) ⌝ }
     ensures { λ _. ⌜ after values ≡ roundOf (given c rows cols q) (before values) ⌝ }
 {
     let n = c.len();
     let at = n + 1 + 2 * rows.len() + n + n + n;
     preprocess::work(c, rows, cols, q, values, f, u);
-    probe_values(c, rows, cols, q, values, probed, f, u);
+    probe_values(c, rows, cols, q, values, probed, f, u, grade);
     lay(values, u, at);
 }
 
@@ -48,14 +52,16 @@ fn rounds(
     probed: &mut [u8],
     f: &mut [f64],
     u: &mut [u32],
+    grade: Grade,
 )
     requires { ⌜ Ready (lent c rows cols q) (now values) (length (now f)) (length (now u)) ⌝ }
     requires { ⌜ length (now probed) ≡ variables (lent c rows cols q) ⌝ }
+    requires { ⌜ grade ≡ gradeOf (lent c rows cols q) ⌝ }
     ensures { λ _. ⌜ after values ≡ heavyOf (given c rows cols q) (before values) ⌝ }
 {
     let mut free = count_free(values);
     for k in 0..c.len() {
-        round(c, rows, cols, q, values, probed, f, u);
+        round(c, rows, cols, q, values, probed, f, u, grade);
         let still = count_free(values);
         if still == free {
             return;
@@ -73,12 +79,24 @@ fn work(
     values: &mut [u8],
     f: &mut [f64],
     u: &mut [u32],
+    grade: Grade,
 )
     requires { ⌜ Ready (lent c rows cols q) (now values) (length (now f)) (length (now u)) ⌝ }
+    requires { ⌜ grade ≡ gradeOf (lent c rows cols q) ⌝ }
     ensures { λ _. ⌜ after values ≡ heavyOf (given c rows cols q) (before values) ⌝ }
 {
     let mut probed = [2; 4096];
-    rounds(c, rows, cols, q, values, &mut probed[..c.len()], f, u);
+    rounds(
+        c,
+        rows,
+        cols,
+        q,
+        values,
+        &mut probed[..c.len()],
+        f,
+        u,
+        grade,
+    );
 }
 
 // The values found go into the start values; a refusal changes nothing.
@@ -98,7 +116,7 @@ pub fn heavy(
         return Answer::Refused(refusal);
     }
     let grade = field::grading::graded(c, rows, cols, q);
-    work(c, rows, cols, q, start, f, u);
+    work(c, rows, cols, q, start, f, u, grade);
     scratch::clear_floats(f);
     scratch::clear_words(u);
     Answer::Done(grade)

@@ -12,9 +12,10 @@ use Rattle.scratch.proofs.Region.{length-region, region-at}
 use Rattle.meaning.specs.Free.{freeTo}
 use Rattle.meaning.proofs.Free.{free-few, free-at}
 use Rattle.field.specs.Field.{Field, variables}
-use Rattle.field.specs.Tests.{Finite, Ready}
+use Rattle.field.specs.Tests.{Ready}
 use Rattle.rows.specs.Stored.{rowOn}
 use Rattle.run.proofs.Cells.{placed-start}
+use Rattle.probing.specs.declared.Known.{Known}
 use Rattle.probing.specs.Remembered.{Remembers}
 use Rattle.twin.specs.Twin.{firstAt}
 use Rattle.twin.proofs.Framed.{remembers-front}
@@ -44,10 +45,9 @@ ranked-free F s limit = take-every (Free s) limit (ranks F s) (ordered-every (ah
 
 -- ---- the workspace with them
 
-standing-of : {F : Field} {s : List ℕ} {f : List Float} {u cands : List ℕ} {many count : ℕ} → Finite F → Remembers F s f u many → count ≤ variables F
-    → gatherAt F + variables F ≤ length u → region (candidatesAt F) count u ≡ cands → Every (Free s) cands → Standing F s f u many count
-standing-of {F} {s} {f} {u} {cands} {many} {count} finite R within space are free = record {
-  finite-weights = finite;
+standing-of : {F : Field} {s : List ℕ} {f : List Float} {u cands : List ℕ} {known : Known} {count : ℕ} → Remembers F s f u known → count ≤ variables F
+    → gatherAt F + variables F ≤ length u → region (candidatesAt F) count u ≡ cands → Every (Free s) cands → Standing F s f u known count
+standing-of {F} {s} {f} {u} {cands} {known} {count} R within space are free = record {
   remembers = R;
   within = within;
   free = λ h l.
@@ -74,9 +74,9 @@ module _ {F : Field} {s : List ℕ} {floats words : ℕ} (A : Ready F s floats w
     pub free-are : region (candidatesAt F) count u′ ≡ freeTo s (variables F)
     free-are = L .is ∙ ap (freeTo s) (A .sound .start .long)
 
-    pub free-standing : {f : List Float} {many : ℕ} → Remembers F s f u many → length u ≡ words → Standing F s f u′ many count
+    pub free-standing : {f : List Float} {known : Known} → Remembers F s f u known → length u ≡ words → Standing F s f u′ known count
     free-standing R long =
-        standing-of (A .sound .finite-weights) (remembers-front F u u′ (front-first F u u′ (L .front)) (L .long) R) (omega (arith, L .few, A .sound .start .long))
+        standing-of (remembers-front F u u′ (front-first F u u′ (L .front)) (L .long) R) (omega (arith, L .few, A .sound .start .long))
         (omega (arith, space-enough A, long, L .long)) free-are
         (all-free s (variables F))
 
@@ -98,10 +98,11 @@ module _ (F : Field) (s : List ℕ) (limit : ℕ) (f f′ : List Float) (u u′ 
   copy-same : (t : ℕ) → t < variables F → rowOn (drop (variables F + variables F) f′) (variables F) t ≡ rowOn (drop (variables F + variables F) f) (variables F) t
   copy-same t h = rw (copy-at t (omega arith), copy-at (variables F + t) (omega arith)) refl
 
-  chosen-remembers : {many : ℕ} → Remembers F s f u many → Remembers F s f′ u′ many
+  chosen-remembers : {known : Known} → Remembers F s f u known → Remembers F s f′ u′ known
   chosen-remembers R =
       let Q = remembers-front F u u′ (front-first F u u′ (C .words-front)) (C .words-long) R in record {
         placed = placed-start (Q .placed .shaped) (Q .start .long) (omega (arith, Q .placed .floats-room, C .floats-long)) (Q .placed .adjacent) (Q .placed .words-room);
+        graded = Q .graded;
         standard = Q .standard;
         start = Q .start;
         rows = λ t h. row-same t h ∙ Q .rows t h;
@@ -112,9 +113,9 @@ module _ (F : Field) (s : List ℕ) (limit : ℕ) (f f′ : List Float) (u u′ 
         listed = Q .listed;
       }
 
-  pub chosen-standing : {many floats words : ℕ} → Ready F s floats words → Remembers F s f u many → length u ≡ words → Standing F s f′ u′ many count
+  pub chosen-standing : {known : Known} {floats words : ℕ} → Ready F s floats words → Remembers F s f u known → length u ≡ words → Standing F s f′ u′ known count
   chosen-standing A R long =
-      standing-of (A .sound .finite-weights) (chosen-remembers R) (C .within) (omega (arith, space-enough A, long, C .words-long)) (C .are) (ranked-free F s limit)
+      standing-of (chosen-remembers R) (C .within) (omega (arith, space-enough A, long, C .words-long)) (C .are) (ranked-free F s limit)
 
 -- ---- the ranks in their place
 

@@ -6,6 +6,7 @@ use native.Mathlib.Omega.{arith}
 use lib.Ieee.{Float}
 use lib.ListN.{length, getD, replicate}
 use lib.Seq.{ext-getD}
+use Rattle.probing.specs.declared.Known.{Known}
 use Rattle.scratch.specs.Region.{region}
 use Rattle.scratch.proofs.Region.{length-region, region-at}
 use Rattle.constraints.specs.Record.{room, filled}
@@ -70,7 +71,7 @@ values-small F s cands (suc k) j h =
 
 -- ---- before the walk
 
-module _ {F : Field} {s : List ℕ} {f : List Float} {u u′ : List ℕ} {many count : ℕ} (S : Standing F s f u many count)
+module _ {F : Field} {s : List ℕ} {f : List Float} {u u′ : List ℕ} {known : Known} {count : ℕ} (S : Standing F s f u known count)
     (N : Noned (firstAt F) (variables F + variables F) u u′) where
   candidate-same : (h : ℕ) → getD u′ (candidatesAt F + h) 0 ≡ getD u (candidatesAt F + h) 0
   candidate-same h = N .behind (candidatesAt F + h) (omega arith)
@@ -78,7 +79,7 @@ module _ {F : Field} {s : List ℕ} {f : List Float} {u u′ : List ℕ} {many c
   value-none : (j : ℕ) → j < variables F → getD u′ (valuesAt F + j) 0 ≡ 2
   value-none j h = let e : firstAt F + (variables F + j) ≡ valuesAt F + j = omega arith in rw e at (N .none (variables F + j) (omega arith))
 
-  pub standing-walkable : Walkable F s f u′ many count
+  pub standing-walkable : Walkable F s f u′ known count
   standing-walkable = record {
     remembers = remembers-front F u u′ (N .front) (N .long) (S .remembers);
     few = S .remembers .placed .shaped .few-variables;

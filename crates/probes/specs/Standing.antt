@@ -7,8 +7,8 @@ use lib.ListN.{length, getD, take}
 use Rattle.scratch.specs.Region.{region}
 use Rattle.field.specs.declared.Counted.the-variants.{Refuses}
 use Rattle.field.specs.Field.{Field, variables}
-use Rattle.field.specs.Tests.{Finite}
 use Rattle.calls.specs.Call.{run}
+use Rattle.probing.specs.declared.Known.{Known}
 use Rattle.probing.specs.Remembered.{Remembers}
 use Rattle.walking.specs.Walk.{candidatesAt, gatherAt}
 use Rattle.ranking.specs.Ranking.{ranks}
@@ -27,9 +27,8 @@ pub record Bytes (at n : ℕ) (u : List ℕ) : Type 0 where
   pub small : (j : ℕ) → j < n → getD u (at + j) 0 ≤ 255
 
 -- the workspace at s, `count` free variables as candidates, and room
-pub record Standing (F : Field) (s : List ℕ) (f : List Float) (u : List ℕ) (many count : ℕ) : Type 0 where
-  pub finite-weights : Finite F
-  pub remembers : Remembers F s f u many
+pub record Standing (F : Field) (s : List ℕ) (f : List Float) (u : List ℕ) (known : Known) (count : ℕ) : Type 0 where
+  pub remembers : Remembers F s f u known
   pub within : count ≤ variables F
   pub free : (h : ℕ) → h < count → getD s (getD u (candidatesAt F + h) 0) 0 ≡ 2
   pub space : gatherAt F + variables F ≤ length u

@@ -9,6 +9,7 @@ use crate::settling::settle;
 use field::Checked;
 use field::Counted;
 use probe::values::copy;
+use probing::Known;
 use ranking::listing::list_free;
 ghost use mathlib.Core.Path.{_≡_};
 ghost use lib.ListN.{length, take};
@@ -21,7 +22,7 @@ ghost use Rattle.ranking.specs.Ranking.{ranks};
 ghost use Rattle.probes.specs.Call.{left, probeCall, probeLimitedCall};
 ghost use Rattle.probes.specs.Standing.{settled};
 
-// The start values go into the values, and the workspace is made.
+// The start values go into the values, the field is graded, and the workspace is made.
 fn prepare(
     c: &[f64],
     rows: &[u16],
@@ -31,14 +32,15 @@ fn prepare(
     values: &mut [u8],
     f: &mut [f64],
     u: &mut [u32],
-) -> usize
+) -> Known
     requires { ⌜ Ready (lent c rows cols q) (now start) (length (now f)) (length (now u)) ⌝ }
     requires { ⌜ length (now values) ≡ variables (lent c rows cols q) ⌝ }
     ensures { λ _. ⌜ after values ≡ before start ⌝ }
     ensures { λ r. ⌜ Remembers (given c rows cols q) (before start) (after f) (after u) r ⌝ }
 {
+    let grade = field::grading::graded(c, rows, cols, q);
     copy(start, values);
-    workspace::remembering::remember(c, rows, cols, q, start, values, f, u)
+    workspace::remembering::remember(c, rows, cols, q, start, values, f, u, grade)
 }
 
 // The free variables are the candidates.
@@ -58,7 +60,7 @@ fn probe_all(
     ensures { λ r. ⌜ left r (after values) (after constraints) (after f) (after u) ≡ settled (given c rows cols q) (before start) (freeTo (before start) (variables (given c rows cols q))) (before values) (before constraints) (before f) (before u) ⌝ }
 {
     let n = c.len();
-    let many = prepare(c, rows, cols, q, start, values, f, u);
+    let known = prepare(c, rows, cols, q, start, values, f, u);
     let count = list_free(start, u, n + 1 + 2 * rows.len() + n + n + n + n);
     settle(
         c,
@@ -70,7 +72,7 @@ fn probe_all(
         constraints,
         f,
         u,
-        many,
+        known,
         count,
     )
 }
@@ -92,7 +94,7 @@ fn probe_some(
     requires { ⌜ length (now values) ≡ variables (lent c rows cols q) ⌝ }
     ensures { λ r. ⌜ left r (after values) (after constraints) (after f) (after u) ≡ settled (given c rows cols q) (before start) (take candidates (ranks (given c rows cols q) (before start))) (before values) (before constraints) (before f) (before u) ⌝ }
 {
-    let many = prepare(c, rows, cols, q, start, values, f, u);
+    let known = prepare(c, rows, cols, q, start, values, f, u);
     let count = choose(c, rows, cols, q, start, candidates, f, u);
     settle(
         c,
@@ -104,7 +106,7 @@ fn probe_some(
         constraints,
         f,
         u,
-        many,
+        known,
         count,
     )
 }

@@ -4,6 +4,7 @@ use crate::values::take_values;
 use field::Counted;
 use field::Refusal;
 use found::Merged;
+use probing::Known;
 ghost use mathlib.Core.Path.{_≡_};
 ghost use lib.ListN.{length};
 ghost use Rattle.weights.specs.Worth.{zero64};
@@ -51,10 +52,10 @@ fn gather(
     constraints: &mut [u16],
     f: &mut [f64],
     u: &mut [u32],
-    many: usize,
+    known: Known,
     count: usize,
 ) -> Merged
-    requires { ⌜ Standing (lent c rows cols q) (now start) (now f) (now u) many count ⌝ }
+    requires { ⌜ Standing (lent c rows cols q) (now start) (now f) (now u) known count ⌝ }
     requires { ⌜ now values ≡ now start ⌝ }
     ensures { λ r. ⌜ Walked (given c rows cols q) (before start) (region (candidatesAt (given c rows cols q)) count (before u)) (before constraints) r (after constraints) (after u) ⌝ }
 {
@@ -70,7 +71,7 @@ fn gather(
         constraints,
         f,
         u,
-        many,
+        known,
         count,
     )
 }
@@ -86,16 +87,16 @@ pub fn settle(
     constraints: &mut [u16],
     f: &mut [f64],
     u: &mut [u32],
-    many: usize,
+    known: Known,
     count: usize,
 ) -> Counted
-    requires { ⌜ Standing (lent c rows cols q) (now start) (now f) (now u) many count ⌝ }
+    requires { ⌜ Standing (lent c rows cols q) (now start) (now f) (now u) known count ⌝ }
     requires { ⌜ now values ≡ now start ⌝ }
     ensures { λ r. ⌜ left r (after values) (after constraints) (after f) (after u) ≡ settled (given c rows cols q) (before start) (region (candidatesAt (given c rows cols q)) count (before u)) (before values) (before constraints) (before f) (before u) ⌝ }
 {
     let n = c.len();
     let at = n + 1 + 2 * rows.len() + n + n + n;
-    let grade = field::grading::graded(c, rows, cols, q);
+    let grade = known.grade;
     let merged = gather(
         c,
         rows,
@@ -106,7 +107,7 @@ pub fn settle(
         constraints,
         f,
         u,
-        many,
+        known,
         count,
     );
     if let Merged::Holds(held) = merged {

@@ -22,10 +22,10 @@ use Rattle.rows.proofs.Upto.{length-upTo, getD-upTo}
 use Rattle.places.specs.Places.{places, otherEnd, Touches}
 use Rattle.places.proofs.Places.{other-column, other-row}
 use Rattle.scanning.proofs.Order.{places-all}
-use Rattle.run.specs.Run.{Run, noRow, rowFor, isFree, closureRun, closure}
+use Rattle.run.specs.Run.{Run, noRow, rowFor, isFree, propagate, closureRun}
 use Rattle.run.proofs.Room.{free-after}
 use Rattle.run.proofs.Theorems.{rows-of-free}
-use Rattle.probing.specs.Remembered.{freshRow, freshAt, freshAll, fresh, remembered, probeRun}
+use Rattle.probing.specs.Remembered.{freshRow, freshAt, freshAll, fresh, remembered}
 
 -- ---- a row that no place of i leads to does not see the value of i
 
@@ -130,7 +130,7 @@ module _ (F : Field) (i : ℕ) where
   none-kept run [] t none = refl
   none-kept run (k ∷ ks) t none = none-kept (freshAt F i run k) ks t (λ x h. none (suc x) (omega arith)) ∙ at-other run k t (none 0 (omega arith))
 
--- ---- so the probe is the closure with the one value added
+-- ---- so the run from there is that of the closure with the one value added
 
 module _ {F : Field} (S : Shaped F) {s : List ℕ} (start : StartFor (variables F) s) (i v : ℕ) (free : getD s i 0 ≡ 2) (small : v < 2) where
   -- every free variable has its row at the values
@@ -144,20 +144,12 @@ module _ {F : Field} (S : Shaped F) {s : List ℕ} (start : StartFor (variables 
       (λ e. e .0 ∙ getD-upTo (rowOf F s) (variables F) t noRow l ∙ sym (row-elsewhere S s i v t (z .0) (e .1)))
       (fresh-or-kept F i run (places (F .rows) (F .cols) i) t h (omega (arith, length-upTo (rowOf F s) (variables F))))
 
-  probe-agrees : (probeRun F s i v .values ≡ closureRun F (set s i v) .values) × (probeRun F s i v .queue ≡ closureRun F (set s i v) .queue)
-  unfolding probeRun closureRun fresh remembered
-  probe-agrees =
+  pub fresh-agrees : let run = fresh F (remembered F s (set s i v)) i in
+      (propagate F (run .values) (run .rows) .values ≡ closureRun F (set s i v) .values) × (propagate F (run .values) (run .rows) .queue ≡ closureRun F (set s i v) .queue)
+  unfolding closureRun fresh remembered
+  fresh-agrees =
       let run = remembered F s (set s i v) in
       let a = all-same F i run (places (F .rows) (F .cols) i) in
       rw (a .values) (rows-of-free F (set s i v) (upTo (rowOf F (set s i v)) (variables F)) (freshAll F i run (places (F .rows) (F .cols) i) .rows)
       (a .rows-long ∙ length-upTo (rowOf F s) (variables F) ∙ sym (length-upTo (rowOf F (set s i v)) (variables F)))
       (λ t h. rows-fresh t h ∙ sym (getD-upTo (rowOf F (set s i v)) (variables F) t noRow (omega (arith, inside s t (free-after s i v free small t h .1), start .long)))))
-
-  -- On every field, exact or not, a probe with remembered rows gives the closure of the start values with the one value added.
-  pub probe-is-closure : probeRun F s i v .values ≡ closure F (set s i v)
-  unfolding closure
-  probe-is-closure = probe-agrees .0
-
-  -- It forces the same variables in the same order.
-  pub probe-queue : probeRun F s i v .queue ≡ closureRun F (set s i v) .queue
-  probe-queue = probe-agrees .1

@@ -2,5 +2,8 @@ pub mod Placed
 pub mod Afresh
 pub mod Leads
 pub mod Once
+pub mod Moved
+pub mod Renewed
 pub mod Refreshed
+pub mod Moving
 pub mod Probing

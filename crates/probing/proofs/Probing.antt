@@ -1,4 +1,4 @@
--- From the workspace to a probe: the value is added, the neighbours' rows are made afresh, and the scan covers every strict row. Assumes nothing.
+-- From the workspace to a probe: the value is added, the neighbours' rows are renewed, and the scan covers every strict row. Assumes nothing.
 use Prim.Native.Nat.{ℕ, _+_, _<_, _≤_}
 use mathlib.Core.Path.{_≡_, refl, sym, ap, _∙_}
 use mathlib.Core.Logic.{_⊎_, inl, inr}
@@ -23,13 +23,18 @@ use Rattle.run.specs.Cells.{Cells, cells, base, runIn, Placed, Does}
 use Rattle.run.proofs.Cells.{placed-start, kept-then}
 use Rattle.run.proofs.Room.{free-after, room-scan}
 use Rattle.run.proofs.Turns.{propagate-does}
-use Rattle.probing.specs.Remembered.{fresh, remembered, probeRun, candidates, Remembers, Probes}
+use Rattle.probing.specs.declared.Known.{Known}
+use Rattle.probing.specs.Remembered.{renewed, remembered, probeRun, candidates, Remembers, Probes}
 use Rattle.scanning.specs.Merge.{listAt, Listed, Joined, Covers}
-use Rattle.probing.proofs.Afresh.{None, row-elsewhere, rows-fresh}
+use Rattle.probing.proofs.Afresh.{None}
 use Rattle.probing.proofs.Leads.{Leads, leads-or-none}
+use Rattle.probing.proofs.Renewed.{renewed-none}
 use Rattle.scanning.proofs.Scanned.{Scanned, scanned}
 
-module _ {F : Field} {s : List ℕ} {f : List Float} {u : List ℕ} {many : ℕ} (R : Remembers F s f u many) where
+module _ {F : Field} {s : List ℕ} {f : List Float} {u : List ℕ} {known : Known} (R : Remembers F s f u known) where
+  abbrev many : ℕ
+  many = known .many
+
   -- ---- the candidates in their place
 
   base-scan : Scanned (remembered F s s) (variables F) (scanTo (remembered F s s) (variables F))
@@ -72,14 +77,16 @@ module _ {F : Field} {s : List ℕ} {f : List Float} {u : List ℕ} {many : ℕ}
     unfolding runIn remembered region
     begun = ap (λ (rows : List Row). record { values = set s i v; rows = rows; queue = [] }) (upTo-same (rowOn f (variables F)) (rowOf F s) (variables F) (R .rows))
 
-    -- ---- the neighbours' rows are made afresh
+    -- ---- the neighbours' rows are renewed
 
-    module _ {f₁ : List Float} (D : Does F (λ run. fresh F run i) (cells (set s i v) f u 0) (cells (set s i v) f₁ u 0)) where
-      row-now : (t : ℕ) → t < variables F → getD (set s i v) t 0 ≡ 2 → rowOn f₁ (variables F) t ≡ rowOf F (set s i v) t
-      unfolding runIn
-      row-now t h z =
+    module _ {f₁ : List Float} (D : Does F (λ run. renewed F v run i) (cells (set s i v) f u 0) (cells (set s i v) f₁ u 0)) where
+      -- a row that no place leads to is as it was at the start values
+      row-apart : (t : ℕ) → t < variables F → None F i t (places (F .rows) (F .cols) i) → rowOn f₁ (variables F) t ≡ rowOf F s t
+      unfolding runIn remembered
+      row-apart t h none =
           sym (getD-upTo (rowOn f₁ (variables F)) (variables F) t noRow h)
-          ∙ ap (λ (run : Run). rowFor run t) (D .run ∙ ap (λ (run : Run). fresh F run i) begun) ∙ rows-fresh (R .placed .shaped) (R .start) i v free small t z
+          ∙ ap (λ (run : Run). rowFor run t) (D .run ∙ ap (λ (run : Run). renewed F v run i) begun)
+          ∙ renewed-none F i v (remembered F s (set s i v)) t none ∙ getD-upTo (rowOf F s) (variables F) t noRow h
 
       pub probe-covers : Covers F i many (cells (set s i v) f₁ u 0)
       probe-covers = record {
@@ -96,9 +103,7 @@ module _ {F : Field} {s : List ℕ} {f : List Float} {u : List ℕ} {many : ℕ}
               let k = places-touch (F .rows) (F .cols) i (l .place) (l .within) in
               inr (record { entry = getD (places (F .rows) (F .cols) i) (l .place) 0; within = k .0; touches = k .1; other = l .other })
           by t h z strict (inr none) =
-              let a = free-after s i v free small t z in
-              let e = row-now t h z ∙ row-elsewhere (R .placed .shaped) s i v t (a .0) none in
-              inl (strict-listed t h (a .1) (ap isStrict (sym e) ∙ strict))
+              inl (strict-listed t h (free-after s i v free small t z .1) (ap isStrict (sym (row-apart t h none)) ∙ strict))
 
       -- ---- the scan, then the queue
 
@@ -109,7 +114,7 @@ module _ {F : Field} {s : List ℕ} {f : List Float} {u : List ℕ} {many : ℕ}
           let P = propagate-does refl D₂ D₃ in
           let K = kept-then (D .kept) (P .kept) in
           record {
-            run = P .run ∙ ap (λ (run : Run). propagate F (run .values) (run .rows)) (D .run ∙ ap (λ (run : Run). fresh F run i) begun);
+            run = P .run ∙ ap (λ (run : Run). propagate F (run .values) (run .rows)) (D .run ∙ ap (λ (run : Run). renewed F v run i) begun);
             kept = record {
               placed = K .placed;
               grows = K .grows;

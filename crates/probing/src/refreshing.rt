@@ -1,6 +1,8 @@
-// Rows made afresh at the values, each from its variable's places.
+// The rows of the probed variable's neighbours: made afresh at the values, each from its variable's places, or its term moved.
+use field::Grade;
 use rows::Row;
 use rows::store::put_row;
+use run::steps::move_row;
 use scanning::merging::next_place;
 use scratch::wide_short;
 use scratch::wide_word;
@@ -9,6 +11,7 @@ ghost use Prim.Native.Nat.{_<_};
 ghost use lib.ListN.{length};
 ghost use Rattle.scratch.specs.Lent.{before, after};
 ghost use Rattle.field.specs.Field.{given, lent, variables, entries, Standard};
+ghost use Rattle.field.specs.Grade.{gradeOf};
 ghost use Rattle.rows.specs.Model.{rowOf};
 ghost use Rattle.places.specs.Places.{otherEnd};
 ghost use Rattle.run.specs.Cells.{cells, Placed, Does};
@@ -127,7 +130,7 @@ fn refresh_once(
 }
 
 // The rows of the free neighbours of i are made afresh, each once.
-pub fn refresh(
+fn refresh(
     c: &[f64],
     rows: &[u16],
     cols: &[u16],
@@ -152,4 +155,92 @@ pub fn refresh(
         let k = wide_word(u[n + 1 + p]);
         x = refresh_once(c, rows, cols, q, values, f, u, i, k, x, end);
     }
+}
+
+// Place k of variable i, which takes the value v: its term in the row of the other end was free and is fixed.
+fn move_at(
+    c: &[f64],
+    rows: &[u16],
+    cols: &[u16],
+    q: &[f64],
+    values: &[u8],
+    f: &mut [f64],
+    u: &[u32],
+    i: usize,
+    v: u8,
+    k: usize,
+)
+    requires { ⌜ Placed (lent c rows cols q) (cells (now values) (now f) (now u) 0) ⌝ }
+    requires { ⌜ k < entries (lent c rows cols q) ⌝ }
+    ensures { λ _. ⌜ Does (given c rows cols q) (λ run. model.moveAt (given c rows cols q) i v run k)
+        (cells (before values) (before f) (before u) 0)
+        (cells (before values) (after f) (before u) 0) ⌝ }
+{
+    let t = places::other_end(rows, cols, i, k);
+    let coeff = weights::half(q[k]);
+    move_row(f, c.len(), t, coeff, v);
+}
+
+// The term of i, which takes the value v, is moved in the rows of its neighbours.
+fn move_terms(
+    c: &[f64],
+    rows: &[u16],
+    cols: &[u16],
+    q: &[f64],
+    values: &[u8],
+    f: &mut [f64],
+    u: &[u32],
+    i: usize,
+    v: u8,
+)
+    requires { ⌜ Placed (lent c rows cols q) (cells (now values) (now f) (now u) 0) ⌝ }
+    requires { ⌜ i < variables (lent c rows cols q) ⌝ }
+    ensures { λ _. ⌜ Does (given c rows cols q) (λ run. model.moves (given c rows cols q) v run i)
+        (cells (before values) (before f) (before u) 0)
+        (cells (before values) (after f) (before u) 0) ⌝ }
+{
+    let n = c.len();
+    let start = wide_word(u[i]);
+    let end = wide_word(u[i + 1]);
+    for p in start..end {
+        let k = wide_word(u[n + 1 + p]);
+        move_at(c, rows, cols, q, values, f, u, i, v, k);
+    }
+}
+
+fn is_exact(grade: Grade) -> bool
+    ensures { λ r. ⌜ r ≡ model.exactBy grade ⌝ }
+{
+    match grade {
+        Grade::Exact => true,
+        Grade::Inexact => false,
+    }
+}
+
+// The neighbours' rows after i took the value v: on an exact field no sum is rounded, so its terms are moved, and else rows are made afresh.
+pub fn renew(
+    c: &[f64],
+    rows: &[u16],
+    cols: &[u16],
+    q: &[f64],
+    values: &[u8],
+    f: &mut [f64],
+    u: &[u32],
+    i: usize,
+    v: u8,
+    grade: Grade,
+)
+    requires { ⌜ Placed (lent c rows cols q) (cells (now values) (now f) (now u) 0) ⌝ }
+    requires { ⌜ Standard (lent c rows cols q) ⌝ }
+    requires { ⌜ i < variables (lent c rows cols q) ⌝ }
+    requires { ⌜ grade ≡ gradeOf (lent c rows cols q) ⌝ }
+    ensures { λ _. ⌜ Does (given c rows cols q) (λ run. model.renewed (given c rows cols q) v run i)
+        (cells (before values) (before f) (before u) 0)
+        (cells (before values) (after f) (before u) 0) ⌝ }
+{
+    if is_exact(grade) {
+        move_terms(c, rows, cols, q, values, f, u, i, v);
+        return;
+    }
+    refresh(c, rows, cols, q, values, f, u, i);
 }

@@ -11,7 +11,7 @@ use lib.ListN.{length, getD}
 use lib.Dec.{ltb}
 use Rattle.whole.specs.Whole.{Whole, min0, max0, _≈_}
 use Rattle.meaning.specs.Steps.{stop}
-use Rattle.meaning.specs.Gradient.{view, gradient}
+use Rattle.meaning.specs.Gradient.{View, view, gradient}
 use Rattle.meaning.proofs.Values.{inside}
 use Rattle.meaning.proofs.Views.{caught-up}
 use Rattle.field.specs.Field.{Field, variables, entries, Shaped, StartFor}
@@ -27,7 +27,7 @@ use Rattle.run.specs.Run.{Run, noRow, isFree, judged, scanAt, scanTo, se
 use Rattle.run.specs.Ended.{RowsWorth, Ended}
 use Rattle.run.proofs.Room.{room-start}
 use Rattle.run.proofs.Rests.{grounded-start}
-use Rattle.run.proofs.Invariant.{still-same, judged-holds}
+use Rattle.run.proofs.Invariant.{Holds, still-same, judged-holds}
 use Rattle.run.proofs.Serve.{Rest, serve-rest}
 
 -- the rows at the start values are such that the run may start from them
@@ -38,24 +38,37 @@ start-rows-worth {F = F} shaped exact {s} start t free =
 
 -- ---- the scan
 
+-- a variable that is not free is passed over
+pub scan-past : {u : ℕ} {F : Field} {s : List ℕ} {run : Run} {w : View} {h last : ℕ} (i : ℕ) → Holds u F s run w i h last (entries F) → isFree run i ≡ false
+    → Holds u F s run w (suc i) h last (entries F)
+scan-past {run = run} i a e = record {
+  room = a .room;
+  counted = a .counted;
+  quiet = λ t b f. a .quiet t (omega (arith, other t f)) f;
+  queued = a .queued;
+  grounded = a .grounded;
+}
+  where
+    other : (t : ℕ) → getD (run .values) t 0 ≡ 2 → t ≢ i
+    other t f n = eqb-false _ _ e (ap (λ (y : ℕ). getD (run .values) y 0) (sym n) ∙ f)
+
 module _ {u : ℕ} {F : Field} {s : List ℕ} (start : StartFor (variables F) s) (rows : List Row) (long : variables F ≤ length rows) (worth : RowsWorth u F s rows) where
-  unscanned : Rest u F s 0 0 (record { values = s; rows = rows; queue = [] })
-  unscanned = record {
-    seen = view s;
-    last = 0;
-    holds = record {
-      room = room-start start;
-      counted = record { reached = stop; rows-long = long; lag = λ k j. inr refl; worth = worth };
-      quiet = λ t b. absurd (omega arith);
-      queued = record {
-        cursor = omega arith;
-        waiting = λ p a b. absurd (omega arith);
-        ahead = λ k a b. absurd (omega arith);
-        caught = λ j f. inl (λ k a b. refl);
-      };
-      grounded = grounded-start s;
+  pub unscanned-holds : Holds u F s (record { values = s; rows = rows; queue = [] }) (view s) 0 0 0 (entries F)
+  unscanned-holds = record {
+    room = room-start start;
+    counted = record { reached = stop; rows-long = long; lag = λ k j. inr refl; worth = worth };
+    quiet = λ t b. absurd (omega arith);
+    queued = record {
+      cursor = omega arith;
+      waiting = λ p a b. absurd (omega arith);
+      ahead = λ k a b. absurd (omega arith);
+      caught = λ j f. inl (λ k a b. refl);
     };
+    grounded = grounded-start s;
   }
+
+  unscanned : Rest u F s 0 0 (record { values = s; rows = rows; queue = [] })
+  unscanned = record { seen = view s; last = 0; holds = unscanned-holds }
 
   pub scanned : (i : ℕ) → Rest u F s i 0 (scanTo (record { values = s; rows = rows; queue = [] }) i)
   unfolding scanTo scanAt
@@ -71,20 +84,7 @@ module _ {u : ℕ} {F : Field} {s : List ℕ} (start : StartFor (variables F) s)
         last = a .last;
         holds = judged-holds i (a .holds .room) (a .holds .counted) (λ t b n. a .holds .quiet t (omega arith)) (a .holds .queued) (a .holds .grounded) (eqb-true _ _ e);
       }
-      go a false e = record {
-        seen = a .seen;
-        last = a .last;
-        holds = record {
-          room = a .holds .room;
-          counted = a .holds .counted;
-          quiet = λ t b f. a .holds .quiet t (omega (arith, other t f)) f;
-          queued = a .holds .queued;
-          grounded = a .holds .grounded;
-        };
-      }
-        where
-          other : (t : ℕ) → getD (run .values) t 0 ≡ 2 → t ≢ i
-          other t f n = eqb-false _ _ e (ap (λ (y : ℕ). getD (run .values) y 0) (sym n) ∙ f)
+      go a false e = record { seen = a .seen; last = a .last; holds = scan-past i (a .holds) e }
 
 -- ---- the queue
 

@@ -6,6 +6,7 @@ pub mod Invariant
 pub mod Sight
 pub mod Serve
 pub mod Bridge
+pub mod Lockstep
 pub mod Theorems
 pub mod Cells
 pub mod Moves

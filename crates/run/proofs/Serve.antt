@@ -89,33 +89,37 @@ module _ {u : ℕ} {F : Field} (shaped : Shaped F) (exact : ExactIn u F) {s : Li
       go true m rest = rest (serveAt F i v run k) (turn k run here m a)
       go false m rest = rest run (pass-by k run here m a)
 
+-- the variable at the cursor is seen by no entry yet
+pub first-holds : {u : ℕ} {F : Field} {s : List ℕ} {w : View} {b h last : ℕ} (run : Run) → h < length (run .queue) → Holds u F s run w b h last (entries F)
+    → Holds u F s run w b (suc h) (getD (run .queue) h 0) 0
+first-holds {F = F} {w = w} {h = h} {last = last} run l a = record {
+  room = a .room;
+  counted = a .counted;
+  quiet = a .quiet;
+  queued = record {
+    cursor = l;
+    waiting = λ p b. q .waiting p (omega arith);
+    ahead = λ k b m. q .waiting h (le-refl h) l k;
+    caught = λ j f. ⊎-elim (λ g. inl (λ k m e. g k m (λ y. m))) (λ g. go j g (ℕ-discrete (g .0) h)) (q .caught j f);
+  };
+  grounded = grounded-more (a .room) h l (a .grounded);
+}
+  where
+    q : Queued (run .values) (run .queue) w (entries F) h last (entries F)
+    q = a .queued
+
+    go : (j : ℕ) (g : Waits (run .queue) h j) → Dec (g .0 ≡ h)
+        → ((k : ℕ) → k < entries F → (j ≡ getD (run .queue) h 0 → k < 0) → w k j ≡ getD (run .values) j 0) ⊎ Waits (run .queue) (suc h) j
+    go j g (yes e) = inl (λ k m n. absurd (omega (arith, n (sym (g .3) ∙ ap (λ (y : ℕ). getD (run .queue) y 0) e))))
+    go j g (no e) = inr (g .0, omega (arith, g .1), g .2, g .3)
+
 module _ {u : ℕ} {F : Field} (shaped : Shaped F) (exact : ExactIn u F) {s : List ℕ} (h : ℕ) (run : Run) (l : h < length (run .queue)) (a : Rest u F s (variables F) h run) where
-  -- the variable at the cursor is seen by no entry yet
   first-turn : Turn u F s h (getD (run .queue) h 0) (getD (run .values) (getD (run .queue) h 0) 0) 0 run
   first-turn = record {
     seen = a .seen;
-    holds = record {
-      room = a .holds .room;
-      counted = a .holds .counted;
-      quiet = a .holds .quiet;
-      queued = record {
-        cursor = l;
-        waiting = λ p b. q .waiting p (omega arith);
-        ahead = λ k b m. q .waiting h (le-refl h) l k;
-        caught = λ j f. ⊎-elim (λ g. inl (λ k m e. g k m (λ y. m))) (λ g. go j g (ℕ-discrete (g .0) h)) (q .caught j f);
-      };
-      grounded = grounded-more (a .holds .room) h l (a .holds .grounded);
-    };
+    holds = first-holds run l (a .holds);
     serving = record { before = l; at = refl; value = refl; small = a .holds .room .fixed h l };
   }
-    where
-      q : Queued (run .values) (run .queue) (a .seen) (entries F) h (a .last) (entries F)
-      q = a .holds .queued
-
-      go : (j : ℕ) (g : Waits (run .queue) h j) → Dec (g .0 ≡ h)
-          → ((k : ℕ) → k < entries F → (j ≡ getD (run .queue) h 0 → k < 0) → a .seen k j ≡ getD (run .values) j 0) ⊎ Waits (run .queue) (suc h) j
-      go j g (yes e) = inl (λ k m n. absurd (omega (arith, n (sym (g .3) ∙ ap (λ (y : ℕ). getD (run .queue) y 0) e))))
-      go j g (no e) = inr (g .0, omega (arith, g .1), g .2, g .3)
 
   pub serve-rest : Rest u F s (variables F) (suc h) (serve F run (getD (run .queue) h 0))
   unfolding serve places

@@ -134,7 +134,7 @@ module _ {u : ℕ} {F : Field} (shaped : Shaped F) (exact : ExactIn u F) {s : Li
         joined : (f : Whole → Whole) → gradient f (wholeOf u F) (see w k i v) t ≈ gradient f (wholeOf u F) w t ⊖ f q ⊕ share (f q) q v
         joined f = see-joined (wholeOf u F) w k i v f t l (exact .standard k l) o (a .queued .ahead k (le-refl _) l)
 
-    moved-counted : Counted u F s (moveRow run t (coeffOf F k) v) (see w k i v)
+    pub moved-counted : Counted u F s (moveRow run t (coeffOf F k) v) (see w k i v)
     unfolding moveRow
     moved-counted = record {
       reached = a .counted .reached;

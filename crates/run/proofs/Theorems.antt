@@ -28,6 +28,7 @@ use Rattle.run.specs.Room.{Room}
 use Rattle.run.specs.Ended.{RowsWorth, Ended}
 use Rattle.run.proofs.Room.{room-propagate}
 use Rattle.run.proofs.Alike.{alike-propagate}
+use Rattle.run.proofs.Lockstep.{worth-agree}
 use Rattle.run.proofs.Bridge.{start-rows-worth, propagate-ends}
 
 -- ---- on every field, exact or not
@@ -74,6 +75,11 @@ module _ {u : ℕ} {F : Field} (shaped : Shaped F) (exact : ExactIn u F) where
   -- From rows that are worth low and high of every free variable, the run ends in the closure, and in such rows there.
   pub propagate-closes : {s : List ℕ} → StartFor (variables F) s → (rows : List Row) → variables F ≤ length rows → RowsWorth u F s rows → Ended u F s (propagate F s rows)
   propagate-closes start rows long worth = propagate-ends shaped exact start rows long worth
+
+  -- All such rows lead to the same values and to the same queue.
+  pub rows-of-worth : {s : List ℕ} → StartFor (variables F) s → (rows rows′ : List Row) → variables F ≤ length rows → variables F ≤ length rows′
+      → RowsWorth u F s rows → RowsWorth u F s rows′ → (propagate F s rows′ .values ≡ propagate F s rows .values) × (propagate F s rows′ .queue ≡ propagate F s rows .queue)
+  rows-of-worth start rows rows′ long long′ worth worth′ = let a = worth-agree shaped exact start rows rows′ long long′ worth worth′ in (a .values, a .queue)
 
   -- So does the run from the rows at the start values.
   pub closure-run-closes : {s : List ℕ} → StartFor (variables F) s → Ended u F s (closureRun F s)

@@ -48,7 +48,7 @@ fn settle(
 }
 
 // Row t, whose term of coefficient a was free and is fixed at v.
-fn move_row(f: &mut [f64], n: usize, t: usize, a: f64, v: u8) -> Row
+pub fn move_row(f: &mut [f64], n: usize, t: usize, a: f64, v: u8) -> Row
     requires { ⌜ n + t < length (now f) ⌝ }
     ensures { λ r. ⌜ r ≡ model.moved (rowOn (before f) n t) a v ⌝ }
     ensures { λ r. ⌜ after f ≡ putRow (before f) n t r ⌝ }

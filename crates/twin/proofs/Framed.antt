@@ -17,6 +17,7 @@ use Rattle.places.proofs.Slices.{front-getD}
 use Rattle.run.specs.Cells.{Cells, cells, base}
 use Rattle.run.proofs.Cells.{placed-start}
 use Rattle.run.proofs.Room.{room-scan}
+use Rattle.probing.specs.declared.Known.{Known}
 use Rattle.probing.specs.Remembered.{candidates, remembered, Remembers, Probes}
 use Rattle.workspace.specs.Restored.{From, Touched}
 use Rattle.twin.specs.Twin.{firstAt}
@@ -29,11 +30,12 @@ module _ (F : Field) (u u′ : List ℕ) (front : take (firstAt F) u′ ≡ take
   front-base : take (base F) u′ ≡ take (base F) u
   front-base = sym (take-take (base F) (firstAt F) u′ (omega arith)) ∙ ap (take (base F)) front ∙ take-take (base F) (firstAt F) u (omega arith)
 
-  pub remembers-front : {s : List ℕ} {f : List Float} {many : ℕ} → Remembers F s f u many → Remembers F s f u′ many
-  remembers-front {s} {f} {many} R =
-      let few : many ≤ variables F = omega (arith, R .count, candidates-few F s (R .start)) in
+  pub remembers-front : {s : List ℕ} {f : List Float} {known : Known} → Remembers F s f u known → Remembers F s f u′ known
+  remembers-front {s} {f} {known} R =
+      let few : known .many ≤ variables F = omega (arith, R .count, candidates-few F s (R .start)) in
       let a = base F + variables F in record {
         placed = placed-start (R .placed .shaped) (R .start .long) (R .placed .floats-room) (adjacent-front front-base long (R .placed .adjacent)) (omega (arith, R .placed .words-room, long));
+        graded = R .graded;
         standard = R .standard;
         start = R .start;
         rows = R .rows;
@@ -41,10 +43,10 @@ module _ (F : Field) (u u′ : List ℕ) (front : take (firstAt F) u′ ≡ take
         copy-room = R .copy-room;
         list-room = omega (arith, R .list-room, long);
         count = R .count;
-        listed = ext-getD 0 (region a many u′) (region a many u)
-            (length-region a many u′ (omega (arith, few, R .list-room, long)) ∙ sym (length-region a many u (omega (arith, few, R .list-room))))
-            (λ j h. let k : j < many = omega (arith, h, length-region a many u′ (omega (arith, few, R .list-room, long))) in
-            region-at a many u′ j 0 k ∙ front-getD (firstAt F) u′ u front (a + j) (omega (arith, few)) ∙ sym (region-at a many u j 0 k)) ∙ R .listed;
+        listed = ext-getD 0 (region a (known .many) u′) (region a (known .many) u)
+            (length-region a (known .many) u′ (omega (arith, few, R .list-room, long)) ∙ sym (length-region a (known .many) u (omega (arith, few, R .list-room))))
+            (λ j h. let k : j < known .many = omega (arith, h, length-region a (known .many) u′ (omega (arith, few, R .list-room, long))) in
+            region-at a (known .many) u′ j 0 k ∙ front-getD (firstAt F) u′ u front (a + j) (omega (arith, few)) ∙ sym (region-at a (known .many) u j 0 k)) ∙ R .listed;
       }
 
   from-front : {k j : ℕ} → k ≤ variables F → From u (base F) k 0 j → From u′ (base F) k 0 j

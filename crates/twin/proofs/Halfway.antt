@@ -16,6 +16,7 @@ use Rattle.places.proofs.Slices.{front-getD}
 use Rattle.run.specs.Run.{closureRun}
 use Rattle.run.specs.Cells.{Cells, cells, base}
 use Rattle.run.proofs.Room.{free-after}
+use Rattle.probing.specs.declared.Known.{Known}
 use Rattle.probing.specs.Remembered.{Remembers, Probes}
 use Rattle.workspace.specs.Restored.{From, Touched}
 use Rattle.workspace.proofs.Theorems.{start-with, probe-values, probe-forced, probe-restores, restored-floats, restored-remembers}
@@ -29,8 +30,8 @@ use Rattle.twin.specs.Twin.{firstAt, keptAt, Twinnable, Halfway, Beside}
 use Rattle.twin.proofs.Framed.{remembers-front, touched-front, probe-behind}
 
 -- the values are the start values where a probe begins
-pub probe-asks : {F : Field} {vs s : List ℕ} → vs ≡ s → {f : List Float} {u : List ℕ} {many : ℕ} → Remembers F s f u many → (i v : ℕ) → getD s i 0 ≡ 2 → v < 2
-    → Remembers F vs f u many × ((getD vs i 0 ≡ 2) × (v < 2))
+pub probe-asks : {F : Field} {vs s : List ℕ} → vs ≡ s → {f : List Float} {u : List ℕ} {known : Known} → Remembers F s f u known → (i v : ℕ) → getD s i 0 ≡ 2 → v < 2
+    → Remembers F vs f u known × ((getD vs i 0 ≡ 2) × (v < 2))
 probe-asks e R i v free small = rw e (R, (free, small))
 
 pub from-start : {F : Field} {vs s : List ℕ} → vs ≡ s → {f : List Float} {u : List ℕ} {i v : ℕ} {c : Cells} → Probes F vs i v (cells vs f u 0) c → Probes F s i v (cells s f u 0) c
@@ -38,7 +39,7 @@ from-start e P = rw e at P
 
 -- ---- the queue of a probe
 
-module _ {F : Field} {s : List ℕ} {f : List Float} {u : List ℕ} {many : ℕ} (R : Remembers F s f u many) (i x : ℕ) (free : getD s i 0 ≡ 2) (small : x < 2)
+module _ {F : Field} {s : List ℕ} {f : List Float} {u : List ℕ} {known : Known} (R : Remembers F s f u known) (i x : ℕ) (free : getD s i 0 ≡ 2) (small : x < 2)
     {v u₁ : List ℕ} {f₁ : List Float} {k : ℕ} (P : Probes F s i x (cells s f u 0) (cells v f₁ u₁ k)) where
   pub queue-few : k ≤ variables F
   queue-few = omega (arith, P .kept .placed .queue-room)
@@ -66,7 +67,7 @@ module _ {F : Field} {s : List ℕ} {f : List Float} {u : List ℕ} {many : ℕ}
 
 -- ---- the steps
 
-module _ {F : Field} {s : List ℕ} {f : List Float} {u : List ℕ} {many i : ℕ} (T : Twinnable F s f u many i) where
+module _ {F : Field} {s : List ℕ} {f : List Float} {u : List ℕ} {known : Known} {i : ℕ} (T : Twinnable F s f u known i) where
   abbrev n : ℕ
   n = variables F
 
@@ -157,7 +158,7 @@ module _ {F : Field} {s : List ℕ} {f : List Float} {u : List ℕ} {many i : �
           pub half-floats : f₂ ≡ f
           half-floats = restored-floats (T .remembers) i 0 (T .free) (omega arith) P W
 
-          pub half-done : Halfway F s f u₃ many i k
+          pub half-done : Halfway F s f u₃ known i k
           half-done =
               let R = remembers-front F u₁ u₃ front₃ long₃ (restored-remembers (T .remembers) i 0 (T .free) (omega arith) P W) in record {
                 remembers = rw half-floats at R;

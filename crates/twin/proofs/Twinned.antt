@@ -15,6 +15,7 @@ use Rattle.field.specs.Field.{Field, variables}
 use Rattle.rows.specs.Stored.{Filled}
 use Rattle.run.specs.Run.{closure}
 use Rattle.run.specs.Cells.{cells, base}
+use Rattle.probing.specs.declared.Known.{Known}
 use Rattle.probing.specs.Remembered.{Probes}
 use Rattle.probing.proofs.Probing.{probed-below}
 use Rattle.workspace.specs.Restored.{Touched}
@@ -38,7 +39,7 @@ finding-is : (F : Field) (s : List ℕ) (i j : ℕ) {w : List ℕ} → w ≡ clo
 unfolding finding
 finding-is F s i j e = rw e
 
-module _ {F : Field} {s : List ℕ} {f : List Float} {u : List ℕ} {many i k end : ℕ} (H : Halfway F s f u many i k) (N : EndFor F u end) where
+module _ {F : Field} {s : List ℕ} {f : List Float} {u : List ℕ} {known : Known} {i k end : ℕ} (H : Halfway F s f u known i k) (N : EndFor F u end) where
   abbrev n : ℕ
   n = variables F
 
@@ -210,7 +211,7 @@ module _ {F : Field} {s : List ℕ} {f : List Float} {u : List ℕ} {many i k en
                 let G₃ = enters-gathers enters₃ rest₃ (omega arith) G₁ in
                 gathering-same {u′ = u₄} G₃ (long₄ ∙ sym (enters₃ .long)) (λ t b c. others₄ t (λ j d e. absurd (omega arith)))
 
-            pub second-done : Twinned F s f many i u end u₄ r
+            pub second-done : Twinned F s f known i u end u₄ r
             second-done =
                 let R = remembers-front F u₁ u₄ front₄ long₄ (restored-remembers (H .remembers) i 1 (H .free) (omega arith) Q X) in record {
                   remembers = rw second-floats at R;
@@ -228,11 +229,11 @@ module _ {F : Field} {s : List ℕ} {f : List Float} {u : List ℕ} {many i k en
 pub end-beside : {F : Field} {u u′ : List ℕ} {end : ℕ} → EndFor F u end → Beside F u u′ → EndFor F u′ end
 end-beside N B = record { low = N .low; room = omega (arith, N .room, B .long) }
 
-pub half-again : {F : Field} {s : List ℕ} {f f′ : List Float} {u : List ℕ} {many i k : ℕ} → f′ ≡ f → Halfway F s f u many i k → Halfway F s f′ u many i k
+pub half-again : {F : Field} {s : List ℕ} {f f′ : List Float} {u : List ℕ} {known : Known} {i k : ℕ} → f′ ≡ f → Halfway F s f u known i k → Halfway F s f′ u known i k
 half-again e H = rw e H
 
-pub twin-done : {F : Field} {s : List ℕ} {f f′ : List Float} {many i end r : ℕ} {u u′ u″ : List ℕ} → f′ ≡ f → Beside F u u′ → Twinned F s f′ many i u′ end u″ r
-    → Twinned F s f many i u end u″ r
+pub twin-done : {F : Field} {s : List ℕ} {f f′ : List Float} {known : Known} {i end r : ℕ} {u u′ u″ : List ℕ} → f′ ≡ f → Beside F u u′ → Twinned F s f′ known i u′ end u″ r
+    → Twinned F s f known i u end u″ r
 twin-done {F} {s} {i = i} e B T = record {
   remembers = rw e at (T .remembers);
   long = T .long ∙ B .long;

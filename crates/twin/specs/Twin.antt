@@ -10,6 +10,7 @@ use Rattle.found.specs.Holding.{Gathering}
 use Rattle.field.specs.Field.{Field, variables}
 use Rattle.run.specs.Cells.{base}
 use Rattle.run.specs.Run.{closure}
+use Rattle.probing.specs.declared.Known.{Known}
 use Rattle.probing.specs.Remembered.{Remembers}
 use Rattle.workspace.specs.Restored.{From}
 use Rattle.finding.specs.Finds.{wins, givesAt, finding, recordsTo}
@@ -27,8 +28,8 @@ abbrev pub keptAt : Field → ℕ
 keptAt F = valuesAt F + variables F + variables F
 
 -- the workspace, a free variable i, no value remembered, and room
-pub record Twinnable (F : Field) (s : List ℕ) (f : List Float) (u : List ℕ) (many i : ℕ) : Type 0 where
-  pub remembers : Remembers F s f u many
+pub record Twinnable (F : Field) (s : List ℕ) (f : List Float) (u : List ℕ) (known : Known) (i : ℕ) : Type 0 where
+  pub remembers : Remembers F s f u known
   pub few : variables F ≤ 4096
   pub free : getD s i 0 ≡ 2
   pub first : (j : ℕ) → j < variables F → getD u (firstAt F + j) 0 ≡ 2
@@ -41,8 +42,8 @@ pub record EndFor (F : Field) (u : List ℕ) (end : ℕ) : Type 0 where
 
 -- after the probe at 0: the workspace stands again, what the probe gives is remembered, and the k variables that it forced are kept, which
 -- were free and stand there once
-pub record Halfway (F : Field) (s : List ℕ) (f : List Float) (u : List ℕ) (many i k : ℕ) : Type 0 where
-  pub remembers : Remembers F s f u many
+pub record Halfway (F : Field) (s : List ℕ) (f : List Float) (u : List ℕ) (known : Known) (i k : ℕ) : Type 0 where
+  pub remembers : Remembers F s f u known
   pub few : variables F ≤ 4096
   pub free : getD s i 0 ≡ 2
   pub first : (j : ℕ) → j < variables F → getD u (firstAt F + j) 0 ≡ givesAt i j (getD s j 0) (getD (closure F (set s i 0)) j 0)
@@ -59,8 +60,8 @@ pub record Beside (F : Field) (u₀ u : List ℕ) : Type 0 where
 
 -- after both: the workspace stands again, with no value remembered; the probe values are those of the findings; what was gathered is
 -- gathered still, with what is found; and the words between are what they were
-pub record Twinned (F : Field) (s : List ℕ) (f : List Float) (many i : ℕ) (u₀ : List ℕ) (end : ℕ) (u : List ℕ) (r : ℕ) : Type 0 where
-  pub remembers : Remembers F s f u many
+pub record Twinned (F : Field) (s : List ℕ) (f : List Float) (known : Known) (i : ℕ) (u₀ : List ℕ) (end : ℕ) (u : List ℕ) (r : ℕ) : Type 0 where
+  pub remembers : Remembers F s f u known
   pub long : length u ≡ length u₀
   pub first : (j : ℕ) → j < variables F → getD u (firstAt F + j) 0 ≡ 2
   pub values : (j : ℕ) → j < variables F → getD u (valuesAt F + j) 0 ≡ wins (finding F s i j) (getD u₀ (valuesAt F + j) 0)

@@ -2,6 +2,7 @@
 use finding::emitting::emit_list;
 use finding::emitting::keep;
 use finding::emitting::lay;
+use probing::Known;
 use workspace::restoring::restore;
 ghost use mathlib.Core.Path.{_≡_};
 ghost use Rattle.scratch.specs.Lent.{before, after};
@@ -18,21 +19,21 @@ fn first_probe(
     values: &mut [u8],
     f: &mut [f64],
     u: &mut [u32],
-    many: usize,
+    known: Known,
     variable: usize,
 ) -> usize
-    requires { ⌜ Twinnable (lent c rows cols q) (now start) (now f) (now u) many variable ⌝ }
+    requires { ⌜ Twinnable (lent c rows cols q) (now start) (now f) (now u) known variable ⌝ }
     requires { ⌜ now values ≡ now start ⌝ }
     ensures { λ _. ⌜ after values ≡ before start ⌝ }
     ensures { λ _. ⌜ after f ≡ before f ⌝ }
-    ensures { λ r. ⌜ Halfway (given c rows cols q) (before start) (before f) (after u) many variable r ⌝ }
+    ensures { λ r. ⌜ Halfway (given c rows cols q) (before start) (before f) (after u) known variable r ⌝ }
     ensures { λ _. ⌜ Beside (given c rows cols q) (before u) (after u) ⌝ }
 {
     let n = c.len();
     let base = n + 1 + 2 * rows.len();
     let first = base + n + n;
     let kept = first + n + n + n;
-    let forced = probing::probe(c, rows, cols, q, values, f, u, many, variable, 0);
+    let forced = probing::probe(c, rows, cols, q, values, f, u, known, variable, 0);
     keep(u, base, forced, kept);
     lay(values, u, kept, forced, first);
     restore(c, rows, cols, q, start, values, f, u, variable, forced);
@@ -49,24 +50,24 @@ fn second_probe(
     values: &mut [u8],
     f: &mut [f64],
     u: &mut [u32],
-    many: usize,
+    known: Known,
     variable: usize,
     forced: usize,
     end: usize,
 ) -> usize
-    requires { ⌜ Halfway (lent c rows cols q) (now start) (now f) (now u) many variable forced ⌝ }
+    requires { ⌜ Halfway (lent c rows cols q) (now start) (now f) (now u) known variable forced ⌝ }
     requires { ⌜ EndFor (lent c rows cols q) (now u) end ⌝ }
     requires { ⌜ now values ≡ now start ⌝ }
     ensures { λ _. ⌜ after values ≡ before start ⌝ }
     ensures { λ _. ⌜ after f ≡ before f ⌝ }
-    ensures { λ r. ⌜ Twinned (given c rows cols q) (before start) (before f) many variable (before u) end (after u) r ⌝ }
+    ensures { λ r. ⌜ Twinned (given c rows cols q) (before start) (before f) known variable (before u) end (after u) r ⌝ }
 {
     let n = c.len();
     let base = n + 1 + 2 * rows.len();
     let first = base + n + n;
     let at = first + n;
     let kept = at + n + n;
-    let again = probing::probe(c, rows, cols, q, values, f, u, many, variable, 1);
+    let again = probing::probe(c, rows, cols, q, values, f, u, known, variable, 1);
     let both = emit_list(start, values, u, variable, base, again, 0, first, at, end);
     let last = emit_list(start, values, u, variable, kept, forced, 2, first, at, both);
     restore(c, rows, cols, q, start, values, f, u, variable, again);
@@ -84,18 +85,18 @@ pub fn twin(
     values: &mut [u8],
     f: &mut [f64],
     u: &mut [u32],
-    many: usize,
+    known: Known,
     variable: usize,
     end: usize,
 ) -> usize
-    requires { ⌜ Twinnable (lent c rows cols q) (now start) (now f) (now u) many variable ⌝ }
+    requires { ⌜ Twinnable (lent c rows cols q) (now start) (now f) (now u) known variable ⌝ }
     requires { ⌜ EndFor (lent c rows cols q) (now u) end ⌝ }
     requires { ⌜ now values ≡ now start ⌝ }
     ensures { λ _. ⌜ after values ≡ before start ⌝ }
     ensures { λ _. ⌜ after f ≡ before f ⌝ }
-    ensures { λ r. ⌜ Twinned (given c rows cols q) (before start) (before f) many variable (before u) end (after u) r ⌝ }
+    ensures { λ r. ⌜ Twinned (given c rows cols q) (before start) (before f) known variable (before u) end (after u) r ⌝ }
 {
-    let forced = first_probe(c, rows, cols, q, start, values, f, u, many, variable);
+    let forced = first_probe(c, rows, cols, q, start, values, f, u, known, variable);
     second_probe(
         c,
         rows,
@@ -105,7 +106,7 @@ pub fn twin(
         values,
         f,
         u,
-        many,
+        known,
         variable,
         forced,
         end,

@@ -6,6 +6,7 @@ use native.Mathlib.Nat.{div-mul-le-self, le-refl}
 use native.Mathlib.Omega.{arith}
 use lib.Ieee.{Float}
 use lib.ListN.{length, getD}
+use Rattle.probing.specs.declared.Known.{Known}
 use Rattle.scratch.specs.Region.{region}
 use Rattle.scratch.proofs.Region.{length-region}
 use Rattle.constraints.specs.Record.{room}
@@ -22,8 +23,8 @@ use Rattle.twin.specs.Twin.{Twinnable, EndFor, Twinned}
 use Rattle.walking.specs.Walk.{candidatesAt, gatherAt, roomed, endAfter, heldOf, Walkable, Stands, Walks, Valued, Walked, full}
 use Rattle.walking.proofs.Turned.{stands-start, stands-values, stands-twinnable, stands-twin, walks-start, walks-twin, roomed-walks, roomed-enough, roomed-full, walks-done}
 
-pub list-long : {F : Field} {s : List ℕ} {f : List Float} {many : ℕ} {cands : List ℕ} {k : ℕ} {list₀ list : List ℕ} {held : ℕ} {u : List ℕ} {end : ℕ}
-    → Walks F s f many cands k list₀ list held u end → length list ≡ length list₀
+pub list-long : {F : Field} {s : List ℕ} {f : List Float} {known : Known} {cands : List ℕ} {k : ℕ} {list₀ list : List ℕ} {held : ℕ} {u : List ℕ} {end : ℕ}
+    → Walks F s f known cands k list₀ list held u end → length list ≡ length list₀
 list-long {list₀ = list₀} W =
     let H = W .gathers .holding in
     ap length (H .is) ∙ length-filled (mergedList (W .gathers .flushed)) list₀ (omega (arith, H .fits, div-mul-le-self (length list₀) 3))
@@ -35,17 +36,17 @@ pub fits-next : {h count n : ℕ} → h < count → count ≤ n → n ≤ 4096 �
 fits-next a b c = omega arith
 
 -- h of the candidates that stood in the words are done, and the values are the start values
-pub record Walking (F : Field) (s : List ℕ) (many count : ℕ) (list₀ : List ℕ) (f₀ : List Float) (u₀ values list : List ℕ) (f : List Float) (u : List ℕ)
+pub record Walking (F : Field) (s : List ℕ) (known : Known) (count : ℕ) (list₀ : List ℕ) (f₀ : List Float) (u₀ values list : List ℕ) (f : List Float) (u : List ℕ)
     (held end h : ℕ) : Type 0 where
-  pub walks : Walks F s f many (region (candidatesAt F) count u₀) h list₀ list held u end
+  pub walks : Walks F s f known (region (candidatesAt F) count u₀) h list₀ list held u end
   pub long : length (region (candidatesAt F) count u₀) ≡ count
   pub within : h ≤ count
   pub same : values ≡ s
   pub floats : f ≡ f₀
   pub words-long : length u ≡ length u₀
 
-pub walking-start : {F : Field} {s : List ℕ} {many count : ℕ} {f : List Float} {u values : List ℕ} → Walkable F s f u many count → values ≡ s → (list : List ℕ)
-    → Walking F s many count list f u values list f u 0 (gatherAt F) 0
+pub walking-start : {F : Field} {s : List ℕ} {known : Known} {count : ℕ} {f : List Float} {u values : List ℕ} → Walkable F s f u known count → values ≡ s → (list : List ℕ)
+    → Walking F s known count list f u values list f u 0 (gatherAt F) 0
 walking-start {F} {count = count} {u = u} W e list = record {
   walks = walks-start W list;
   long = length-region (candidatesAt F) count u (omega (arith, W .within, W .space));
@@ -55,8 +56,8 @@ walking-start {F} {count = count} {u = u} W e list = record {
   words-long = refl;
 }
 
-module _ {F : Field} {s : List ℕ} {many count : ℕ} {list₀ : List ℕ} {f₀ : List Float} {u₀ values list : List ℕ} {f : List Float} {u : List ℕ} {held end h : ℕ}
-    (W : Walking F s many count list₀ f₀ u₀ values list f u held end h) where
+module _ {F : Field} {s : List ℕ} {known : Known} {count : ℕ} {list₀ : List ℕ} {f₀ : List Float} {u₀ values list : List ℕ} {f : List Float} {u : List ℕ} {held end h : ℕ}
+    (W : Walking F s known count list₀ f₀ u₀ values list f u held end h) where
   pub walking-end : end ≤ length u
   walking-end = W .walks .gathers .keys .room
 
@@ -75,7 +76,7 @@ module _ {F : Field} {s : List ℕ} {many count : ℕ} {list₀ : List ℕ} {f�
     walking-full a = full (roomed-full (W .walks) e (omega (arith, W .within, W .long)) a)
 
     module _ (more : h < count) {m : ℕ} (a : r ≡ Holds m) {held′ next : ℕ} (b : held′ ≡ heldOf r) (d : next ≡ endAfter (length u) (gatherAt F) end (variables F)) where
-      roomed-here : Walks F s f many (region (candidatesAt F) count u₀) h list₀ list′ held′ u′ next
+      roomed-here : Walks F s f known (region (candidatesAt F) count u₀) h list₀ list′ held′ u′ next
       roomed-here = rw (b, d) (roomed-walks (W .walks) e a)
 
       enough : next + variables F ≤ length u′
@@ -84,12 +85,12 @@ module _ {F : Field} {s : List ℕ} {many count : ℕ} {list₀ : List ℕ} {f�
       inside : h < length (region (candidatesAt F) count u₀)
       inside = omega (arith, more, W .long)
 
-      pub walking-twin : {i : ℕ} → i ≡ getD u′ (candidatesAt F + h) 0 → Twinnable F s f u′ many i × (EndFor F u′ next × (values ≡ s))
+      pub walking-twin : {i : ℕ} → i ≡ getD u′ (candidatesAt F + h) 0 → Twinnable F s f u′ known i × (EndFor F u′ next × (values ≡ s))
       walking-twin q = (stands-twinnable (roomed-here .stands) q inside, (record { low = roomed-here .gathers .keys .order; room = enough }, W .same))
 
       pub walking-turn : {i : ℕ} → i ≡ getD u′ (candidatesAt F + h) 0 → {values″ u″ : List ℕ} {f″ : List Float} {r″ : ℕ}
-          → length u″ ≡ length u → values″ ≡ s → f″ ≡ f → Twinned F s f many i u′ next u″ r″
-          → Walking F s many count list₀ f₀ u₀ values″ list′ f″ u″ held′ r″ (h + 1)
+          → length u″ ≡ length u → values″ ≡ s → f″ ≡ f → Twinned F s f known i u′ next u″ r″
+          → Walking F s known count list₀ f₀ u₀ values″ list′ f″ u″ held′ r″ (h + 1)
       walking-turn q w v g T = record {
         walks = rw g (walks-twin roomed-here q inside T);
         long = W .long;
@@ -101,16 +102,16 @@ module _ {F : Field} {s : List ℕ} {many count : ℕ} {list₀ : List ℕ} {f�
 
 -- ---- the walk for the probe values alone
 
-pub record Valuing (F : Field) (s : List ℕ) (many count : ℕ) (f₀ : List Float) (u₀ values : List ℕ) (f : List Float) (u : List ℕ) (h : ℕ) : Type 0 where
-  pub stands : Stands F s f many (region (candidatesAt F) count u₀) h u
+pub record Valuing (F : Field) (s : List ℕ) (known : Known) (count : ℕ) (f₀ : List Float) (u₀ values : List ℕ) (f : List Float) (u : List ℕ) (h : ℕ) : Type 0 where
+  pub stands : Stands F s f known (region (candidatesAt F) count u₀) h u
   pub long : length (region (candidatesAt F) count u₀) ≡ count
   pub within : h ≤ count
   pub same : values ≡ s
   pub floats : f ≡ f₀
   pub words-long : length u ≡ length u₀
 
-pub valuing-start : {F : Field} {s : List ℕ} {many count : ℕ} {f : List Float} {u values : List ℕ} → Walkable F s f u many count → values ≡ s
-    → Valuing F s many count f u values f u 0
+pub valuing-start : {F : Field} {s : List ℕ} {known : Known} {count : ℕ} {f : List Float} {u values : List ℕ} → Walkable F s f u known count → values ≡ s
+    → Valuing F s known count f u values f u 0
 valuing-start {F} {count = count} {u = u} W e = record {
   stands = stands-start W;
   long = length-region (candidatesAt F) count u (omega (arith, W .within, W .space));
@@ -120,8 +121,8 @@ valuing-start {F} {count = count} {u = u} W e = record {
   words-long = refl;
 }
 
-module _ {F : Field} {s : List ℕ} {many count : ℕ} {f₀ : List Float} {u₀ values : List ℕ} {f : List Float} {u : List ℕ} {h : ℕ}
-    (W : Valuing F s many count f₀ u₀ values f u h) where
+module _ {F : Field} {s : List ℕ} {known : Known} {count : ℕ} {f₀ : List Float} {u₀ values : List ℕ} {f : List Float} {u : List ℕ} {h : ℕ}
+    (W : Valuing F s known count f₀ u₀ values f u h) where
   pub valuing-done : count ≤ h → Valued F s (region (candidatesAt F) count u₀) u
   valuing-done l = let z : h ≡ length (region (candidatesAt F) count u₀) = omega (arith, W .within, W .long) in rw z at (stands-values (W .stands))
 
@@ -129,11 +130,11 @@ module _ {F : Field} {s : List ℕ} {many count : ℕ} {f₀ : List Float} {u₀
     candidate-in : h < length (region (candidatesAt F) count u₀)
     candidate-in = omega (arith, more, W .long)
 
-    pub valuing-twin : Twinnable F s f u many i × (EndFor F u (gatherAt F) × (values ≡ s))
+    pub valuing-twin : Twinnable F s f u known i × (EndFor F u (gatherAt F) × (values ≡ s))
     valuing-twin = (stands-twinnable (W .stands) q candidate-in, (record { low = le-refl (gatherAt F); room = W .stands .space }, W .same))
 
-    pub valuing-turn : {values′ u′ : List ℕ} {f′ : List Float} {r : ℕ} → length u′ ≡ length u → values′ ≡ s → f′ ≡ f → Twinned F s f many i u (gatherAt F) u′ r
-        → Valuing F s many count f₀ u₀ values′ f′ u′ (h + 1)
+    pub valuing-turn : {values′ u′ : List ℕ} {f′ : List Float} {r : ℕ} → length u′ ≡ length u → values′ ≡ s → f′ ≡ f → Twinned F s f known i u (gatherAt F) u′ r
+        → Valuing F s known count f₀ u₀ values′ f′ u′ (h + 1)
     valuing-turn w v g T = record {
       stands = rw g (stands-twin (W .stands) q candidate-in T);
       long = W .long;

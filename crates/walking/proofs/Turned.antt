@@ -11,6 +11,7 @@ use lib.Dec.{leb}
 use lib.Ieee.{Float}
 use lib.ListN.{length, getD, take, replicate}
 use lib.Seq.{ext-getD, take-take}
+use Rattle.probing.specs.declared.Known.{Known}
 use Rattle.scratch.specs.Region.{region}
 use Rattle.scratch.proofs.Region.{length-region, region-at}
 use Rattle.meaning.specs.Records.{Record, AllProper}
@@ -65,8 +66,8 @@ found-more F s cands k (suc d) x m =
 
 -- ---- the start
 
-module _ {F : Field} {s : List ℕ} {f : List Float} {u : List ℕ} {many count : ℕ} (W : Walkable F s f u many count) where
-  pub stands-start : Stands F s f many (region (candidatesAt F) count u) 0 u
+module _ {F : Field} {s : List ℕ} {f : List Float} {u : List ℕ} {known : Known} {count : ℕ} (W : Walkable F s f u known count) where
+  pub stands-start : Stands F s f known (region (candidatesAt F) count u) 0 u
   unfolding valuesOf
   stands-start =
       let cands = region (candidatesAt F) count u in
@@ -81,13 +82,13 @@ module _ {F : Field} {s : List ℕ} {f : List Float} {u : List ℕ} {many count 
         free = λ h l. rw (region-at (candidatesAt F) count u h 0 (omega (arith, l, long))) (W .free h (omega (arith, l, long)));
       }
 
-  pub walks-start : (list : List ℕ) → Walks F s f many (region (candidatesAt F) count u) 0 list list 0 u (gatherAt F)
+  pub walks-start : (list : List ℕ) → Walks F s f known (region (candidatesAt F) count u) 0 list list 0 u (gatherAt F)
   unfolding recordsOf
   walks-start list = record { stands = stands-start; gathers = gathering-start (gatherAt F) list u (omega (arith, W .space)) }
 
 -- ---- one candidate more
 
-module _ {F : Field} {s : List ℕ} {f : List Float} {many : ℕ} {cands : List ℕ} {k : ℕ} {u : List ℕ} (W : Stands F s f many cands k u) where
+module _ {F : Field} {s : List ℕ} {f : List Float} {known : Known} {cands : List ℕ} {k : ℕ} {u : List ℕ} (W : Stands F s f known cands k u) where
   -- the end: the probe values
   pub stands-values : region (valuesAt F) (variables F) u ≡ valuesOf F s cands k
   stands-values =
@@ -99,11 +100,11 @@ module _ {F : Field} {s : List ℕ} {f : List Float} {many : ℕ} {cands : List 
     is-candidate : i ≡ getD cands k 0
     is-candidate = here ∙ W .listed k more
 
-    pub stands-twinnable : Twinnable F s f u many i
+    pub stands-twinnable : Twinnable F s f u known i
     stands-twinnable = record { remembers = W .remembers; few = W .few; free = rw is-candidate (W .free k more); first = W .first; room = omega (arith, W .space) }
 
-    module _ {end r : ℕ} {u′ : List ℕ} (T : Twinned F s f many i u end u′ r) where
-      pub stands-twin : Stands F s f many cands (k + 1) u′
+    module _ {end r : ℕ} {u′ : List ℕ} (T : Twinned F s f known i u end u′ r) where
+      pub stands-twin : Stands F s f known cands (k + 1) u′
       stands-twin = rw (add-one k) record {
         remembers = T .remembers;
         few = W .few;
@@ -124,16 +125,16 @@ module _ {F : Field} {s : List ℕ} {f : List Float} {many : ℕ} {cands : List 
       unfolding recordsOf
       gathers-twin G = rw (add-one k, ← is-candidate) (T .gathers (le-refl (gatherAt F)) G)
 
-module _ {F : Field} {s : List ℕ} {f : List Float} {many : ℕ} {cands : List ℕ} {k : ℕ} {list₀ list : List ℕ} {held : ℕ} {u : List ℕ} {end : ℕ}
-    (W : Walks F s f many cands k list₀ list held u end) where
-  pub walks-twin : {i : ℕ} → i ≡ getD u (candidatesAt F + k) 0 → k < length cands → {u′ : List ℕ} {r : ℕ} → Twinned F s f many i u end u′ r
-      → Walks F s f many cands (k + 1) list₀ list held u′ r
+module _ {F : Field} {s : List ℕ} {f : List Float} {known : Known} {cands : List ℕ} {k : ℕ} {list₀ list : List ℕ} {held : ℕ} {u : List ℕ} {end : ℕ}
+    (W : Walks F s f known cands k list₀ list held u end) where
+  pub walks-twin : {i : ℕ} → i ≡ getD u (candidatesAt F + k) 0 → k < length cands → {u′ : List ℕ} {r : ℕ} → Twinned F s f known i u end u′ r
+      → Walks F s f known cands (k + 1) list₀ list held u′ r
   walks-twin here more T = record { stands = stands-twin (W .stands) here more T; gathers = gathers-twin (W .stands) here more T (W .gathers) }
 
   -- ---- a flush
 
   walks-front : {list′ u′ : List ℕ} {held′ end′ : ℕ} → take (gatherAt F) u′ ≡ take (gatherAt F) u → length u′ ≡ length u
-      → Gathering (recordsOf F s cands k) (gatherAt F) end′ held′ list₀ list′ u′ → Walks F s f many cands k list₀ list′ held′ u′ end′
+      → Gathering (recordsOf F s cands k) (gatherAt F) end′ held′ list₀ list′ u′ → Walks F s f known cands k list₀ list′ held′ u′ end′
   walks-front {u′ = u′} front long G =
       let S = W .stands in
       let cut : (w : List ℕ) → take (firstAt F) (take (gatherAt F) w) ≡ take (firstAt F) w = λ w. take-take (firstAt F) (gatherAt F) w (omega arith) in record {
@@ -163,7 +164,7 @@ module _ {F : Field} {s : List ℕ} {f : List Float} {many : ℕ} {cands : List 
     flushed-words : x .words ≡ distinctAt (gatherAt F) end u
     flushed-words = words-left (W .gathers .holding) (W .gathers .keys) (rw (W .gathers .count) at e)
 
-    pub walks-flush : {m : ℕ} → x .answer ≡ Holds m → Walks F s f many cands k list₀ (x .list) m (x .words) (gatherAt F)
+    pub walks-flush : {m : ℕ} → x .answer ≡ Holds m → Walks F s f known cands k list₀ (x .list) m (x .words) (gatherAt F)
     walks-flush a =
         let K = W .gathers .keys in
         walks-front (ap (take (gatherAt F)) flushed-words ∙ distinct-front (gatherAt F) end u (omega (arith, K .order, K .room)))
@@ -179,11 +180,11 @@ module _ {F : Field} {s : List ℕ} {f : List Float} {many : ℕ} {cands : List 
     unfolding roomed
     roomed-by b q = rw q at e
 
-    pub roomed-walks : {m : ℕ} → x .answer ≡ Holds m → Walks F s f many cands k list₀ (x .list) (heldOf (x .answer)) (x .words) (endAfter (length u) (gatherAt F) end (variables F))
+    pub roomed-walks : {m : ℕ} → x .answer ≡ Holds m → Walks F s f known cands k list₀ (x .list) (heldOf (x .answer)) (x .words) (endAfter (length u) (gatherAt F) end (variables F))
     unfolding endAfter heldOf
     roomed-walks {m} a = go (leb (variables F) (length u - end)) refl
       where
-        go : (b : Bool) → leb (variables F) (length u - end) ≡ b → Walks F s f many cands k list₀ (x .list) (heldOf (x .answer)) (x .words) (cond b end (gatherAt F))
+        go : (b : Bool) → leb (variables F) (length u - end) ≡ b → Walks F s f known cands k list₀ (x .list) (heldOf (x .answer)) (x .words) (cond b end (gatherAt F))
         go true q = rw (roomed-by true q) W
         go false q = rw a (walks-flush (roomed-by false q) a)
 
@@ -207,8 +208,8 @@ module _ {F : Field} {s : List ℕ} {f : List Float} {many : ℕ} {cands : List 
 
 -- ---- the end
 
-module _ {F : Field} {s : List ℕ} {f : List Float} {many : ℕ} {cands list₀ list : List ℕ} {held : ℕ} {u : List ℕ} {end : ℕ}
-    (W : Walks F s f many cands (length cands) list₀ list held u end) {x : Left} (e : x ≡ flushed list held u (gatherAt F) end) where
+module _ {F : Field} {s : List ℕ} {f : List Float} {known : Known} {cands list₀ list : List ℕ} {held : ℕ} {u : List ℕ} {end : ℕ}
+    (W : Walks F s f known cands (length cands) list₀ list held u end) {x : Left} (e : x ≡ flushed list held u (gatherAt F) end) where
   pub walks-done : Walked F s cands list₀ (x .answer) (x .list) (x .words)
   walks-done = go (x .answer) refl
     where

@@ -14,6 +14,7 @@ use Rattle.found.specs.declared.Merged.the-variants.{Holds, Full}
 use Rattle.found.specs.Flush.{Left, left, flushed}
 use Rattle.found.specs.Holding.{Gathering}
 use Rattle.field.specs.Field.{Field, variables}
+use Rattle.probing.specs.declared.Known.{Known}
 use Rattle.probing.specs.Remembered.{Remembers}
 use Rattle.finding.specs.Finds.{recordsOf, valuesOf}
 use Rattle.twin.specs.Twin.{firstAt, valuesAt}
@@ -48,8 +49,8 @@ heldOf Full = 0
 -- ---- the walk
 
 -- the workspace at s, `count` free variables as candidates, 2 as every probe value and every remembered one, and room
-pub record Walkable (F : Field) (s : List ℕ) (f : List Float) (u : List ℕ) (many count : ℕ) : Type 0 where
-  pub remembers : Remembers F s f u many
+pub record Walkable (F : Field) (s : List ℕ) (f : List Float) (u : List ℕ) (known : Known) (count : ℕ) : Type 0 where
+  pub remembers : Remembers F s f u known
   pub few : variables F ≤ 4096
   pub within : count ≤ variables F
   pub free : (h : ℕ) → h < count → getD s (getD u (candidatesAt F + h) 0) 0 ≡ 2
@@ -58,8 +59,8 @@ pub record Walkable (F : Field) (s : List ℕ) (f : List Float) (u : List ℕ) (
   pub space : gatherAt F + variables F ≤ length u
 
 -- after k candidates: the workspace stands, and the probe values and the candidates stand in their places
-pub record Stands (F : Field) (s : List ℕ) (f : List Float) (many : ℕ) (cands : List ℕ) (k : ℕ) (u : List ℕ) : Type 0 where
-  pub remembers : Remembers F s f u many
+pub record Stands (F : Field) (s : List ℕ) (f : List Float) (known : Known) (cands : List ℕ) (k : ℕ) (u : List ℕ) : Type 0 where
+  pub remembers : Remembers F s f u known
   pub few : variables F ≤ 4096
   pub space : gatherAt F + variables F ≤ length u
   pub first : (j : ℕ) → j < variables F → getD u (firstAt F + j) 0 ≡ 2
@@ -69,8 +70,8 @@ pub record Stands (F : Field) (s : List ℕ) (f : List Float) (many : ℕ) (cand
   pub free : (h : ℕ) → h < length cands → getD s (getD cands h 0) 0 ≡ 2
 
 -- and the record of every constraint found so far stands in the list or among the words
-pub record Walks (F : Field) (s : List ℕ) (f : List Float) (many : ℕ) (cands : List ℕ) (k : ℕ) (list₀ list : List ℕ) (held : ℕ) (u : List ℕ) (end : ℕ) : Type 0 where
-  pub stands : Stands F s f many cands k u
+pub record Walks (F : Field) (s : List ℕ) (f : List Float) (known : Known) (cands : List ℕ) (k : ℕ) (list₀ list : List ℕ) (held : ℕ) (u : List ℕ) (end : ℕ) : Type 0 where
+  pub stands : Stands F s f known cands k u
   pub gathers : Gathering (recordsOf F s cands k) (gatherAt F) end held list₀ list u
 
 -- all candidates are done, and the probe values stand in their place

@@ -1,6 +1,7 @@
 // The walk over the candidates: both probes of each, found constraints gathered and flushed.
 use found::Merged;
 use found::flush;
+use probing::Known;
 use scratch::wide_word;
 use twin::twin;
 ghost use mathlib.Core.Path.{_≡_};
@@ -57,10 +58,10 @@ pub fn walk(
     list: &mut [u16],
     f: &mut [f64],
     u: &mut [u32],
-    many: usize,
+    known: Known,
     count: usize,
 ) -> Merged
-    requires { ⌜ Walkable (lent c rows cols q) (now start) (now f) (now u) many count ⌝ }
+    requires { ⌜ Walkable (lent c rows cols q) (now start) (now f) (now u) known count ⌝ }
     requires { ⌜ now values ≡ now start ⌝ }
     ensures { λ _. ⌜ after values ≡ before start ⌝ }
     ensures { λ r. ⌜ Walked (given c rows cols q) (before start) (region (candidatesAt (given c rows cols q)) count (before u)) (before list) r (after list) (after u) ⌝ }
@@ -78,7 +79,7 @@ pub fn walk(
         }
         held = held_of(merged);
         let variable = wide_word(u[at + h]);
-        end = twin(c, rows, cols, q, start, values, f, u, many, variable, next);
+        end = twin(c, rows, cols, q, start, values, f, u, known, variable, next);
     }
     flush(list, held, u, lo, end)
 }
@@ -93,10 +94,10 @@ pub fn walk_values(
     values: &mut [u8],
     f: &mut [f64],
     u: &mut [u32],
-    many: usize,
+    known: Known,
     count: usize,
 )
-    requires { ⌜ Walkable (lent c rows cols q) (now start) (now f) (now u) many count ⌝ }
+    requires { ⌜ Walkable (lent c rows cols q) (now start) (now f) (now u) known count ⌝ }
     requires { ⌜ now values ≡ now start ⌝ }
     ensures { λ _. ⌜ after values ≡ before start ⌝ }
     ensures { λ _. ⌜ Valued (given c rows cols q) (before start) (region (candidatesAt (given c rows cols q)) count (before u)) (after u) ⌝ }
@@ -106,6 +107,6 @@ pub fn walk_values(
     let lo = at + n + n;
     for h in 0..count {
         let candidate = wide_word(u[at + h]);
-        twin(c, rows, cols, q, start, values, f, u, many, candidate, lo);
+        twin(c, rows, cols, q, start, values, f, u, known, candidate, lo);
     }
 }

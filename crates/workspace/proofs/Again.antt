@@ -21,9 +21,11 @@ use Rattle.run.specs.Run.{noRow, rowFor}
 use Rattle.run.specs.Cells.{Cells, cells, base, runIn, Placed}
 use Rattle.run.proofs.Cells.{placed-start, queue-long, queue-at}
 use Rattle.scanning.specs.Merge.{In}
-use Rattle.probing.specs.Remembered.{freshAll, fresh, remembered, probeRun, Remembers, Probes}
+use Rattle.probing.specs.declared.Known.{Known}
+use Rattle.probing.specs.Remembered.{renewed, remembered, probeRun, Remembers, Probes}
 use Rattle.workspace.specs.Restored.{From, Reached, Touched}
-use Rattle.probing.proofs.Afresh.{None, all-same, none-kept}
+use Rattle.probing.proofs.Afresh.{None}
+use Rattle.probing.proofs.Renewed.{renewed-same, renewed-none}
 use Rattle.probing.proofs.Leads.{Leads, leads-or-none}
 use Rattle.probing.proofs.Probing.{probed-below}
 use Rattle.workspace.proofs.Touching.{Fixed, TouchedRun, propagate-touches}
@@ -37,11 +39,10 @@ queued {c = c} P m =
 -- ---- what the probe begins from: i has its value, and only rows that its places lead to are made afresh
 
 module _ (F : Field) (s : List ℕ) (i v : ℕ) where
-  begun-touches : TouchedRun F s (λ x. x ≡ i) (fresh F (remembered F s (set s i v)) i)
-  unfolding fresh remembered
+  begun-touches : TouchedRun F s (λ x. x ≡ i) (renewed F v (remembered F s (set s i v)) i)
+  unfolding remembered
   begun-touches =
-      let run = remembered F s (set s i v) in
-      let same = all-same F i run (places (F .rows) (F .cols) i) in
+      let same = renewed-same F i v (remembered F s (set s i v)) in
       record {
         values = λ j. at (same .values) j (ℕ-discrete j i);
         rows = λ t h. by t h (leads-or-none F i t (places (F .rows) (F .cols) i));
@@ -52,22 +53,22 @@ module _ (F : Field) (s : List ℕ) (i v : ℕ) where
       at e j (no ne) = inl (ap (λ (l : List ℕ). getD l j 0) e ∙ getD-set-other s i j v 0 ne)
 
       by : {queue : List ℕ} (t : ℕ) → t < variables F → Leads F i t (places (F .rows) (F .cols) i) ⊎ None F i t (places (F .rows) (F .cols) i)
-          → (rowFor (freshAll F i (remembered F s (set s i v)) (places (F .rows) (F .cols) i)) t ≡ rowOf F s t) ⊎ Reached F (Fixed (λ x. x ≡ i) queue) t
+          → (rowFor (renewed F v (remembered F s (set s i v)) i) t ≡ rowOf F s t) ⊎ Reached F (Fixed (λ x. x ≡ i) queue) t
       by t h (inl l) =
           let k = places-touch (F .rows) (F .cols) i (l .place) (l .within) in
           inr (record { variable = i; fixed = inl refl; joined = record { entry = getD (places (F .rows) (F .cols) i) (l .place) 0; within = k .0; touches = k .1; other = l .other } })
       by t h (inr none) =
-          inl (none-kept F i (remembered F s (set s i v)) (places (F .rows) (F .cols) i) t none ∙ getD-upTo (rowOf F s) (variables F) t noRow h)
+          inl (renewed-none F i v (remembered F s (set s i v)) t none ∙ getD-upTo (rowOf F s) (variables F) t noRow h)
 
-  begun-empty : fresh F (remembered F s (set s i v)) i .queue ≡ []
-  unfolding fresh remembered
-  begun-empty = all-same F i (remembered F s (set s i v)) (places (F .rows) (F .cols) i) .queue
+  begun-empty : renewed F v (remembered F s (set s i v)) i .queue ≡ []
+  unfolding remembered
+  begun-empty = renewed-same F i v (remembered F s (set s i v)) .queue
 
   probe-touches : TouchedRun F s (λ x. x ≡ i) (probeRun F s i v)
   unfolding probeRun
-  probe-touches = propagate-touches F s (λ x. x ≡ i) (fresh F (remembered F s (set s i v)) i) begun-empty begun-touches
+  probe-touches = propagate-touches F s (λ x. x ≡ i) (renewed F v (remembered F s (set s i v)) i) begun-empty begun-touches
 
-module _ {F : Field} {s : List ℕ} {f : List Float} {u : List ℕ} {many : ℕ} (R : Remembers F s f u many) (i v : ℕ) (free : getD s i 0 ≡ 2) (small : v < 2)
+module _ {F : Field} {s : List ℕ} {f : List Float} {u : List ℕ} {known : Known} (R : Remembers F s f u known) (i v : ℕ) (free : getD s i 0 ≡ 2) (small : v < 2)
     {c : Cells} (P : Probes F s i v (cells s f u 0) c) where
   -- so what the probe leaves can be put back
   pub probed-touched : Touched F s i c
@@ -98,10 +99,11 @@ module _ {F : Field} {s : List ℕ} {f : List Float} {u : List ℕ} {many : ℕ}
         (record { long = refl; rows = R .rows; rest = refl })
 
     -- and the workspace stands for the next probe
-    pub remembers-again : Remembers F s f₂ (c .words) many
+    pub remembers-again : Remembers F s f₂ (c .words) known
     unfolding region
     remembers-again = rw floats-again record {
       placed = placed-start (R .placed .shaped) (R .start .long) (R .placed .floats-room) (P .kept .placed .adjacent) (P .kept .placed .words-room);
+      graded = R .graded;
       standard = R .standard;
       start = R .start;
       rows = R .rows;
@@ -110,5 +112,5 @@ module _ {F : Field} {s : List ℕ} {f : List Float} {u : List ℕ} {many : ℕ}
       list-room = omega (arith, R .list-room, P .kept .words-long);
       count = R .count;
       listed =
-          ap (take many) (drop-more (base F + c .tail) (base F + variables F) (c .words) u (omega (arith, P .kept .placed .queue-room)) (P .kept .words-rest)) ∙ R .listed;
+          ap (take (known .many)) (drop-more (base F + c .tail) (base F + variables F) (c .words) u (omega (arith, P .kept .placed .queue-room)) (P .kept .words-rest)) ∙ R .listed;
     }

@@ -11,6 +11,7 @@ use Rattle.scratch.specs.Region.{region}
 use Rattle.scratch.proofs.Region.{length-region, region-at}
 use Rattle.field.specs.Field.{Field, variables}
 use Rattle.field.specs.Tests.{Ready}
+use Rattle.field.specs.Grade.{gradeOf}
 use Rattle.rows.specs.Model.{rowOf}
 use Rattle.rows.specs.Stored.{rowOn, Fillable, Filled}
 use Rattle.rows.proofs.Upto.{getD-upTo, upTo-same}
@@ -20,6 +21,7 @@ use Rattle.places.proofs.Walk.{adjacent-front}
 use Rattle.run.specs.Run.{Run, noRow, scanTo}
 use Rattle.run.specs.Cells.{cells, base, runIn, Placed, Does}
 use Rattle.run.proofs.Cells.{placed-start, queue-long}
+use Rattle.probing.specs.declared.Known.{Known}
 use Rattle.probing.specs.Remembered.{remembered, candidates, Remembers}
 use Rattle.workspace.specs.Restored.{Undoable}
 use Rattle.workspace.specs.Shifted.{Shiftable, Shifted}
@@ -101,9 +103,10 @@ module _ {F : Field} {s : List ℕ} (f₀ : List Float) (u₀ : List ℕ) (ready
       begin-list = record { order = inr (omega (arith, few)); from-room = omega (arith, few, room₂); to-room = omega (arith, few, room₂) }
 
       module _ {u₃ : List ℕ} (S : Shifted 0 (base F) (base F + variables F) many u₂ u₃) where
-        pub begin-remembers : Remembers F s f₂ u₃ many
+        pub begin-remembers : {known : Known} → known .many ≡ many → known .grade ≡ gradeOf F → Remembers F s f₂ u₃ known
         unfolding candidates runIn
-        begin-remembers = record {
+        begin-remembers em eg = record {
+          graded = eg;
           placed = placed-start (ready .sound .shaped) (ready .sound .start .long) (omega (arith, ready .floats-room, filled .long, copied .long))
               (adjacent-front (shifted-front S (base F) (omega arith) (omega (arith, room₂))) (S .long) (D .kept .placed .adjacent)) (omega (arith, room₂, S .long));
           standard = ready .sound .standard;
@@ -112,6 +115,6 @@ module _ {F : Field} {s : List ℕ} (f₀ : List Float) (u₀ : List ℕ) (ready
           copy = copy-row;
           copy-room = omega (arith, ready .floats-room, filled .long, copied .long);
           list-room = omega (arith, room₂, S .long);
-          count = sym (queue-long (D .kept .placed)) ∙ ap (λ (run : Run). length (run .queue)) scan-is;
-          listed = shifted-region S (omega (arith, few)) (omega (arith, few, room₂)) ∙ ap (λ (run : Run). run .queue) scan-is;
+          count = em ∙ sym (queue-long (D .kept .placed)) ∙ ap (λ (run : Run). length (run .queue)) scan-is;
+          listed = rw em (shifted-region S (omega (arith, few)) (omega (arith, few, room₂)) ∙ ap (λ (run : Run). run .queue) scan-is);
         }

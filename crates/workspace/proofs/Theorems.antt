@@ -1,6 +1,6 @@
 -- The theorems about probes with remembered rows, each in one statement, over the promises of `remember`, `probe` and `restore`. Assumes nothing.
 use Prim.Native.Nat.{ℕ, _<_}
-use mathlib.Core.Path.{_≡_, sym, ap, _∙_}
+use mathlib.Core.Path.{_≡_, refl, sym, ap, _∙_}
 use mathlib.Core.Logic.{⊎-elim}
 use mathlib.Core.List.{List}
 use native.Mathlib.Omega.{arith}
@@ -9,7 +9,7 @@ use lib.ListN.{getD, set, length-set}
 use Rattle.scratch.specs.Region.{region}
 use Rattle.meaning.specs.Probe.{Probed}
 use Rattle.meaning.proofs.Values.{inside, after-set}
-use Rattle.field.specs.Field.{Field, variables, StartFor}
+use Rattle.field.specs.Field.{Field, StartFor}
 use Rattle.field.specs.Grade.{ExactIn}
 use Rattle.field.specs.Reading.{wholeOf}
 use Rattle.rows.specs.Stored.{Filled}
@@ -18,9 +18,10 @@ use Rattle.run.specs.Run.{Run, closureRun, closure}
 use Rattle.run.specs.Cells.{Cells, cells, base, runIn, Does}
 use Rattle.run.proofs.Unique.{does-unique}
 use Rattle.run.proofs.Theorems as run
+use Rattle.probing.specs.declared.Known.{Known}
 use Rattle.probing.specs.Remembered.{probeRun, Remembers, Probes}
 use Rattle.workspace.specs.Restored.{Touched}
-use Rattle.probing.proofs.Afresh as afresh
+use Rattle.probing.proofs.Renewed as renewed
 use Rattle.workspace.proofs.Again as again
 
 -- the start values with a value added are start values
@@ -30,17 +31,17 @@ start-with {s = s} start i v free small = record {
   small = λ j. ⊎-elim (λ z. omega (arith, z .1)) (λ z. omega (arith, start .small j)) (after-set s i v (inside s i free) j);
 }
 
-module _ {F : Field} {s : List ℕ} {f : List Float} {u : List ℕ} {many : ℕ} (R : Remembers F s f u many) (i v : ℕ) (free : getD s i 0 ≡ 2) (small : v < 2)
+module _ {F : Field} {s : List ℕ} {f : List Float} {u : List ℕ} {known : Known} (R : Remembers F s f u known) (i v : ℕ) (free : getD s i 0 ≡ 2) (small : v < 2)
     {c : Cells} (P : Probes F s i v (cells s f u 0) c) where
   -- On every field, exact or not, a probe leaves the closure of the start values with the one value added,
   pub probe-values : c .values ≡ closure F (set s i v)
   unfolding runIn
-  probe-values = ap (λ (r : Run). r .values) (P .run) ∙ afresh.probe-is-closure (R .placed .shaped) (R .start) i v free small
+  probe-values = ap (λ (r : Run). r .values) (P .run) ∙ renewed.probe-is-closure (R .placed .shaped) (R .start) i v free small
 
   -- and the variables that it forced stand in the queue, in the closure's order.
   pub probe-forced : region (base F) (c .tail) (c .words) ≡ closureRun F (set s i v) .queue
   unfolding runIn
-  probe-forced = ap (λ (r : Run). r .queue) (P .run) ∙ afresh.probe-queue (R .placed .shaped) (R .start) i v free small
+  probe-forced = ap (λ (r : Run). r .queue) (P .run) ∙ renewed.probe-queue (R .placed .shaped) (R .start) i v free small
 
   -- On an exact field that is the whole-number closure.
   pub probe-closes : {w : ℕ} → ExactIn w F → Probed (wholeOf w F) s i v (c .values)
@@ -56,7 +57,7 @@ module _ {F : Field} {s : List ℕ} {f : List Float} {u : List ℕ} {many : ℕ}
     restored-floats = again.floats-again R i v free small P W
 
     -- and the workspace stands for the next probe.
-    pub restored-remembers : Remembers F s f₂ (c .words) many
+    pub restored-remembers : Remembers F s f₂ (c .words) known
     restored-remembers = again.remembers-again R i v free small P W
 
 -- Two results of one probe are equal.
@@ -71,5 +72,8 @@ pub restore-unique : (F : Field) (s : List ℕ) {f₁ f₂ f₃ : List Float} �
 restore-unique F s A B = written-unique A B
 
 -- Two workspaces for one field and one list of start values hold as many candidates.
-pub remember-unique : {F : Field} {s : List ℕ} {f g : List Float} {u w : List ℕ} {k l : ℕ} → Remembers F s f u k → Remembers F s g w l → k ≡ l
-remember-unique A B = A .count ∙ sym (B .count)
+pub remember-unique : {F : Field} {s : List ℕ} {f g : List Float} {u w : List ℕ} {k l : Known} → Remembers F s f u k → Remembers F s g w l → k ≡ l
+remember-unique A B = same (A .count ∙ sym (B .count)) (A .graded ∙ sym (B .graded))
+  where
+    same : {k l : Known} → k .many ≡ l .many → k .grade ≡ l .grade → k ≡ l
+    same e f = rw (e, f) refl

@@ -2,14 +2,17 @@
 use crate::copying::copy_floats;
 use crate::copying::copy_words;
 use crate::restoring::undo;
+use field::Grade;
+use probing::Known;
 ghost use mathlib.Core.Path.{_≡_};
 ghost use lib.ListN.{length};
 ghost use Rattle.scratch.specs.Lent.{before, after};
 ghost use Rattle.field.specs.Field.{given, lent};
 ghost use Rattle.field.specs.Tests.{Ready};
+ghost use Rattle.field.specs.Grade.{gradeOf};
 ghost use Rattle.probing.specs.Remembered.{Remembers};
 
-// The places, the rows at the start values and a copy of them, and the candidates: what a scan there forces; how many these are.
+// The places, the rows at the start values and a copy of them, and the candidates: what a scan there forces; how many these are, beside the grade.
 pub fn remember(
     c: &[f64],
     rows: &[u16],
@@ -19,9 +22,11 @@ pub fn remember(
     values: &mut [u8],
     f: &mut [f64],
     u: &mut [u32],
-) -> usize
+    grade: Grade,
+) -> Known
     requires { ⌜ Ready (lent c rows cols q) (now start) (length (now f)) (length (now u)) ⌝ }
     requires { ⌜ now values ≡ now start ⌝ }
+    requires { ⌜ grade ≡ gradeOf (lent c rows cols q) ⌝ }
     ensures { λ _. ⌜ after values ≡ before start ⌝ }
     ensures { λ r. ⌜ Remembers (given c rows cols q) (before start) (after f) (after u) r ⌝ }
 {
@@ -33,5 +38,5 @@ pub fn remember(
     let many = run::queue::scan(c, rows, cols, q, values, f, u);
     undo(start, values, u, from, many);
     copy_words(u, from, from + n, many);
-    many
+    Known { many, grade }
 }

@@ -23,7 +23,7 @@ graded-requires : tie.Need-graded-requires
 graded-requires c κs = ready-loose (tests-ready (c .before .before .ready .ensures) (c .enum-told .given .1))
 
 work-requires : tie.Need-work-requires
-work-requires c κs = tests-ready (c .before .before .before .before .before .before .ready .ensures) (c .before .before .before .before .enum-told .given .1)
+work-requires c κs = (tests-ready (c .before .before .before .before .before .before .ready .ensures) (c .before .before .before .before .enum-told .given .1), c .before .before .before .graded .ensures)
 
 clear-floats-requires : tie.Need-clear-floats-requires
 clear-floats-requires c κs = search needs

@@ -29,7 +29,7 @@ probe-values-requires : tie.Need-probe-values-requires
 probe-values-requires c κs =
     let at-work = c .before .before .before .before .before .before .before .before .before .before in
     let at-start = at-work .before .before .before .before .before .before .before .before .before .before .before .before in
-    (ready-probe (at-start .pre .0) (at-work .work .ensures) (search needs) (search needs), search needs)
+    (ready-probe (at-start .pre .0) (at-work .work .ensures) (search needs) (search needs), (search needs, at-start .pre .1 .1))
 
 lay-requires : tie.Need-lay-requires
 lay-requires c κs =
@@ -55,7 +55,7 @@ returns c =
     let at-probe-values = at-lay .before .before .before .before .before .before .before .before .before in
     let at-work = at-probe-values .before .before .before .before .before .before .before .before .before .before .before in
     let at-start = at-work .before .before .before .before .before .before .before .before .before .before .before .before in
-    round-is (at-start .pre .0) (at-work .work .ensures) _ (search needs) (at-probe-values .probe-values .ensures) (at-lay .lay .ensures)
+    round-is (at-start .pre .0) (at-work .work .ensures) _ (at-probe-values .probe-values .ensures) (at-lay .lay .ensures)
 
 pub round-spec : {M : Type 1} → statement M
 round-spec =

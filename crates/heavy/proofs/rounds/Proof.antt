@@ -1,5 +1,6 @@
 -- `rounds` does one round a turn. Assumes nothing.
 use Prim.Native.Nat.{_-_}
+use mathlib.Core.Path.{sym, _∙_}
 use lib.ListN.{length}
 use Rattle.field.specs.Field.{fieldOf}
 use Rattle.heavy.proofs.Going.{Going, going-start, going-stop, going-turn, going-done}
@@ -8,10 +9,10 @@ use Rattle.heavy.proofs.rounds.Statement.{statement}
 use Rattle.heavy.proofs.rounds.Tie as tie
 
 abbrev Inv-loop : tie.InvT-loop
-Inv-loop c rows cols q values₀ probed₀ f₀ u₀ free₀ k₀ k-end values probed f u free k = Going (fieldOf c rows cols q) values₀ (length f₀) (length u₀) k values free (length f) (length u) (length probed)
+Inv-loop c rows cols q values₀ probed₀ f₀ u₀ grade free₀ k₀ k-end values probed f u free k = Going (fieldOf c rows cols q) values₀ (length f₀) (length u₀) k values free (length f) (length u) (length probed)
 
 abbrev μ-loop : tie.MeasureT-loop
-μ-loop c rows cols q values₀ probed₀ f₀ u₀ free₀ k₀ k-end values probed f u free k = k-end - k
+μ-loop c rows cols q values₀ probed₀ f₀ u₀ grade free₀ k₀ k-end values probed f u free k = k-end - k
 
 count-free-requires : tie.Need-count-free-requires Inv-loop μ-loop
 count-free-requires c κs = search needs
@@ -19,16 +20,23 @@ count-free-requires c κs = search needs
 loop-holds : tie.Need-loop-holds Inv-loop μ-loop
 loop-holds c =
     let at-start = c .before .before .before .before .before .before .before .before .before .before in
-    going-start (at-start .pre .0) (at-start .pre .1) (c .count-free .ensures)
+    going-start (at-start .pre .0) (at-start .pre .1 .0) (c .count-free .ensures)
 
 round-requires : tie.Need-round-requires Inv-loop μ-loop
-round-requires c κs = (c .before .before .before .before .before .loop .inv .ready, c .before .before .before .before .before .loop .inv .working)
+round-requires c κs =
+    let at-loop = c .before .before .before .before .before in
+    let at-start = at-loop .before .before .before .before .before .before .before .before .before .before .before in
+    (at-loop .loop .inv .ready, (at-loop .loop .inv .working, at-start .pre .1 .1))
 
 count-free-requires-2 : tie.Need-count-free-requires-2 Inv-loop μ-loop
 count-free-requires-2 c κs = search needs
 
 same-length : tie.Need-same-length Inv-loop μ-loop
-same-length c = search needs
+same-length c =
+    let at-round = c .before .before .before .before .before .before .before .before .before .before .before in
+    let at-loop = at-round .before .before .before .before .before .before in
+    let at-start = at-loop .before .before .before .before .before .before .before .before .before .before .before in
+    at-round .round .kept .1 .1 .1 .1 .0 ∙ at-loop .loop .inv .ready .sound .start .long ∙ sym (at-start .pre .0 .sound .start .long)
 
 same-length-2 : tie.Need-same-length-2 Inv-loop μ-loop
 same-length-2 c = search needs

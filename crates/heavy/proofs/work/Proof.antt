@@ -6,15 +6,15 @@ use Rattle.heavy.proofs.work.Statement.{statement}
 use Rattle.heavy.proofs.work.Tie as tie
 
 array-borrow-prefix-probed : tie.Need-array-borrow-prefix-probed
-array-borrow-prefix-probed c = c .before .before .before .before .before .before .before .before .pre .sound .shaped .few-variables
+array-borrow-prefix-probed c = c .before .before .before .before .before .before .before .before .pre .0 .sound .shaped .few-variables
 
 slice-aggregate-rounds : tie.Need-slice-aggregate-rounds
-slice-aggregate-rounds c = front-long _ 4096 (c .before .before .before .before .before .before .before .before .before .pre .sound .shaped .few-variables)
+slice-aggregate-rounds c = front-long _ 4096 (c .before .before .before .before .before .before .before .before .before .pre .0 .sound .shaped .few-variables)
 
 rounds-requires : tie.Need-rounds-requires
 rounds-requires c κs =
     let at-start = c .before .before .before .before .before .before .before .before .before .before .before in
-    (at-start .pre, sym (front-long _ 4096 (at-start .pre .sound .shaped .few-variables)))
+    (at-start .pre .0, (sym (front-long _ 4096 (at-start .pre .0 .sound .shaped .few-variables)), at-start .pre .1))
 
 same-length : tie.Need-same-length
 same-length c = search needs

@@ -9,10 +9,10 @@ use Rattle.walking.proofs.walk.Statement.{statement}
 use Rattle.walking.proofs.walk.Tie as tie
 
 abbrev Inv-loop : tie.InvT-loop
-Inv-loop c rows cols q start values₀ list₀ f₀ u₀ many count n at lo held₀ end₀ h₀ values list f u held end h = Walking (fieldOf c rows cols q) start many count list₀ f₀ u₀ values list f u held end h
+Inv-loop c rows cols q start values₀ list₀ f₀ u₀ known count n at lo held₀ end₀ h₀ values list f u held end h = Walking (fieldOf c rows cols q) start known count list₀ f₀ u₀ values list f u held end h
 
 abbrev μ-loop : tie.MeasureT-loop
-μ-loop c rows cols q start values₀ list₀ f₀ u₀ many count n at lo held₀ end₀ h₀ values list f u held end h = count - h
+μ-loop c rows cols q start values₀ list₀ f₀ u₀ known count n at lo held₀ end₀ h₀ values list f u held end h = count - h
 
 add-at : tie.Need-add-at Inv-loop μ-loop
 add-at c = search needs

@@ -9,10 +9,10 @@ use Rattle.walking.proofs.walk_values.Statement.{statement}
 use Rattle.walking.proofs.walk_values.Tie as tie
 
 abbrev Inv-loop : tie.InvT-loop
-Inv-loop c rows cols q start values₀ f₀ u₀ many count n at lo h₀ values f u h = Valuing (fieldOf c rows cols q) start many count f₀ u₀ values f u h
+Inv-loop c rows cols q start values₀ f₀ u₀ known count n at lo h₀ values f u h = Valuing (fieldOf c rows cols q) start known count f₀ u₀ values f u h
 
 abbrev μ-loop : tie.MeasureT-loop
-μ-loop c rows cols q start values₀ f₀ u₀ many count n at lo h₀ values f u h = count - h
+μ-loop c rows cols q start values₀ f₀ u₀ known count n at lo h₀ values f u h = count - h
 
 add-at : tie.Need-add-at Inv-loop μ-loop
 add-at c = search needs

@@ -8,7 +8,10 @@ copy-requires : tie.Need-copy-requires
 copy-requires c κs = search needs
 
 remember-requires : tie.Need-remember-requires
-remember-requires c κs = search needs
+remember-requires c κs =
+    let at-copy = c .before .before .before .before .before in
+    let at-start = at-copy .before .before .before .before .before .before .before .before .before .before in
+    (at-start .pre .0, (at-copy .copy .ensures, at-start .pre .1 .1))
 
 walk-free-requires : tie.Need-walk-free-requires
 walk-free-requires c κs =

@@ -1,4 +1,4 @@
--- `settle` grades, gathers, and hands over what was found, or refuses for want of room. Assumes nothing.
+-- `settle` gathers, and hands over what was found, or refuses for want of room. Assumes nothing.
 use mathlib.Core.Path.{sym, ap, _∙_}
 use native.Mathlib.Omega.{arith}
 use lib.ListN.{length}
@@ -29,13 +29,8 @@ add-at-4 c = search needs
 add-at-5 : tie.Need-add-at-5
 add-at-5 c = search needs
 
-graded-requires : tie.Need-graded-requires
-graded-requires c κs =
-    let start = c .before .before .before .before .before .before .before .before .before in
-    record { shaped = start .pre .0 .remembers .placed .shaped; finite-weights = start .pre .0 .finite-weights }
-
 gather-requires : tie.Need-gather-requires
-gather-requires c κs = c .before .before .before .before .before .before .before .before .before .before .before .before .before .before .pre
+gather-requires c κs = c .before .before .before .before .before .before .before .before .before .before .before .before .before .pre
 
 enum-known-merged : tie.Need-enum-known-merged
 enum-known-merged c = search needs
@@ -44,7 +39,7 @@ hand-over-requires : tie.Need-hand-over-requires
 hand-over-requires c κs =
     let at-merged = c .before .before .before .before in
     let at-gather = at-merged .before .before .before .before .before .before .before .before .before .before in
-    let start = at-gather .before .before .before .before .before .before .before .before .before .before .before .before .before .before .before in
+    let start = at-gather .before .before .before .before .before .before .before .before .before .before .before .before .before .before in
     let a = start .args in
     let g = at-gather .gather in
     let F = fieldOf (a .c .now) (a .rows .now) (a .cols .now) (a .q .now) in
@@ -70,8 +65,7 @@ returns c =
     let at-hand-over = c .before .before .before .before .before .before in
     let at-merged = at-hand-over .before .before .before .before .before in
     let at-gather = at-merged .before .before .before .before .before .before .before .before .before .before in
-    let at-graded = at-gather .before .before .before .before .before in
-    let start = at-graded .before .before .before .before .before .before .before .before .before .before in
+    let start = at-gather .before .before .before .before .before .before .before .before .before .before .before .before .before .before in
     let a = start .args in
     let g = at-gather .gather in
     let F = fieldOf (a .c .now) (a .rows .now) (a .cols .now) (a .q .now) in
@@ -80,7 +74,7 @@ returns c =
     (g .last .1 .1 .1 .1 .1 .1 .0) (g .last .1 .1 .1 .1 .1 .1 .1 .1 .0)
     (length (g .last .1 .1 .1 .1 .1 .0)) (length (g .last .1 .1 .1 .1 .1 .1 .1 .0)) (length (g .last .1 .1 .1 .1 .1 .1 .1 .1 .0))
     (all-held F (a .start .now) cands (a .constraints .now) (g .last .1 .1 .1 .1 .1 .1 .0) (g .last .1 .1 .1 .1 .1 .1 .1 .1 .0) (g .ensures) (at-merged .merged .given .1))
-    (at-graded .graded .ensures)
+    (start .pre .0 .remembers .graded)
     (at-hand-over .hand-over .ensures .0) (g .kept .1 .1 .1 .1 .1 .0)
     (at-hand-over .hand-over .ensures .1 .0) (g .kept .1 .1 .1 .1 .1 .1 .1 .0) (at-hand-over .hand-over .ensures .1 .1) (g .kept .1 .1 .1 .1 .1 .1 .1 .1 .0)
 
@@ -107,7 +101,7 @@ returns-2 c =
     let at-no-room = c .before .before .before .before .before .before .before .before in
     let at-enum-told = at-no-room .before .before .before .before .before in
     let at-gather = at-enum-told .before .before .before .before .before .before .before .before .before .before in
-    let start = at-gather .before .before .before .before .before .before .before .before .before .before .before .before .before .before .before in
+    let start = at-gather .before .before .before .before .before .before .before .before .before .before .before .before .before .before in
     let a = start .args in
     let g = at-gather .gather in
     let F = fieldOf (a .c .now) (a .rows .now) (a .cols .now) (a .q .now) in
@@ -128,7 +122,6 @@ settle-spec =
     add-at-3
     add-at-4
     add-at-5
-    graded-requires
     gather-requires
     enum-known-merged
     hand-over-requires

@@ -1,4 +1,5 @@
 -- `remember` builds the places and the rows, copies the rows, and lists what a scan forces. Assumes nothing.
+use mathlib.Core.Path.{refl}
 use mathlib.Core.Logic.{inr}
 use native.Mathlib.Omega.{arith}
 use Rattle.workspace.proofs.Begun.{begin-places, begin-rows, begin-placed, begin-undo, begin-list, begin-remembers}
@@ -23,7 +24,7 @@ build-requires c κs =
 fill-requires : tie.Need-fill-requires
 fill-requires c κs =
     let at-args = c .before .before .before .before .before .before .before .before .before .before .before .before .before .before in
-    let a = at-args .args in begin-rows (a .f .now) (a .u .now) (at-args .pre .0) (at-args .pre .1)
+    let a = at-args .args in begin-rows (a .f .now) (a .u .now) (at-args .pre .0) (at-args .pre .1 .0)
 
 add-copy-floats : tie.Need-add-copy-floats
 add-copy-floats c = search needs
@@ -46,7 +47,7 @@ scan-requires c κs =
     let at-build = at-fill .before .before .before .before .before in
     let at-args = at-build .before .before .before .before .before .before .before .before .before .before in
     let a = at-args .args in
-    begin-placed (a .f .now) (a .u .now) (at-args .pre .0) (at-args .pre .1) (at-build .build .ensures) (at-fill .fill .ensures) (at-copy-floats .copy-floats .ensures)
+    begin-placed (a .f .now) (a .u .now) (at-args .pre .0) (at-args .pre .1 .0) (at-build .build .ensures) (at-fill .fill .ensures) (at-copy-floats .copy-floats .ensures)
 
 undo-requires : tie.Need-undo-requires
 undo-requires c κs =
@@ -56,7 +57,7 @@ undo-requires c κs =
     let at-build = at-fill .before .before .before .before .before in
     let at-args = at-build .before .before .before .before .before .before .before .before .before .before in
     let a = at-args .args in
-    begin-undo (a .f .now) (a .u .now) (at-args .pre .0) (at-args .pre .1) (at-build .build .ensures) (at-fill .fill .ensures) (at-copy-floats .copy-floats .ensures) (at-scan .scan .ensures)
+    begin-undo (a .f .now) (a .u .now) (at-args .pre .0) (at-args .pre .1 .0) (at-build .build .ensures) (at-fill .fill .ensures) (at-copy-floats .copy-floats .ensures) (at-scan .scan .ensures)
 
 add-copy-words : tie.Need-add-copy-words
 add-copy-words c = search needs
@@ -69,7 +70,7 @@ copy-words-requires c κs =
     let at-build = at-fill .before .before .before .before .before in
     let at-args = at-build .before .before .before .before .before .before .before .before .before .before in
     let a = at-args .args in
-    begin-list (a .f .now) (a .u .now) (at-args .pre .0) (at-args .pre .1) (at-build .build .ensures) (at-fill .fill .ensures) (at-copy-floats .copy-floats .ensures) (at-scan .scan .ensures)
+    begin-list (a .f .now) (a .u .now) (at-args .pre .0) (at-args .pre .1 .0) (at-build .build .ensures) (at-fill .fill .ensures) (at-copy-floats .copy-floats .ensures) (at-scan .scan .ensures)
 
 same-length : tie.Need-same-length
 same-length c = search needs
@@ -91,8 +92,8 @@ returns c =
     let at-args = at-build .before .before .before .before .before .before .before .before .before .before in
     let a = at-args .args in (
       at-undo .undo .ensures,
-      begin-remembers (a .f .now) (a .u .now) (at-args .pre .0) (at-args .pre .1) (at-build .build .ensures) (at-fill .fill .ensures)
-          (at-copy-floats .copy-floats .ensures) (at-scan .scan .ensures) (at-copy-words .copy-words .ensures),
+      begin-remembers (a .f .now) (a .u .now) (at-args .pre .0) (at-args .pre .1 .0) (at-build .build .ensures) (at-fill .fill .ensures)
+          (at-copy-floats .copy-floats .ensures) (at-scan .scan .ensures) (at-copy-words .copy-words .ensures) refl (at-args .pre .1 .1),
     )
 
 pub remember-spec : {M : Type 1} → statement M

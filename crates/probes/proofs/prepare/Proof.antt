@@ -1,0 +1,42 @@
+-- `prepare` grades, copies the start values, and makes the workspace. Assumes nothing.
+use Rattle.calls.proofs.Values.{ready-loose}
+use borrow.Author.Needs.{needs}
+use Rattle.probes.proofs.prepare.Statement.{statement}
+use Rattle.probes.proofs.prepare.Tie as tie
+
+graded-requires : tie.Need-graded-requires
+graded-requires c κs = ready-loose (c .before .before .before .before .before .before .before .before .pre .0)
+
+copy-requires : tie.Need-copy-requires
+copy-requires c κs = search needs
+
+remember-requires : tie.Need-remember-requires
+remember-requires c κs =
+    let at-copy = c .before .before .before .before .before in
+    let at-graded = at-copy .before .before in
+    let at-start = at-graded .before .before .before .before .before .before .before .before .before in
+    (at-start .pre .0, (at-copy .copy .ensures, at-graded .graded .ensures))
+
+same-length : tie.Need-same-length
+same-length c = search needs
+
+same-length-2 : tie.Need-same-length-2
+same-length-2 c = search needs
+
+same-length-3 : tie.Need-same-length-3
+same-length-3 c = search needs
+
+returns : tie.Need-returns
+returns c = c .before .before .before .before .before .before .remember .ensures
+
+pub prepare-spec : {M : Type 1} → statement M
+prepare-spec =
+    tie.close
+    (tie.spec
+    graded-requires
+    copy-requires
+    remember-requires
+    same-length
+    same-length-2
+    same-length-3
+    returns)
