@@ -9,7 +9,7 @@ ghost use Rattle.field.specs.Tests.{Ready};
 ghost use Rattle.run.specs.Run as model;
 ghost use Rattle.closure.specs.Call.{left, flat, closureCall};
 
-// The places, the rows, the run from them, and how many free variables have a flat row at its end.
+// The closure's run from the values, and how many free variables have a flat row at its end.
 fn work(
     c: &[f64],
     rows: &[u16],
@@ -23,9 +23,7 @@ fn work(
     ensures { λ _. ⌜ after values ≡ model.closure (given c rows cols q) (before values) ⌝ }
     ensures { λ r. ⌜ r ≡ flat (given c rows cols q) (before values) ⌝ }
 {
-    places::build(u, rows, cols, c.len());
-    rows::fill::fill(c, rows, cols, q, values, f);
-    run::propagate(c, rows, cols, q, values, f, u);
+    run::close(c, rows, cols, q, values, f, u);
     run::flat::flat_rows(values, f)
 }
 

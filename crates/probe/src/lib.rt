@@ -33,9 +33,7 @@ fn work(
     ensures { λ _. ⌜ after values ≡ model.closure (given c rows cols q) (set (before start) variable value) ⌝ }
 {
     assume(start, variable, value, values);
-    places::build(u, rows, cols, c.len());
-    rows::fill::fill(c, rows, cols, q, values, f);
-    run::propagate(c, rows, cols, q, values, f, u);
+    run::close(c, rows, cols, q, values, f, u);
 }
 
 // What the probe of a variable at a value finds goes into the values; a refusal before 9 changes nothing.

@@ -13,3 +13,4 @@ pub mod Moves
 pub mod Turns
 pub mod Unique
 pub mod FlatRows
+pub mod First

@@ -13,19 +13,15 @@ use Rattle.rows.specs.declared.Row.{Row}
 use Rattle.rows.specs.Stored.{rowsOn, Filled}
 use Rattle.rows.proofs.Stored.{written-rows}
 use Rattle.places.proofs.Walk.{Along, along-start, along-turn, along-front, along-end}
-use Rattle.run.specs.Run.{Run, scanAt, scanTo, serveAt, serveAll, serve, work, propagate, closureRun, closure, flatTo, flatRows}
+use Rattle.run.specs.Run.{Run, scanAt, scanTo, serveAt, serveAll, serve, work, propagate, closureRun, closure}
 use Rattle.run.specs.Cells.{Cells, base, runIn, Placed, Kept, Does}
-use Rattle.run.proofs.Cells.{kept-same, kept-then, does-same, does-as, does-then, queue-long, queue-at}
+use Rattle.run.proofs.Cells.{kept-same, kept-then, does-as, does-then, queue-long, queue-at}
 
 -- ---- the scan: i variables are behind it
 
 pub record Scanning (F : Field) (i : ℕ) (s₀ s : Cells) : Type 0 where
   pub within : i ≤ variables F
   pub does : Does F (λ run. scanTo run i) s₀ s
-
-pub scan-start : {F : Field} {s : Cells} → Placed F s → Scanning F 0 s s
-unfolding scanTo
-scan-start P = record { within = omega arith; does = does-same P refl }
 
 module _ {F : Field} {i : ℕ} {s₀ s : Cells} (S : Scanning F i s₀ s) where
   pub scan-turn : {s′ : Cells} → i < variables F → Does F (λ run. scanAt run i) s s′ → Scanning F (i + 1) s₀ s′
@@ -120,16 +116,10 @@ module _ {F : Field} {s s′ : Cells} (D : Does F (λ run. propagate F (run .val
 
   -- from the rows at the start values it is the closure's run
   module _ {f₀ : List Float} (filled : Filled F (s .values) f₀ (s .floats)) where
-    closed-run : runIn F s′ ≡ closureRun F (s .values)
+    pub closed-run : runIn F s′ ≡ closureRun F (s .values)
     unfolding closureRun
     closed-run = propagated ∙ ap (propagate F (s .values)) (written-rows filled)
 
     pub closed-values : s′ .values ≡ closure F (s .values)
     unfolding closure runIn
     closed-values = ap (λ (run : Run). run .values) closed-run
-
-    -- and what is counted in its cells is counted in its rows
-    pub closed-flat : {r : ℕ} → r ≡ flatTo (s′ .values) (rowsOn (s′ .floats) (length (s′ .values))) (length (s′ .values)) → r ≡ flatRows (closureRun F (s .values))
-    unfolding runIn
-    closed-flat e =
-        e ∙ ap (λ (n : ℕ). flatTo (s′ .values) (rowsOn (s′ .floats) n) (length (s′ .values))) (D .kept .placed .values-long) ∙ ap flatRows closed-run

@@ -3,3 +3,4 @@ pub mod Room
 pub mod Rests
 pub mod Ended
 pub mod Cells
+pub mod First

@@ -1,12 +1,58 @@
 // The loops of the run: the scan, the places of one variable, and the queue.
+use crate::steps::passes_at;
 use crate::steps::scan_at;
 use crate::steps::serve_at;
 use scratch::wide_word;
-ghost use Prim.Native.Nat.{_<_};
+ghost use mathlib.Core.Path.{_≡_};
+ghost use Prim.Native.Nat.{_+_, _<_, _≤_};
+ghost use lib.ListN.{length};
 ghost use Rattle.scratch.specs.Lent.{before, after};
+ghost use Rattle.scratch.specs.All.{Passing};
 ghost use Rattle.field.specs.Field.{given, lent, variables};
+ghost use Rattle.field.specs.Tests.{firstFrom};
 ghost use Rattle.run.specs.Run as model;
 ghost use Rattle.run.specs.Cells.{cells, Placed, Does};
+ghost use Rattle.run.specs.First.{passes};
+
+// The first variable that the scan does not pass over; as many as there are where it passes over all.
+pub fn first(values: &[u8], f: &[f64]) -> usize
+    requires { ⌜ length (now values) + length (now values) ≤ length (now f) ⌝ }
+    ensures { λ r. ⌜ r ≡ firstFrom (passes (before values) (before f)) 0 (length (before values)) ⌝ }
+{
+    let mut i: usize = 0;
+    while i < values.len() {
+        if !passes_at(values, f, values.len(), i) {
+            return i;
+        }
+        i += 1;
+    }
+    i
+}
+
+// Every variable, rising, where those before `from` are known to be passed over; how many were forced.
+pub fn scan_from(
+    c: &[f64],
+    rows: &[u16],
+    cols: &[u16],
+    q: &[f64],
+    values: &mut [u8],
+    f: &[f64],
+    u: &mut [u32],
+    from: usize,
+) -> usize
+    requires { ⌜ Placed (lent c rows cols q) (cells (now values) (now f) (now u) 0) ⌝ }
+    requires { ⌜ Passing (passes (now values) (now f)) (length (now values)) from ⌝ }
+    ensures { λ r. ⌜ Does (given c rows cols q) (λ run. model.scanTo run (variables (given c rows cols q)))
+        (cells (before values) (before f) (before u) 0)
+        (cells (after values) (before f) (after u) r) ⌝ }
+{
+    let n = c.len();
+    let mut tail = 0;
+    for i in from..n {
+        tail = scan_at(c, rows, cols, q, values, f, u, tail, i);
+    }
+    tail
+}
 
 // Every variable, rising; how many were forced.
 pub fn scan(
@@ -23,12 +69,7 @@ pub fn scan(
         (cells (before values) (before f) (before u) 0)
         (cells (after values) (before f) (after u) r) ⌝ }
 {
-    let n = c.len();
-    let mut tail = 0;
-    for i in 0..n {
-        tail = scan_at(c, rows, cols, q, values, f, u, tail, i);
-    }
-    tail
+    scan_from(c, rows, cols, q, values, f, u, 0)
 }
 
 // Every place of variable i, rising; the queue's new end.

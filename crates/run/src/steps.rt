@@ -5,11 +5,13 @@ use rows::Verdict;
 use rows::store::put_row;
 use rows::store::row_at;
 ghost use mathlib.Core.Path.{_≡_};
+ghost use mathlib.Core.Bool.{not, _&&_};
 ghost use Prim.Native.Nat.{_+_, _<_};
 ghost use lib.ListN.{length};
 ghost use Rattle.scratch.specs.Lent.{before, after};
 ghost use Rattle.field.specs.Field.{given, lent, variables, entries};
-ghost use Rattle.rows.specs.Row.{valueOf};
+ghost use Rattle.meaning.specs.Free.{isFree};
+ghost use Rattle.rows.specs.Row.{valueOf, isStrict};
 ghost use Rattle.rows.specs.Stored.{rowOn, putRow};
 ghost use Rattle.run.specs.Run as model;
 ghost use Rattle.run.specs.Cells.{cells, Placed, Does, Settled};
@@ -56,6 +58,19 @@ pub fn move_row(f: &mut [f64], n: usize, t: usize, a: f64, v: u8) -> Row
     let row = row_at(f, n, t).remove_free(a).add_fixed(a, v);
     put_row(f, n, t, row);
     row
+}
+
+// Whether the scan passes over variable i: it has a value, or its row forces none.
+pub fn passes_at(values: &[u8], f: &[f64], n: usize, i: usize) -> bool
+    requires { ⌜ i < length (now values) ⌝ }
+    requires { ⌜ n + i < length (now f) ⌝ }
+    ensures { λ r. ⌜ r ≡ not (isFree (before values) i && isStrict (rowOn (before f) n i)) ⌝ }
+{
+    if values[i] != 2 {
+        return true;
+    }
+    let value = forced(row_at(f, n, i).judge());
+    value == 2
 }
 
 // Variable i of the scan.

@@ -1,59 +1,11 @@
--- `scan` is the model's scan, a variable at a turn. Assumes nothing.
-use Prim.Native.Nat.{_-_}
-use mathlib.Core.Path.{sym, _∙_}
-use native.Mathlib.Omega.{arith}
-use Rattle.field.specs.Field.{fieldOf}
-use Rattle.run.specs.Cells.{cells}
-use Rattle.run.proofs.Turns.{Scanning, scan-start, scan-turn, scan-done}
+-- `scan` begins at the first variable. Assumes nothing.
+use Rattle.scratch.proofs.All.{all-start}
+use borrow.Author.Needs.{needs}
 use Rattle.run.proofs.queue.scan.Statement.{statement}
 use Rattle.run.proofs.queue.scan.Tie as tie
 
-abbrev Inv-loop : tie.InvT-loop
-Inv-loop c rows cols q values₀ f u₀ n tail₀ i₀ values u tail i = Scanning (fieldOf c rows cols q) i (cells values₀ f u₀ 0) (cells values f u tail)
-
-abbrev μ-loop : tie.MeasureT-loop
-μ-loop c rows cols q values₀ f u₀ n tail₀ i₀ values u tail i = n - i
-
-loop-holds : tie.Need-loop-holds Inv-loop μ-loop
-loop-holds c = scan-start (c .before .before .before .before .before .before .before .pre)
-
-scan-at-requires : tie.Need-scan-at-requires Inv-loop μ-loop
-scan-at-requires c κs = (c .before .before .before .loop .inv .does .kept .placed, c .before .before .loop-test .taken)
-
-add-i : tie.Need-add-i Inv-loop μ-loop
-add-i c = omega arith
-
-loop-less : tie.Need-loop-less Inv-loop μ-loop
-loop-less c = omega arith
-
-loop-again : tie.Need-loop-again Inv-loop μ-loop
-loop-again c =
-    scan-turn (c .before .before .before .before .before .before .before .before .loop .inv) (c .before .before .before .before .before .before .before .loop-test .taken)
-    (c .before .before .before .before .scan-at .ensures)
-
-same-length : tie.Need-same-length Inv-loop μ-loop
-same-length c =
-    let at-loop = c .before in
-    let start = at-loop .before .before .before .before .before .before .before .before in
-    at-loop .loop .inv .does .kept .placed .values-long ∙ sym (start .pre .values-long)
-
-same-length-2 : tie.Need-same-length-2 Inv-loop μ-loop
-same-length-2 c = c .before .loop .inv .does .kept .words-long
-
-returns : tie.Need-returns Inv-loop μ-loop
-returns c = scan-done (c .before .loop .inv) (c .loop-test .left)
+scan-from-requires : tie.Need-scan-from-requires
+scan-from-requires c κs = (c .before .before .before .before .before .before .before .before .before .pre, all-start _ _)
 
 pub scan-spec : {M : Type 1} → statement M
-scan-spec =
-    tie.close
-    (tie.spec
-    Inv-loop
-    μ-loop
-    loop-holds
-    scan-at-requires
-    add-i
-    loop-less
-    loop-again
-    same-length
-    same-length-2
-    returns)
+scan-spec = tie.close (tie.spec scan-from-requires (λ c. search needs) (λ c. search needs) (λ c. search needs))
