@@ -1,4 +1,5 @@
 // The list of found records at scale: numbers gathered in scratch go into the rising answer list, which grows by new pairs alone.
+mod blocks;
 mod merging;
 
 use merging::merge;
