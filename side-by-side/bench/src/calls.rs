@@ -1,12 +1,12 @@
-//! Each call on both sides: the answers are compared, then both are timed.
+//! Each call on both sides: the answers are compared, then both sides are handed over to be timed.
 
 use crate::fields::{Field, Rules};
 use crate::port::{parts, Lent, LentRules};
-use crate::tables::Line;
 use crate::text::{Text, TextRules};
-use crate::timing::best;
+use crate::timing::Sides;
 use hercules::constraint::Constraint;
 use hercules::qubo::Qubo;
+use hercules::variable_reduction::ProbedEquationSet;
 use hercules::FixedVarMap;
 use std::time::Duration;
 
@@ -16,163 +16,190 @@ const CANDIDATES: usize = 64;
 /// The pairs that no limit passes.
 const MOST_PAIRS: usize = 250_000;
 
-pub const CALLS: &[&str] = &[
-    "closure",
-    "components",
-    "preprocess",
-    "no_effect",
-    "shift",
-    "sub_problem",
-    "anchors",
-    "pairs",
-    "probe_one",
-    "propagate",
-    "probe_limited",
-    "heavy",
-    "probe",
+/// A call that is measured.
+pub struct Call {
+    pub name: &'static str,
+    pub on: On,
+}
+
+/// What a call works on, and its sides there. A field may be made of the shape's own, as the call needs it.
+pub enum On {
+    Field(fn(Field) -> Field, fn(&Field) -> Sides),
+    Rules(fn(&Rules) -> Sides),
+}
+
+const fn on_field(name: &'static str, sides: fn(&Field) -> Sides) -> Call {
+    on_made(name, |field| field, sides)
+}
+
+const fn on_made(name: &'static str, made: fn(Field) -> Field, sides: fn(&Field) -> Sides) -> Call {
+    let on = On::Field(made, sides);
+    Call { name, on }
+}
+
+/// A line of the tables for each call; a new call is one more here.
+pub const CALLS: &[Call] = &[
+    on_field("closure", |f| in_start(f, Text::closure, Lent::closure)),
+    on_field("components", |f| {
+        in_start(f, Text::components, Lent::components)
+    }),
+    on_field("preprocess", |f| {
+        in_start(f, Text::preprocess, Lent::preprocess)
+    }),
+    on_field("no_effect", no_effect),
+    on_made("shift", Field::with_diagonal, shift),
+    on_made("sub_problem", Field::half_given, sub_problem),
+    on_made("anchors", Field::balanced, anchors),
+    on_field("pairs", pairs),
+    on_field("probe_one", probe_one),
+    Call {
+        name: "propagate",
+        on: On::Rules(propagate),
+    },
+    on_field("probe_limited", |f| {
+        probes(
+            f,
+            |text| text.probe_limited(CANDIDATES),
+            |lent| lent.probe_limited(CANDIDATES),
+        )
+    }),
+    on_field("heavy", |f| in_start(f, Text::heavy, Lent::heavy)),
+    on_field("probe", |f| probes(f, Text::probe, Lent::probe)),
 ];
 
-pub fn on_rules(rules: &Rules, budget: Duration) -> Line {
+type Timed<T> = (Duration, T);
+
+/// Both sides of a call, whose answers are the same.
+fn both(
+    mut rust: impl FnMut() -> Duration + 'static,
+    mut port: impl FnMut() -> Duration + 'static,
+) -> Sides {
+    Sides {
+        rust: Some(Box::new(move || rust())),
+        port: Box::new(move || port()),
+        floor: None,
+    }
+}
+
+fn agree(same: bool) {
+    assert!(same, "the answers differ");
+}
+
+/// The count of an answer that is no refusal.
+fn done(answer: u64) -> usize {
+    let (refusal, count) = parts(answer);
+    assert_eq!(refusal, 0, "refused");
+    count
+}
+
+/// A call that answers in the start values.
+fn in_start(
+    field: &Field,
+    rust: fn(&Text) -> Timed<FixedVarMap>,
+    port: fn(&mut Lent) -> Timed<u64>,
+) -> Sides {
+    let text = Text::new(field);
+    let mut lent = Lent::new(field, 0);
+    done(port(&mut lent).1);
+    agree(text.list(&rust(&text).1) == lent.values());
+    both(move || rust(&text).0, move || port(&mut lent).0)
+}
+
+/// Beside it stands one read of the input and one clearing of the scratch, in other memory.
+fn no_effect(field: &Field) -> Sides {
+    let text = Text::new(field);
+    let mut lent = Lent::new(field, field.n());
+    let mut other = Lent::new(field, 0);
+    let count = done(lent.no_effect().1);
+    agree(same_list(&text.no_effect().1, &lent.list()[..count]));
+    Sides {
+        floor: Some(Box::new(move || other.read_and_clear().0)),
+        ..both(move || text.no_effect().0, move || lent.no_effect().0)
+    }
+}
+
+fn shift(field: &Field) -> Sides {
+    let text = Text::new(field);
+    let mut lent = Lent::new(field, 0);
+    let from = field.clone();
+    let count = done(lent.shift(&from).1);
+    agree(same_field(&text.shift().1, lent.field(), count));
+    both(move || text.shift().0, move || lent.shift(&from).0)
+}
+
+fn sub_problem(field: &Field) -> Sides {
+    let text = Text::new(field);
+    let mut lent = Lent::new(field, field.n());
+    let from = field.clone();
+    let (answer, constant) = lent.sub_problem(&from).1;
+    let count = done(answer);
+    let left = (answer >> 44) as usize;
+    let (reduced, places, expected) = text.sub_problem().1;
+    agree(same_field(&reduced, &lent.field().first(left, count), count));
+    agree(expected.to_bits() == constant.to_bits());
+    agree(places.len() == left);
+    agree((0..left).all(|new| places.get(&usize::from(lent.list()[new])) == Some(&new)));
+    both(
+        move || text.sub_problem().0,
+        move || lent.sub_problem(&from).0,
+    )
+}
+
+fn anchors(field: &Field) -> Sides {
+    let text = Text::new(field);
+    let mut lent = Lent::new(field, field.n());
+    let count = done(lent.anchors(1).1);
+    agree(same_list(&text.anchors(1).1, &lent.list()[..count]));
+    both(move || text.anchors(1).0, move || lent.anchors(1).0)
+}
+
+fn pairs(field: &Field) -> Sides {
+    let text = Text::new(field);
+    let expected = records(&text.pairs().1);
+    let mut lent = Lent::new(field, expected.len());
+    done(lent.pairs(MOST_PAIRS).1);
+    agree(expected == lent.list());
+    both(move || text.pairs().0, move || lent.pairs(MOST_PAIRS).0)
+}
+
+fn probe_one(field: &Field) -> Sides {
+    let text = Text::new(field);
+    let mut lent = Lent::new(field, 0);
+    let i = field.free();
+    done(lent.probe_one(i, 1).1);
+    agree(text.list(&text.probe_one(i, 1).1) == lent.values());
+    both(
+        move || text.probe_one(i, 1).0,
+        move || lent.probe_one(i, 1).0,
+    )
+}
+
+/// The probes of many candidates.
+fn probes(
+    field: &Field,
+    rust: fn(&Text) -> Timed<(ProbedEquationSet, FixedVarMap)>,
+    port: fn(&mut Lent) -> Timed<u64>,
+) -> Sides {
+    let text = Text::new(field);
+    let (set, values) = rust(&text).1;
+    let expected = records(&set.constraints);
+    let mut lent = Lent::new(field, expected.len());
+    done(port(&mut lent).1);
+    agree(expected == lent.list());
+    agree(text.list(&values) == lent.values());
+    both(move || rust(&text).0, move || port(&mut lent).0)
+}
+
+fn propagate(rules: &Rules) -> Sides {
     let text = TextRules::new(rules);
     let mut lent = LentRules::new(rules);
     let expected = text.propagate().1;
     let refusal = parts(lent.propagate().1).0;
-    let same = match expected {
+    agree(match expected {
         Some(values) => refusal == 0 && values == lent.values,
         None => refusal == 10 && rules.start == lent.values,
-    };
-    assert!(same, "propagate differs on {}", rules.shape);
-    let (rust, port) = best(budget, || text.propagate().0, || lent.propagate().0);
-    Line {
-        call: "propagate",
-        shape: rules.shape,
-        n: rules.start.len(),
-        m: rules.constraints.len() / 3,
-        rust,
-        port,
-    }
-}
-
-pub fn on_field(call: &'static str, field: &Field, budget: Duration) -> Line {
-    let own;
-    let field = match call {
-        "anchors" => {
-            own = field.clone().balanced();
-            &own
-        }
-        "shift" => {
-            own = field.clone().with_diagonal();
-            &own
-        }
-        "sub_problem" => {
-            own = field.clone().half_given();
-            &own
-        }
-        _ => field,
-    };
-    let (rust, port) = timed_call(call, field, budget);
-    Line {
-        call,
-        shape: field.shape,
-        n: field.n(),
-        m: field.m(),
-        rust,
-        port,
-    }
-}
-
-type OnMap = fn(&Text) -> (Duration, FixedVarMap);
-type OnStart = fn(&mut Lent) -> (Duration, u64);
-
-fn timed_call(call: &str, field: &Field, budget: Duration) -> (Duration, Duration) {
-    let place = || format!("{call} on {}, n = {}", field.shape, field.n());
-    let agree = |same: bool| assert!(same, "the answers differ: {}", place());
-    let done = |answer: u64| {
-        let (refusal, count) = parts(answer);
-        assert_eq!(refusal, 0, "refused: {}", place());
-        count
-    };
-    let text = Text::new(field);
-    let mut lent = Lent::new(field, field.n());
-    let mut on_start = |rust: OnMap, port: OnStart| {
-        done(port(&mut lent).1);
-        agree(text.list(&rust(&text).1) == lent.values());
-        best(budget, || rust(&text).0, || port(&mut lent).0)
-    };
-    match call {
-        "closure" => on_start(Text::closure, Lent::closure),
-        "components" => on_start(Text::components, Lent::components),
-        "preprocess" => on_start(Text::preprocess, Lent::preprocess),
-        "heavy" => on_start(Text::heavy, Lent::heavy),
-        "no_effect" => {
-            let count = done(lent.no_effect().1);
-            agree(same_list(&text.no_effect().1, &lent.list()[..count]));
-            best(budget, || text.no_effect().0, || lent.no_effect().0)
-        }
-        "shift" => {
-            let count = done(lent.shift(field).1);
-            agree(same_field(&text.shift().1, lent.field(), count));
-            best(budget, || text.shift().0, || lent.shift(field).0)
-        }
-        "sub_problem" => {
-            let (answer, constant) = lent.sub_problem(field).1;
-            let count = done(answer);
-            let left = (answer >> 44) as usize;
-            let (reduced, places, expected) = text.sub_problem().1;
-            let smaller = lent.field().first(left, count);
-            agree(same_field(&reduced, &smaller, count));
-            agree(expected.to_bits() == constant.to_bits());
-            agree(places.len() == left);
-            agree((0..left).all(|new| places.get(&usize::from(lent.list()[new])) == Some(&new)));
-            best(
-                budget,
-                || text.sub_problem().0,
-                || lent.sub_problem(field).0,
-            )
-        }
-        "anchors" => {
-            let count = done(lent.anchors(1).1);
-            agree(same_list(&text.anchors(1).1, &lent.list()[..count]));
-            best(budget, || text.anchors(1).0, || lent.anchors(1).0)
-        }
-        "pairs" => {
-            let expected = records(&text.pairs().1);
-            lent = Lent::new(field, expected.len());
-            done(lent.pairs(MOST_PAIRS).1);
-            agree(expected == lent.list());
-            best(budget, || text.pairs().0, || lent.pairs(MOST_PAIRS).0)
-        }
-        "probe_one" => {
-            let i = field.free();
-            done(lent.probe_one(i, 1).1);
-            agree(text.list(&text.probe_one(i, 1).1) == lent.values());
-            best(budget, || text.probe_one(i, 1).0, || lent.probe_one(i, 1).0)
-        }
-        "probe" => {
-            let (set, values) = text.probe().1;
-            let expected = records(&set.constraints);
-            lent = Lent::new(field, expected.len());
-            done(lent.probe().1);
-            agree(expected == lent.list());
-            agree(text.list(&values) == lent.values());
-            best(budget, || text.probe().0, || lent.probe().0)
-        }
-        "probe_limited" => {
-            let most = CANDIDATES;
-            let (set, values) = text.probe_limited(most).1;
-            let expected = records(&set.constraints);
-            lent = Lent::new(field, expected.len());
-            done(lent.probe_limited(most).1);
-            agree(expected == lent.list());
-            agree(text.list(&values) == lent.values());
-            best(
-                budget,
-                || text.probe_limited(most).0,
-                || lent.probe_limited(most).0,
-            )
-        }
-        _ => unreachable!("no such call"),
-    }
+    });
+    both(move || text.propagate().0, move || lent.propagate().0)
 }
 
 fn same_list(rust: &[usize], port: &[u16]) -> bool {

@@ -58,19 +58,39 @@ impl Dice {
 pub const MOST_ENTRIES: usize = 32_768;
 
 /// The shapes of every call on a field.
-pub const SHAPES: [&str; 12] = [
+pub const SHAPES: [&str; 24] = [
     "random",
     "inexact",
     "tight",
     "band",
+    "tight band",
     "chain",
     "grid",
     "star",
     "clique",
+    "tight clique",
+    "inexact tight clique",
     "islands",
     "chains of 10",
     "cliques of 10",
+    "random both ways",
+    "tight both ways",
+    "band both ways",
+    "tight band both ways",
+    "clique both ways",
+    "tight clique both ways",
+    "inexact tight clique both ways",
     "end to end",
+    "domino",
+    "reversed domino",
+];
+
+/// The shapes of exact cliques.
+pub const CLIQUES: [&str; 4] = [
+    "clique",
+    "tight clique",
+    "clique both ways",
+    "tight clique both ways",
 ];
 
 impl Field {
@@ -84,10 +104,12 @@ impl Field {
 
     /// The field of a shape, standard form; an eighth of the variables has a start value, but in a tight one none.
     pub fn new(shape: &'static str, n: usize) -> Self {
-        if shape == "end to end" {
-            return Self::end_to_end(n);
+        match shape {
+            "end to end" => Self::end_to_end(n),
+            "domino" => Self::domino(n),
+            "reversed domino" => Self::domino(n).reversed(),
+            _ => Self::of(shape, n, ends(shape, n)),
         }
-        Self::of(shape, n, ends(shape, n))
     }
 
     /// Random entries, as many as asked for.
@@ -96,24 +118,29 @@ impl Field {
     }
 
     fn of(shape: &'static str, n: usize, mut ends: Vec<(u16, u16)>) -> Self {
+        let inexact = shape.starts_with("inexact");
+        let tight = shape.contains("tight");
         let mut dice = Dice::new(0x5eed ^ n as u64);
         ends.sort_unstable_by_key(|&(row, col)| (col, row));
         ends.dedup();
-        let unit = if shape == "inexact" { 0.1 } else { 1.0 };
-        let q: Vec<f64> = ends.iter().map(|_| unit * dice.weight(16)).collect();
+        let unit = if inexact { 0.1 } else { 1.0 };
+        let mut q: Vec<f64> = ends.iter().map(|_| unit * dice.weight(16)).collect();
+        if shape.ends_with("both ways") {
+            mirror(&ends, &mut q);
+        }
         let mut mass = vec![0.0; n];
         for (&(row, col), w) in ends.iter().zip(&q) {
             mass[usize::from(row)] += 0.5 * w.abs();
             mass[usize::from(col)] += 0.5 * w.abs();
         }
-        let part = if shape == "tight" { 0.125 } else { 1.0 };
+        let part = if tight { 0.125 } else { 1.0 };
         let c = mass
             .iter()
             .map(|&w| unit * dice.signed(1 + (part * w / unit) as i64))
             .collect();
         let start = (0..n)
             .map(|_| {
-                if shape != "tight" && dice.below(8) == 0 {
+                if !tight && dice.below(8) == 0 {
                     dice.below(2) as u8
                 } else {
                     2
@@ -142,6 +169,30 @@ impl Field {
             q: vec![-2.0; n - 1],
             start: vec![2; n],
         }
+    }
+
+    /// A chain without start values in which each value decides the next, and nothing is forced: what a variable has with the one
+    /// before it outweighs its linear weight, and that outweighs what it has with the next.
+    fn domino(n: usize) -> Self {
+        let left = |i: usize| (n - i) as f64;
+        let mut c: Vec<f64> = (0..n).map(|i| 2.0 * left(i) - 1.0).collect();
+        c[0] = left(1);
+        Self {
+            shape: "domino",
+            c,
+            rows: (0..n as u16 - 1).collect(),
+            cols: (1..n as u16).collect(),
+            q: (1..n).map(|i| -4.0 * left(i)).collect(),
+            start: vec![2; n],
+        }
+    }
+
+    /// The same chain with its variables in the other order, so that each value decides the one before.
+    fn reversed(mut self) -> Self {
+        self.shape = "reversed domino";
+        self.c.reverse();
+        self.q.reverse();
+        self
     }
 
     /// The same entries with every component complement-symmetric, and nothing given.
@@ -204,24 +255,75 @@ impl Field {
 }
 
 fn random_ends(n: usize, m: usize) -> Vec<(u16, u16)> {
+    random_where(n, m, |row, col| row != col)
+}
+
+fn random_pairs(n: usize, m: usize) -> Vec<(u16, u16)> {
+    random_where(n, m, |row, col| row < col)
+}
+
+fn random_where(n: usize, m: usize, wanted: fn(usize, usize) -> bool) -> Vec<(u16, u16)> {
     let mut dice = Dice::new(0xface ^ (n * 65_537 + m) as u64);
     let mut seen = std::collections::BTreeSet::new();
     while seen.len() < m {
         let (row, col) = (dice.below(n), dice.below(n));
-        if row != col {
+        if wanted(row, col) {
             seen.insert((row as u16, col as u16));
         }
     }
     seen.into_iter().collect()
 }
 
+/// Gives (i, j) and (j, i) one weight, where the entries rise by column, then row.
+fn mirror(ends: &[(u16, u16)], q: &mut [f64]) {
+    for k in 0..ends.len() {
+        let (row, col) = ends[k];
+        let other = ends.binary_search_by_key(&(row, col), |&(row, col)| (col, row));
+        q[k] = q[k.min(other.expect("both ways"))];
+    }
+}
+
+fn both_ways(ends: Vec<(u16, u16)>) -> Vec<(u16, u16)> {
+    ends.iter().flat_map(|&(i, j)| [(i, j), (j, i)]).collect()
+}
+
+/// The name of a shape without what it says of weights and storing; random where nothing else is said.
+fn plain(shape: &str) -> &str {
+    let shape = shape.trim_start_matches("inexact").trim_start();
+    let shape = shape.trim_start_matches("tight").trim_start();
+    match shape.trim_end_matches("both ways").trim_end() {
+        "" => "random",
+        name => name,
+    }
+}
+
+fn band(n: u16, width: u16) -> Vec<(u16, u16)> {
+    (1..n)
+        .flat_map(|col| (col.saturating_sub(width)..col).map(move |row| (row, col)))
+        .collect()
+}
+
+fn clique(n: u16) -> Vec<(u16, u16)> {
+    (1..n)
+        .flat_map(|col| (0..col).map(move |row| (row, col)))
+        .collect()
+}
+
+/// The places of a shape. `both ways` stores each pair twice, and has half the pairs where the entries would be too many.
 fn ends(shape: &str, n: usize) -> Vec<(u16, u16)> {
+    if shape.ends_with("both ways") {
+        return both_ways(match plain(shape) {
+            "random" => random_pairs(n, 4 * n),
+            "band" => band(n as u16, 4),
+            "clique" => clique(n.min(181) as u16),
+            other => ends(other, n),
+        });
+    }
     let most = n as u16;
-    match shape {
-        "random" | "inexact" | "tight" => random_ends(n, (8 * n).min(MOST_ENTRIES)),
-        "band" => (1..most)
-            .flat_map(|col| (col.saturating_sub(8)..col).map(move |row| (row, col)))
-            .collect(),
+    match plain(shape) {
+        "random" => random_ends(n, (8 * n).min(MOST_ENTRIES)),
+        "band" => band(most, 8),
+        "clique" => clique(most.min(256)),
         "chain" => (1..most).map(|col| (col - 1, col)).collect(),
         "grid" => {
             let side = (n as f64).sqrt() as u16;
@@ -233,9 +335,6 @@ fn ends(shape: &str, n: usize) -> Vec<(u16, u16)> {
                 .collect()
         }
         "star" => (1..most).map(|col| (0, col)).collect(),
-        "clique" => (1..most.min(256))
-            .flat_map(|col| (0..col).map(move |row| (row, col)))
-            .collect(),
         "islands" => (1..most)
             .flat_map(|col| (col / 8 * 8..col).map(move |row| (row, col)))
             .collect(),

@@ -3,6 +3,7 @@
 use crate::fields::{Field, Rules};
 use crate::library;
 use crate::timing::timed;
+use std::hint::black_box;
 use std::time::Duration;
 
 /// An exported call, timed: a list in brackets goes over as a pointer and a length, with `mut` one that the call may change.
@@ -109,6 +110,20 @@ impl Lent {
         } = &self.field;
         let (l, u) = (&mut self.list, &mut self.u);
         exported!(ombradiec_no_effect, [c][rows][cols][q][mut l][mut u])
+    }
+
+    /// Reads every weight and every end once, and clears the words: what no call that tests, grades and clears does without.
+    pub fn read_and_clear(&mut self) -> (Duration, u64) {
+        let Field {
+            c, rows, cols, q, ..
+        } = black_box(&self.field);
+        let u = &mut self.u;
+        let weights = |list: &[f64]| list.iter().fold(0, |all, w| all ^ w.to_bits());
+        let ends = |list: &[u16]| list.iter().fold(0, |all, end| all ^ end);
+        timed(|| {
+            black_box(u).fill(0);
+            weights(c) ^ weights(q) ^ u64::from(ends(rows) ^ ends(cols))
+        })
     }
 
     /// Shifts a copy; the copying is not timed, since the call works in place.

@@ -1,147 +1,156 @@
 //! What was measured, as Markdown tables.
 
-use crate::fields::SHAPES;
-use std::fmt;
-use std::time::Duration;
+use crate::aims::{Aim, Bound, AIMS};
+use crate::fields::{CLIQUES, SHAPES};
+use crate::growth;
+use crate::line::{micros, two, Line};
 
-pub const SIZES: [usize; 3] = [256, 1_024, 4_096];
-
-/// One call on one field, with the least time of each side.
-pub struct Line {
-    pub call: &'static str,
-    pub shape: &'static str,
-    pub n: usize,
-    pub m: usize,
-    pub rust: Duration,
-    pub port: Duration,
-}
-
-impl Line {
-    /// The least time of each side in two measurements of one field.
-    pub fn least(self, other: Self) -> Self {
-        Self {
-            rust: self.rust.min(other.rust),
-            port: self.port.min(other.port),
-            ..self
-        }
-    }
-
-    fn ratio(&self) -> f64 {
-        self.rust.as_secs_f64() / self.port.as_secs_f64()
-    }
-}
-
-impl fmt::Display for Line {
-    fn fmt(&self, out: &mut fmt::Formatter<'_>) -> fmt::Result {
-        let micros = |time: Duration| time.as_nanos() as f64 / 1_000.0;
-        write!(
-            out,
-            "| {} | {} | {} | {} | {:.1} | {:.1} | {:.2} |",
-            self.call,
-            self.shape,
-            self.n,
-            self.m,
-            micros(self.rust),
-            micros(self.port),
-            self.ratio()
-        )
-    }
-}
+pub const SIZES: [usize; 4] = [256, 1_024, 2_048, 4_096];
 
 /// The calls in the order in which they were measured.
-fn calls(lines: &[Line]) -> Vec<&'static str> {
+pub fn calls(lines: &[Line]) -> Vec<&'static str> {
     let mut names: Vec<_> = lines.iter().map(|line| line.call).collect();
     names.dedup();
     names
 }
 
-fn head(words: &[String]) {
+/// The line of a call on the field of a shape and size; the fields that tell the growth with m alone stand after it.
+pub fn standard<'a>(lines: &'a [Line], call: &str, shape: &str, n: usize) -> Option<&'a Line> {
+    lines
+        .iter()
+        .find(|l| l.call == call && l.shape == shape && l.n == n)
+}
+
+pub fn head(words: &[&str]) {
     println!("| {} |", words.join(" | "));
     println!("|{}", "---|".repeat(words.len()));
 }
 
 pub fn print(lines: &[Line]) {
-    least(lines);
-    for n in SIZES {
+    aims(lines);
+    println!("\n## Ratios: the Rust's time over the port's");
+    for n in [256, 1_024, 4_096] {
         ratios(lines, n);
     }
-    growth(lines);
+    floors(lines);
+    growth::print(lines);
+    stack(lines);
     times(lines);
 }
 
-/// The least and the greatest ratio of each call.
-fn least(lines: &[Line]) {
-    println!("\n## Ratios: the Rust's time over the port's\n");
-    head(&["call", "least", "on", "greatest", "on"].map(String::from));
-    for call in calls(lines) {
-        let own = || lines.iter().filter(|line| line.call == call);
-        let low = own().min_by(|a, b| a.ratio().total_cmp(&b.ratio()));
-        let high = own().max_by(|a, b| a.ratio().total_cmp(&b.ratio()));
-        let cells = [low, high].map(|line| {
-            line.map_or(String::new(), |l| {
-                format!("{:.2} | {}, n = {}", l.ratio(), l.shape, l.n)
-            })
-        });
-        println!("| {call} | {} | {} |", cells[0], cells[1]);
+/// For each bound the worst of its call, where that is, and whether it is met.
+fn aims(lines: &[Line]) {
+    println!("\n## Least ratios, and what was asked\n");
+    head(&["call", "shapes", "worst", "on", "asked", "reached"]);
+    for aim in AIMS {
+        let Some((worst, place)) = worst(lines, aim) else {
+            continue;
+        };
+        let (asked, met) = match aim.bound {
+            Bound::Ratio(least) => (format!("at least {least}"), worst >= least),
+            Bound::Floor(most) => (format!("at most {most} of read and clear"), worst <= most),
+            Bound::Growth(most) => (format!("grows by at most {most}"), worst <= most),
+        };
+        let shapes = match aim.shapes {
+            [] => "all".to_string(),
+            names if *names == CLIQUES => "exact cliques".to_string(),
+            names => names.join(", "),
+        };
+        let reached = if met { "yes" } else { "**no**" };
+        println!(
+            "| {} | {shapes} | {worst:.2} | {place} | {asked} | {reached} |",
+            aim.call
+        );
     }
 }
 
-/// A row for each call, a column for each shape.
+/// The number that is furthest from what is asked, and where it was measured.
+fn worst(lines: &[Line], aim: &Aim) -> Option<(f64, String)> {
+    let own = lines.iter().filter(|line| {
+        line.call == aim.call && (aim.shapes.is_empty() || aim.shapes.contains(&line.shape))
+    });
+    let found: Vec<(f64, String)> = own
+        .filter_map(|line| {
+            let number = match aim.bound {
+                Bound::Ratio(_) => line.ratio(),
+                Bound::Floor(_) => line.over_floor(),
+                Bound::Growth(_) => growth::doubled(lines, line.call, line.shape, line.n),
+            };
+            Some((number?, line.place()))
+        })
+        .collect();
+    let sign = if matches!(aim.bound, Bound::Ratio(_)) {
+        1.0
+    } else {
+        -1.0
+    };
+    found
+        .into_iter()
+        .min_by(|a, b| (sign * a.0).total_cmp(&(sign * b.0)))
+}
+
+/// A row for each shape, a column for each call.
 fn ratios(lines: &[Line], n: usize) {
     println!("\n### n = {n}\n");
-    let mut shapes: Vec<&str> = SHAPES.to_vec();
-    shapes.push("clash");
-    head(
-        &std::iter::once("call")
-            .chain(shapes.iter().copied())
-            .map(String::from)
-            .collect::<Vec<_>>(),
-    );
-    for call in calls(lines) {
-        let cells = shapes.iter().map(|&shape| {
-            lines
-                .iter()
-                .find(|l| l.call == call && l.shape == shape && l.n == n)
-                .map_or("–".to_string(), |l| format!("{:.2}", l.ratio()))
-        });
-        println!("| {call} | {} |", cells.collect::<Vec<_>>().join(" | "));
+    let calls = calls(lines);
+    head(&[&["shape"], calls.as_slice()].concat());
+    for shape in SHAPES.into_iter().chain(["clash"]) {
+        let found = calls
+            .iter()
+            .map(|&call| two(standard(lines, call, shape, n).and_then(Line::ratio)));
+        println!("| {shape} | {} |", found.collect::<Vec<_>>().join(" | "));
     }
 }
 
-/// Nanoseconds of the port for each variable and entry of random fields.
-fn growth(lines: &[Line]) {
+/// The calls that have the least that they could take beside them.
+fn floors(lines: &[Line]) {
     println!(
-        "\n## Growth: nanoseconds of the port for each variable and entry of a random field\n"
+        "\n## Beside one read of the input and one clearing of the scratch, in microseconds\n"
     );
-    let mut places: Vec<(usize, usize)> = lines
-        .iter()
-        .filter(|l| l.shape == "random" && l.call == "closure")
-        .map(|l| (l.n, l.m))
-        .collect();
-    places.sort_unstable();
-    head(
-        &std::iter::once("call".to_string())
-            .chain(places.iter().map(|(n, m)| format!("n {n}, m {m}")))
-            .collect::<Vec<_>>(),
-    );
-    for call in calls(lines).into_iter().filter(|&c| c != "propagate") {
-        let near = |a: usize, b: usize| a.abs_diff(b) <= 1_024;
-        let cells = places.iter().map(|&(n, m)| {
-            lines
-                .iter()
-                .find(|l| l.call == call && l.shape == "random" && l.n == n && near(l.m, m))
-                .map_or("–".to_string(), |l| {
-                    format!("{:.1}", l.port.as_nanos() as f64 / (l.n + l.m) as f64)
-                })
-        });
-        println!("| {call} | {} |", cells.collect::<Vec<_>>().join(" | "));
+    head(&[
+        "call",
+        "shape",
+        "n",
+        "m",
+        "Rust",
+        "port",
+        "read and clear",
+        "port over it",
+    ]);
+    for line in lines {
+        let (Some(rust), Some(floor)) = (line.rust, line.floor) else {
+            continue;
+        };
+        println!(
+            "| {} | {} | {} | {} | {} | {} | {} | {} |",
+            line.call,
+            line.shape,
+            line.n,
+            line.m,
+            micros(rust),
+            micros(line.port),
+            micros(floor),
+            two(line.over_floor())
+        );
+    }
+}
+
+/// The greatest depth of each call's stack.
+fn stack(lines: &[Line]) {
+    println!("\n## Stack: the greatest depth of each of the port's calls, in bytes\n");
+    head(&["call", "bytes", "on"]);
+    for call in calls(lines) {
+        let own = lines.iter().filter(|line| line.call == call);
+        if let Some(line) = own.max_by_key(|line| line.depth) {
+            println!("| {call} | {} | {} |", line.depth, line.place());
+        }
     }
 }
 
 fn times(lines: &[Line]) {
     println!("\n## Times in microseconds\n");
     println!("For propagation m is the number of constraints.\n");
-    head(&["call", "shape", "n", "m", "Rust", "port", "ratio"].map(String::from));
+    head(&["call", "shape", "n", "m", "Rust", "port", "ratio", "runs"]);
     for line in lines {
         println!("{line}");
     }

@@ -43,6 +43,12 @@ impl Text {
         list_of(self.n, values)
     }
 
+    /// The sum of a completion.
+    pub fn sum(&self, values: &[u8]) -> f64 {
+        let values = values.iter().map(|&value| value.into()).collect();
+        self.qubo.eval_usize(&Array1::from_vec(values))
+    }
+
     pub fn closure(&self) -> (Duration, FixedVarMap) {
         timed(|| door::closure(&self.qubo, self.given.clone()))
     }

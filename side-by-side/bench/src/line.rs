@@ -1,0 +1,93 @@
+//! One call on one field, as it was measured.
+
+use crate::timing::{median, Runs};
+use std::fmt;
+use std::time::Duration;
+
+/// The medians of each side, how many runs of each there were, and how deep the port's stack was, in bytes.
+pub struct Line {
+    pub call: &'static str,
+    pub shape: &'static str,
+    pub n: usize,
+    pub m: usize,
+    pub runs: usize,
+    pub rust: Option<Duration>,
+    pub port: Duration,
+    pub floor: Option<Duration>,
+    pub depth: usize,
+}
+
+/// The number with two digits behind the point, or a dash.
+pub fn two(number: Option<f64>) -> String {
+    number.map_or("–".to_string(), |number| format!("{number:.2}"))
+}
+
+pub fn micros(time: Duration) -> String {
+    format!("{:.1}", time.as_nanos() as f64 / 1_000.0)
+}
+
+impl Line {
+    pub fn new(
+        call: &'static str,
+        shape: &'static str,
+        n: usize,
+        m: usize,
+        mut runs: Runs,
+    ) -> Self {
+        Self {
+            call,
+            shape,
+            n,
+            m,
+            runs: runs.port.len(),
+            rust: median(&mut runs.rust),
+            port: median(&mut runs.port).expect("a run of the port"),
+            floor: median(&mut runs.floor),
+            depth: runs.depth,
+        }
+    }
+
+    /// The Rust's time over the port's.
+    pub fn ratio(&self) -> Option<f64> {
+        Some(self.rust?.as_secs_f64() / self.port.as_secs_f64())
+    }
+
+    /// The port's time over one read of the input and one clearing.
+    pub fn over_floor(&self) -> Option<f64> {
+        Some(self.port.as_secs_f64() / self.floor?.as_secs_f64())
+    }
+
+    pub fn place(&self) -> String {
+        format!("{}, n = {}", self.shape, self.n)
+    }
+
+    /// With tabs: what tells the line from others, the Rust's and the port's microseconds, the runs and the stack.
+    pub fn plain(&self) -> String {
+        let Self {
+            call, shape, n, m, ..
+        } = self;
+        let rust = self.rust.map_or("-".to_string(), micros);
+        let port = micros(self.port);
+        format!(
+            "{call}\t{shape}\t{n}\t{m}\t{rust}\t{port}\t{}\t{}",
+            self.runs, self.depth
+        )
+    }
+}
+
+impl fmt::Display for Line {
+    fn fmt(&self, out: &mut fmt::Formatter<'_>) -> fmt::Result {
+        write!(
+            out,
+            "| {} | {} | {} | {} | {} | {} | {} | {} |",
+            self.call,
+            self.shape,
+            self.n,
+            self.m,
+            self.rust.map_or("–".to_string(), micros),
+            micros(self.port),
+            two(self.ratio()),
+            self.runs
+        )
+    }
+}
