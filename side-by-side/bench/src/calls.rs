@@ -71,12 +71,12 @@ type Timed<T> = (Duration, T);
 
 /// Both sides of a call, whose answers are the same.
 fn both(
-    mut rust: impl FnMut() -> Duration + 'static,
-    mut port: impl FnMut() -> Duration + 'static,
+    rust: impl FnMut() -> Duration + 'static,
+    port: impl FnMut() -> Duration + 'static,
 ) -> Sides {
     Sides {
-        rust: Some(Box::new(move || rust())),
-        port: Box::new(move || port()),
+        rust: Some(Box::new(rust)),
+        port: Box::new(port),
         floor: None,
     }
 }

@@ -121,8 +121,9 @@ const MOST: usize = 1_000;
 const LEAST: usize = 20;
 const LEAST_SLOW: usize = 3;
 
-/// A call is slow whose sides have taken this many budgets together.
+/// A call is slow whose sides have taken this many budgets together; one that has taken so long by itself is run once.
 const SLOW: u32 = 20;
+const TOO_LONG: Duration = Duration::from_secs(3);
 
 impl Sides {
     /// Runs the sides one after the other, again and again, until each has had the budget. The first run of the port has its
@@ -151,17 +152,22 @@ impl Runs {
         let had = |times: &[Duration]| times.is_empty() || times.iter().sum::<Duration>() >= budget;
         let sides = [&self.rust, &self.port, &self.floor];
         match self.port.len() {
-            0..LEAST_SLOW => false,
+            0 => false,
+            1..LEAST_SLOW => self.spent() >= TOO_LONG,
             LEAST_SLOW..LEAST => self.slow(budget),
             LEAST..MOST => self.slow(budget) || sides.iter().all(|times| had(times)),
             _ => true,
         }
     }
 
+    fn spent(&self) -> Duration {
+        let all = self.rust.iter().chain(&self.port).chain(&self.floor);
+        all.sum()
+    }
+
     /// Whether the sides have taken so long that few runs must do.
     pub fn slow(&self, budget: Duration) -> bool {
-        let all = self.rust.iter().chain(&self.port).chain(&self.floor);
-        all.sum::<Duration>() >= SLOW * budget
+        self.spent() >= SLOW * budget
     }
 
     /// The runs of two measurements of one field.
