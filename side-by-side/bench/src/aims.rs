@@ -29,7 +29,7 @@ const fn ratio(call: &'static str, least: f64, shapes: &'static [&'static str]) 
     }
 }
 
-/// For anchors, shift, propagation and probe_one the bound is what they had before the mends, on the machine of the page.
+/// For shift, anchors, probe_one and propagation the bound is what they had before the mends, on Arm, rounded down to a tenth.
 pub const AIMS: &[Aim] = &[
     ratio("closure", 1.4, &[]),
     ratio("closure", 2.0, &PLAIN),
@@ -41,11 +41,11 @@ pub const AIMS: &[Aim] = &[
         shapes: &[],
         bound: Bound::Floor(2.5),
     },
-    ratio("shift", 1.0, &[]),
-    ratio("anchors", 1.0, &[]),
+    ratio("shift", 5.1, &[]),
+    ratio("anchors", 1.1, &[]),
     ratio("pairs", 1.1, &[]),
-    ratio("probe_one", 1.0, &[]),
-    ratio("propagate", 1.0, &[]),
+    ratio("probe_one", 1.3, &[]),
+    ratio("propagate", 4.0, &[]),
     ratio("probe_limited", 1.7, &[]),
     ratio("probe_limited", 10.0, &CLIQUES),
     ratio("heavy", 1.7, &[]),

@@ -1,8 +1,8 @@
 //! How the port's time grows, by the factor for a doubling.
 
 use crate::fields::SHAPES;
-use crate::line::{two, Line};
-use crate::tables::{calls, head, standard};
+use crate::line::Line;
+use crate::tables::{calls, head, row, standard};
 
 /// The line of a call on a random field.
 fn random<'a>(lines: &'a [Line], call: &str, n: usize, m: usize) -> Option<&'a Line> {
@@ -52,11 +52,8 @@ pub fn print(lines: &[Line]) {
     ];
     head(&names);
     for call in calls(lines).into_iter().filter(|&c| c != "propagate") {
-        let cells = steps.map(|[from, to]| {
-            let at = |(n, m)| random(lines, call, n, m);
-            two(factor(at(from), at(to)))
-        });
-        println!("| {call} | {} |", cells.join(" | "));
+        let at = |(n, m)| random(lines, call, n, m);
+        row(call, &steps.map(|[from, to]| factor(at(from), at(to))));
     }
     by_shape(lines);
     full_probe(lines);
@@ -68,10 +65,8 @@ fn by_shape(lines: &[Line]) {
     let calls = calls(lines);
     head(&[&["shape"], calls.as_slice()].concat());
     for shape in SHAPES.into_iter().filter(|&shape| grows(shape)) {
-        let cells = calls
-            .iter()
-            .map(|&call| two(doubled(lines, call, shape, 4_096)));
-        println!("| {shape} | {} |", cells.collect::<Vec<_>>().join(" | "));
+        let found = calls.iter().map(|&call| doubled(lines, call, shape, 4_096));
+        row(shape, &found.collect::<Vec<_>>());
     }
 }
 
@@ -91,8 +86,8 @@ fn full_probe(lines: &[Line]) {
         "Rust, n to 4096",
     ]);
     for shape in SHAPES {
-        let port = [2_048, 4_096].map(|n| two(doubled(lines, "probe", shape, n)));
-        let rust = [2_048, 4_096].map(|n| two(doubled_rust(lines, "probe", shape, n)));
-        println!("| {shape} | {} | {} |", port.join(" | "), rust.join(" | "));
+        let port = [2_048, 4_096].map(|n| doubled(lines, "probe", shape, n));
+        let rust = [2_048, 4_096].map(|n| doubled_rust(lines, "probe", shape, n));
+        row(shape, &[port, rust].concat());
     }
 }

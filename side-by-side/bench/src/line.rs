@@ -61,15 +61,17 @@ impl Line {
         format!("{}, n = {}", self.shape, self.n)
     }
 
-    /// With tabs: what tells the line from others, the Rust's and the port's microseconds, the runs and the stack.
+    /// With tabs: what tells the line from others, the microseconds of the Rust and the port, the runs, the stack, and the
+    /// microseconds of one read and one clearing.
     pub fn plain(&self) -> String {
         let Self {
             call, shape, n, m, ..
         } = self;
-        let rust = self.rust.map_or("-".to_string(), micros);
+        let [rust, floor] =
+            [self.rust, self.floor].map(|time| time.map_or("-".to_string(), micros));
         let port = micros(self.port);
         format!(
-            "{call}\t{shape}\t{n}\t{m}\t{rust}\t{port}\t{}\t{}",
+            "{call}\t{shape}\t{n}\t{m}\t{rust}\t{port}\t{}\t{}\t{floor}",
             self.runs, self.depth
         )
     }

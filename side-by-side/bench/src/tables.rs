@@ -26,6 +26,14 @@ pub fn head(words: &[&str]) {
     println!("|{}", "---|".repeat(words.len()));
 }
 
+/// A row of numbers; none where nothing of it was measured.
+pub fn row(name: &str, numbers: &[Option<f64>]) {
+    if numbers.iter().any(Option::is_some) {
+        let cells: Vec<_> = numbers.iter().map(|&number| two(number)).collect();
+        println!("| {name} | {} |", cells.join(" | "));
+    }
+}
+
 pub fn print(lines: &[Line]) {
     aims(lines);
     println!("\n## Ratios: the Rust's time over the port's");
@@ -97,8 +105,8 @@ fn ratios(lines: &[Line], n: usize) {
     for shape in SHAPES.into_iter().chain(["clash"]) {
         let found = calls
             .iter()
-            .map(|&call| two(standard(lines, call, shape, n).and_then(Line::ratio)));
-        println!("| {shape} | {} |", found.collect::<Vec<_>>().join(" | "));
+            .map(|&call| standard(lines, call, shape, n).and_then(Line::ratio));
+        row(shape, &found.collect::<Vec<_>>());
     }
 }
 
