@@ -130,6 +130,10 @@ module _ {F : Field} {s : List ℕ} (S : Sound F s) where
       (λ x b. laid-among (probeValues F t) t (b .completion .extends)
       (λ j l. best-has-values (S .shaped) (v .exact) preprocess-start b j (omega (arith, preprocess-start .long)))))
 
+  -- Where preprocess leaves none free, that is the round.
+  pub round-solved : frees (preprocess F s) ≡ 0 → round F s ≡ preprocess F s
+  round-solved e = let r = frees-fewer (preprocess F s) (round F s) round-probes in r .1 (omega (arith, r .0))
+
   -- A round that adds none changes nothing.
   pub adds-none : frees (round F s) ≡ frees s → round F s ≡ s
   adds-none = frees-fewer s (round F s) round-extends .1
@@ -164,6 +168,12 @@ module _ {F : Field} where
   rounds-stand {s} k S g {unit} v =
       rounds-ind F (Safe (wholeOf unit F) s) (λ t T h. safe-trans h (round-stands T g v)) k s S
       (every-safe (wholeOf unit F) (S .start .small) (extends-refl s) (λ x b. b .completion .extends))
+
+  -- where none is free, rounds change nothing
+  pub rounds-solved : {s : List ℕ} (k : ℕ) → Sound F s → frees s ≡ 0 → rounds F k s ≡ s
+  unfolding rounds
+  rounds-solved {s} zero S e = refl
+  rounds-solved {s} (suc k) S e = rw (eq-eqb (frees (round F s)) (frees s) (omega (arith, frees-fewer s (round F s) (round-extends S) .0)))
 
   -- the stop leaves what all k rounds leave
   pub rounds-are : {s : List ℕ} (k : ℕ) → Sound F s → rounds F k s ≡ allRounds F k s

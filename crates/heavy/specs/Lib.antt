@@ -1,3 +1,4 @@
 pub mod Rounds
 pub mod Comes
+pub mod Standing
 pub mod Call

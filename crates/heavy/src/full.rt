@@ -1,4 +1,4 @@
-// The values of a full probe, left in the words.
+// The values of a full probe, left in the words; the places stay.
 use field::Grade;
 use probe::values::copy;
 use probes::values::set_none;
@@ -13,9 +13,10 @@ ghost use Rattle.scratch.specs.Lent.{before, after};
 ghost use Rattle.field.specs.Field.{lent, given, variables};
 ghost use Rattle.field.specs.Tests.{Ready};
 ghost use Rattle.field.specs.Grade.{gradeOf};
+ghost use Rattle.places.specs.Places.{Adjacent};
 ghost use Rattle.probing.specs.Remembered.{Remembers};
-ghost use Rattle.walking.specs.Walk.{gatherAt, valuesLeft};
-ghost use Rattle.heavy.specs.Rounds.{probeValues};
+ghost use Rattle.walking.specs.Walk.{gatherAt};
+ghost use Rattle.heavy.specs.Standing.{AllProbed};
 
 // Every free variable is a candidate, every probe value is 2 at first, and the candidates are walked.
 fn walk_free(
@@ -32,7 +33,7 @@ fn walk_free(
     requires { ⌜ Remembers (lent c rows cols q) (now start) (now f) (now u) known ⌝ }
     requires { ⌜ now values ≡ now start ⌝ }
     requires { ⌜ gatherAt (lent c rows cols q) + variables (lent c rows cols q) ≤ length (now u) ⌝ }
-    ensures { λ _. ⌜ valuesLeft (given c rows cols q) (after u) ≡ probeValues (given c rows cols q) (before start) ⌝ }
+    ensures { λ _. ⌜ AllProbed (given c rows cols q) (before start) (after u) ⌝ }
 {
     let n = c.len();
     let first = n + 1 + 2 * rows.len() + n + n;
@@ -56,7 +57,8 @@ pub fn probe_values(
     requires { ⌜ Ready (lent c rows cols q) (now start) (length (now f)) (length (now u)) ⌝ }
     requires { ⌜ length (now values) ≡ variables (lent c rows cols q) ⌝ }
     requires { ⌜ grade ≡ gradeOf (lent c rows cols q) ⌝ }
-    ensures { λ _. ⌜ valuesLeft (given c rows cols q) (after u) ≡ probeValues (given c rows cols q) (before start) ⌝ }
+    requires { ⌜ Adjacent (variables (lent c rows cols q)) (now rows) (now cols) (now u) ⌝ }
+    ensures { λ _. ⌜ AllProbed (given c rows cols q) (before start) (after u) ⌝ }
 {
     copy(start, values);
     let known = remember(c, rows, cols, q, start, values, f, u, grade);

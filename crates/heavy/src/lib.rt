@@ -15,10 +15,12 @@ ghost use Rattle.field.specs.Field.{lent, given, variables};
 ghost use Rattle.field.specs.Tests.{Ready};
 ghost use Rattle.field.specs.Grade.{gradeOf};
 ghost use Rattle.calls.specs.Values.{left};
-ghost use Rattle.heavy.specs.Rounds.{round as roundOf, heavy as heavyOf};
+ghost use Rattle.places.specs.Places.{Adjacent};
+ghost use Rattle.heavy.specs.Rounds.{heavy as heavyOf};
+ghost use Rattle.heavy.specs.Standing.{Rounded};
 ghost use Rattle.heavy.specs.Call.{heavyCall};
 
-// Preprocess, then the values of a full probe over what that leaves.
+// Preprocess, then the values of a full probe over what that leaves, if anything is left free; the places stand, and stay.
 fn round(
     c: &[f64],
     rows: &[u16],
@@ -33,16 +35,20 @@ fn round(
     requires { ⌜ Ready (lent c rows cols q) (now values) (length (now f)) (length (now u)) ⌝ }
     requires { ⌜ length (now probed) ≡ variables (lent c rows cols q) ⌝ }
     requires { ⌜ grade ≡ gradeOf (lent c rows cols q) ⌝ }
-    ensures { λ _. ⌜ after values ≡ roundOf (given c rows cols q) (before values) ⌝ }
+    requires { ⌜ Adjacent (variables (lent c rows cols q)) (now rows) (now cols) (now u) ⌝ }
+    ensures { λ _. ⌜ Rounded (given c rows cols q) (before values) (after values) (after u) ⌝ }
 {
     let n = c.len();
     let at = n + 1 + 2 * rows.len() + n + n + n;
     preprocess::work(c, rows, cols, q, values, f, u);
+    if count_free(values) == 0 {
+        return;
+    }
     probe_values(c, rows, cols, q, values, probed, f, u, grade);
     lay(values, u, at);
 }
 
-// Rounds until one adds none, and at most n.
+// Rounds until one adds none or leaves none free, and at most n.
 fn rounds(
     c: &[f64],
     rows: &[u16],
@@ -57,12 +63,16 @@ fn rounds(
     requires { ⌜ Ready (lent c rows cols q) (now values) (length (now f)) (length (now u)) ⌝ }
     requires { ⌜ length (now probed) ≡ variables (lent c rows cols q) ⌝ }
     requires { ⌜ grade ≡ gradeOf (lent c rows cols q) ⌝ }
+    requires { ⌜ Adjacent (variables (lent c rows cols q)) (now rows) (now cols) (now u) ⌝ }
     ensures { λ _. ⌜ after values ≡ heavyOf (given c rows cols q) (before values) ⌝ }
 {
     let mut free = count_free(values);
     for k in 0..c.len() {
         round(c, rows, cols, q, values, probed, f, u, grade);
         let still = count_free(values);
+        if still == 0 {
+            return;
+        }
         if still == free {
             return;
         }
@@ -70,7 +80,7 @@ fn rounds(
     }
 }
 
-// The rounds, with a byte for each variable in which the probes work.
+// The places once, then the rounds, with a byte for each variable in which the probes work.
 fn work(
     c: &[f64],
     rows: &[u16],
@@ -86,6 +96,7 @@ fn work(
     ensures { λ _. ⌜ after values ≡ heavyOf (given c rows cols q) (before values) ⌝ }
 {
     let mut probed = [2; 4096];
+    places::build(u, rows, cols, c.len());
     rounds(
         c,
         rows,

@@ -1,3 +1,4 @@
+pub mod Offsets
 pub mod Zeros
 pub mod Blind
 pub mod Idle

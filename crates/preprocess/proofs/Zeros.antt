@@ -1,22 +1,38 @@
 -- The variables of no effect take 0: how a loop that counts up fixes them. Assumes nothing.
 use Prim.Native.Nat.{ℕ, zero, suc, _+_, _<_, _≤_}
-use mathlib.Core.Path.{_≡_, refl, ap, _∙_}
+use mathlib.Core.Path.{_≡_, refl, sym, ap, _∙_}
 use mathlib.Core.Logic.{_≢_}
 use mathlib.Core.Bool.{Bool, true, false, cond, _&&_}
 use mathlib.Core.List.{List}
 use native.Mathlib.Nat.{le-antisymm}
 use native.Mathlib.Numerals.{add-one}
 use native.Mathlib.Omega.{arith}
-use borrow.Author.Tests.{eq-eqb, ne-eqb}
+use borrow.Author.Tests.{eq-eqb, ne-eqb, not-true, not-false}
 use lib.ListN.{length, getD, set, length-set}
-use lib.Ieee.{Float}
+use lib.Ieee.{Float, nan, ne}
+use Rattle.weights.specs.Worth.{zero64}
+use Rattle.scratch.proofs.All.{and-yes, and-no}
 use Rattle.meaning.specs.Free.{isFree}
 use Rattle.field.specs.Field.{fieldOf}
-use Rattle.no_effect.specs.Effect.{hasNoEffect, Marked, idle}
-use Rattle.no_effect.proofs.Laws.{idle-is}
-use Rattle.preprocess.specs.Working.{fixAt, fixTo, withNoEffect}
+use Rattle.places.specs.Places.{Adjacent}
+use Rattle.no_effect.specs.Effect.{hasNoEffect}
+use Rattle.preprocess.specs.Working.{idle, fixAt, fixTo, withNoEffect}
+use Rattle.preprocess.proofs.Offsets.{idle-is}
 
 -- ---- one variable
+
+-- as the code tests it
+module _ (c : List Float) (u : List ℕ) (i : ℕ) where
+  pub placed-not : getD u i 0 ≢ getD u (i + 1) 0 → idle c u i ≡ false
+  placed-not n = sym (and-no _ (ne-eqb (getD u i 0) (getD u (i + 1) 0) n))
+
+  pub weighs-not : getD u i 0 ≡ getD u (i + 1) 0 → ne (getD c i nan) zero64 ≡ true → idle c u i ≡ false
+  unfolding ne
+  weighs-not z e = sym (and-yes (eq-eqb (getD u i 0) (getD u (i + 1) 0) z) (sym (not-true _ e)))
+
+  pub is-idle : getD u i 0 ≡ getD u (i + 1) 0 → ne (getD c i nan) zero64 ≡ false → idle c u i ≡ true
+  unfolding ne
+  is-idle z e = sym (and-yes (eq-eqb (getD u i 0) (getD u (i + 1) 0) z) (sym (not-false _ e)))
 
 module _ {b : Bool} (i : ℕ) (s : List ℕ) where
   pub not-meant : b ≡ false → s ≡ fixAt b i s
@@ -52,10 +68,10 @@ unfolding fixTo
 fix-same p q zero s h = refl
 fix-same p q (suc i) s h = rw (h i (omega arith), fix-same p q i s (λ j l. h j (omega arith)))
 
-pub idle-fixed : (c : List Float) (rows cols : List ℕ) (q : List Float) {u₀ : List ℕ} (u s : List ℕ) → Marked (length c) rows cols u₀ u
+pub idle-fixed : (c : List Float) (rows cols : List ℕ) (q : List Float) (u s : List ℕ) → Adjacent (length c) rows cols u → length cols ≡ length rows
     → fixTo (idle c u) (length c) s ≡ withNoEffect (fieldOf c rows cols q) s
 unfolding withNoEffect
-idle-fixed c rows cols q u s marked = fix-same (idle c u) (hasNoEffect (fieldOf c rows cols q)) (length c) s (idle-is c rows cols q u marked)
+idle-fixed c rows cols q u s A same = fix-same (idle c u) (hasNoEffect (fieldOf c rows cols q)) (length c) s (idle-is c rows cols q u A same)
 
 -- ---- the loop
 

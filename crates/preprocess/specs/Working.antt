@@ -1,9 +1,12 @@
 -- What the call works out (document 01, "Preprocess and heavy"). Assumes nothing.
-use Prim.Native.Nat.{ℕ, zero, suc}
+use Prim.Native.Nat.{ℕ, zero, suc, _+_}
 use mathlib.Core.Path.{_≡_}
 use mathlib.Core.Bool.{Bool, cond, _&&_}
 use mathlib.Core.List.{List}
-use lib.ListN.{length, set}
+use lib.Dec.{eqb}
+use lib.Ieee.{Float, nan, eq}
+use lib.ListN.{length, getD, set}
+use Rattle.weights.specs.Worth.{zero64}
 use Rattle.meaning.specs.Free.{isFree}
 use Rattle.field.specs.Field.{Field, variables}
 use Rattle.places.specs.Places.{Adjacent}
@@ -28,8 +31,19 @@ withNoEffect F s = fixTo (hasNoEffect F) (variables F) s
 unfoldable pub preprocess : Field → List ℕ → List ℕ
 preprocess F s = smallParts F (closure F (withNoEffect F s))
 
+-- ---- over lent memory
+
+-- i has no place, told by its offset and the next one's, and c = 0
+abbrev pub idle : List Float → List ℕ → ℕ → Bool
+idle c u i = eqb (getD u i 0) (getD u (i + 1) 0) && eq (getD c i nan) zero64
+
 -- what the run over lent memory leaves: the closure, and the adjacency in its place
 pub record Closes (F : Field) (s u s′ u′ : List ℕ) : Type 0 where
   pub values : s′ ≡ closure F s
   pub adjacent : Adjacent (variables F) (F .rows) (F .cols) u′
   pub words-long : length u′ ≡ length u
+
+-- what all three leave
+pub record Preprocesses (F : Field) (s s′ u′ : List ℕ) : Type 0 where
+  pub values : s′ ≡ preprocess F s
+  pub adjacent : Adjacent (variables F) (F .rows) (F .cols) u′

@@ -4,27 +4,16 @@ mod fixing;
 use field::Answer;
 use field::Checked;
 ghost use mathlib.Core.Path.{_≡_};
-ghost use Prim.Native.Nat.{_≤_};
 ghost use lib.ListN.{length};
 ghost use Rattle.scratch.specs.Lent.{before, after};
-ghost use Rattle.field.specs.Field.{lent, given, variables, Shaped};
+ghost use Rattle.field.specs.Field.{lent, given, variables};
 ghost use Rattle.field.specs.Tests.{Ready};
 ghost use Rattle.calls.specs.Values.{left};
-ghost use Rattle.preprocess.specs.Working.{withNoEffect, Closes, preprocess as preprocessed};
+ghost use Rattle.places.specs.Places.{Adjacent};
+ghost use Rattle.preprocess.specs.Working.{Closes, Preprocesses};
 ghost use Rattle.preprocess.specs.Call.{preprocessCall};
 
-// Every free variable of no effect counts as 0.
-fn fix_idle(c: &[f64], rows: &[u16], cols: &[u16], q: &[f64], values: &mut [u8], u: &mut [u32])
-    requires { ⌜ Shaped (lent c rows cols q) ⌝ }
-    requires { ⌜ length (now values) ≡ variables (lent c rows cols q) ⌝ }
-    requires { ⌜ variables (lent c rows cols q) ≤ length (now u) ⌝ }
-    ensures { λ _. ⌜ after values ≡ withNoEffect (given c rows cols q) (before values) ⌝ }
-{
-    no_effect::marks::mark_ends(u, rows, cols, c.len());
-    fixing::fix_all(c, u, values);
-}
-
-// The places, the rows, and the run from them; the places stay.
+// The rows, and the run from them; the places stay.
 fn close(
     c: &[f64],
     rows: &[u16],
@@ -35,14 +24,14 @@ fn close(
     u: &mut [u32],
 )
     requires { ⌜ Ready (lent c rows cols q) (now values) (length (now f)) (length (now u)) ⌝ }
+    requires { ⌜ Adjacent (variables (lent c rows cols q)) (now rows) (now cols) (now u) ⌝ }
     ensures { λ _. ⌜ Closes (given c rows cols q) (before values) (before u) (after values) (after u) ⌝ }
 {
-    places::build(u, rows, cols, c.len());
     rows::fill::fill(c, rows, cols, q, values, f);
     run::propagate(c, rows, cols, q, values, f, u);
 }
 
-// Variables of no effect first, then the closure, then the small components.
+// Variables of no effect first, then the closure, then the small components; the places stand, and stay.
 pub fn work(
     c: &[f64],
     rows: &[u16],
@@ -53,9 +42,10 @@ pub fn work(
     u: &mut [u32],
 )
     requires { ⌜ Ready (lent c rows cols q) (now values) (length (now f)) (length (now u)) ⌝ }
-    ensures { λ _. ⌜ after values ≡ preprocessed (given c rows cols q) (before values) ⌝ }
+    requires { ⌜ Adjacent (variables (lent c rows cols q)) (now rows) (now cols) (now u) ⌝ }
+    ensures { λ _. ⌜ Preprocesses (given c rows cols q) (before values) (after values) (after u) ⌝ }
 {
-    fix_idle(c, rows, cols, q, values, u);
+    fixing::fix_idle(c, rows, cols, q, u, values);
     close(c, rows, cols, q, values, f, u);
     components::solve(c, rows, cols, q, values, u);
 }
@@ -77,6 +67,7 @@ pub fn preprocess(
         return Answer::Refused(refusal);
     }
     let grade = field::grading::graded(c, rows, cols, q);
+    places::build(u, rows, cols, c.len());
     work(c, rows, cols, q, start, f, u);
     scratch::clear_floats(f);
     scratch::clear_words(u);

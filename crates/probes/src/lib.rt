@@ -22,7 +22,7 @@ ghost use Rattle.ranking.specs.Ranking.{ranks};
 ghost use Rattle.probes.specs.Call.{left, probeCall, probeLimitedCall};
 ghost use Rattle.probes.specs.Standing.{settled};
 
-// The start values go into the values, the field is graded, and the workspace is made.
+// The start values go into the values, the field is graded, the places are built, and the workspace is made.
 fn prepare(
     c: &[f64],
     rows: &[u16],
@@ -40,6 +40,7 @@ fn prepare(
 {
     let grade = field::grading::graded(c, rows, cols, q);
     copy(start, values);
+    places::build(u, rows, cols, c.len());
     workspace::remembering::remember(c, rows, cols, q, start, values, f, u, grade)
 }
 

@@ -11,7 +11,8 @@ ghost use Rattle.scratch.specs.Region.{region};
 ghost use Rattle.sorting.specs.Numbers.{Keys};
 ghost use Rattle.found.specs.Joint.{Held};
 ghost use Rattle.found.specs.Flush.{left};
-ghost use Rattle.field.specs.Field.{given, lent};
+ghost use Rattle.field.specs.Field.{given, lent, variables};
+ghost use Rattle.places.specs.Places.{Adjacent};
 ghost use Rattle.walking.specs.Walk.{candidatesAt, roomed, endAfter, heldOf, Walkable, Valued, Walked};
 
 // The numbers are flushed where fewer than n places are left behind them.
@@ -84,7 +85,7 @@ pub fn walk(
     flush(list, held, u, lo, end)
 }
 
-// The same walk for its probe values alone: the constraints found are forgotten.
+// The same walk for its probe values alone: the constraints found are forgotten, and the places stay.
 pub fn walk_values(
     c: &[f64],
     rows: &[u16],
@@ -101,6 +102,7 @@ pub fn walk_values(
     requires { ⌜ now values ≡ now start ⌝ }
     ensures { λ _. ⌜ after values ≡ before start ⌝ }
     ensures { λ _. ⌜ Valued (given c rows cols q) (before start) (region (candidatesAt (given c rows cols q)) count (before u)) (after u) ⌝ }
+    ensures { λ _. ⌜ Adjacent (variables (given c rows cols q)) (before rows) (before cols) (after u) ⌝ }
 {
     let n = c.len();
     let at = n + 1 + 2 * rows.len() + n + n + n + n;

@@ -1,4 +1,4 @@
--- From the places, the rows and a scan to the workspace. Assumes nothing.
+-- From the rows and a scan, over the places, to the workspace. Assumes nothing.
 use Prim.Native.Nat.{ℕ, _+_, _*_, _<_, _≤_}
 use mathlib.Core.Path.{_≡_, refl, sym, ap, _∙_}
 use mathlib.Core.Logic.{inl, inr, ⊎-elim}
@@ -15,7 +15,7 @@ use Rattle.field.specs.Grade.{gradeOf}
 use Rattle.rows.specs.Model.{rowOf}
 use Rattle.rows.specs.Stored.{rowOn, Fillable, Filled}
 use Rattle.rows.proofs.Upto.{getD-upTo, upTo-same}
-use Rattle.places.specs.Places.{EndsBelow, Built}
+use Rattle.places.specs.Places.{EndsBelow, Adjacent}
 use Rattle.places.proofs.Shape.{ends-below}
 use Rattle.places.proofs.Walk.{adjacent-front}
 use Rattle.run.specs.Run.{Run, noRow, scanTo}
@@ -49,7 +49,7 @@ module _ {F : Field} {s : List ℕ} (f₀ : List Float) (u₀ : List ℕ) (ready
   pub begin-rows : {vs : List ℕ} → vs ≡ s → Fillable F vs f₀
   begin-rows e = record { shaped = ready .sound .shaped; values-long = ap length e ∙ ready .sound .start .long; room = omega (arith, ready .floats-room) }
 
-  module _ {vs : List ℕ} {f₁ f₂ : List Float} {u₁ : List ℕ} (e : vs ≡ s) (built : Built (variables F) (F .rows) (F .cols) u₀ u₁) (filled : Filled F vs f₀ f₁)
+  module _ {vs : List ℕ} {f₁ f₂ : List Float} (e : vs ≡ s) (adjacent : Adjacent (variables F) (F .rows) (F .cols) u₀) (filled : Filled F vs f₀ f₁)
       (copied : Shifted nan 0 (variables F + variables F) (variables F + variables F) f₁ f₂) where
     rows-at : (t : ℕ) → t < variables F → rowOn f₁ (variables F) t ≡ rowOf F s t
     rows-at t h = filled .rows t h ∙ ap (λ (l : List ℕ). rowOf F l t) e
@@ -64,12 +64,12 @@ module _ {F : Field} {s : List ℕ} (f₀ : List Float) (u₀ : List ℕ) (ready
         let upper : 0 + (n + t) ≡ n + t = omega arith in
         rw (getD-drop (n + n) f₂ t nan, getD-drop (n + n) f₂ (n + t) nan, copied .moved t (omega arith), copied .moved (n + t) (omega arith), lower, upper) (rows-at t h)
 
-    pub begin-placed : Placed F (cells vs f₂ u₁ 0)
+    pub begin-placed : Placed F (cells vs f₂ u₀ 0)
     begin-placed =
         placed-start (ready .sound .shaped) (ap length e ∙ ready .sound .start .long) (omega (arith, ready .floats-room, filled .long, copied .long))
-        (built .adjacent) (omega (arith, ready .words-room, ready .sound .shaped .rows-long, built .long))
+        adjacent (omega (arith, ready .words-room, ready .sound .shaped .rows-long))
 
-    begun : runIn F (cells vs f₂ u₁ 0) ≡ remembered F s s
+    begun : runIn F (cells vs f₂ u₀ 0) ≡ remembered F s s
     unfolding runIn remembered region
     begun = rw (e, upTo-same (rowOn f₂ (variables F)) (rowOf F s) (variables F) front-row)
 
@@ -77,7 +77,7 @@ module _ {F : Field} {s : List ℕ} (f₀ : List Float) (u₀ : List ℕ) (ready
     unfolding remembered
     base-touches = record { values = λ j. inl refl; rows = λ t h. inl (getD-upTo (rowOf F s) (variables F) t noRow h) }
 
-    module _ {vs₂ u₂ : List ℕ} {many : ℕ} (D : Does F (λ run. scanTo run (variables F)) (cells vs f₂ u₁ 0) (cells vs₂ f₂ u₂ many)) where
+    module _ {vs₂ u₂ : List ℕ} {many : ℕ} (D : Does F (λ run. scanTo run (variables F)) (cells vs f₂ u₀ 0) (cells vs₂ f₂ u₂ many)) where
       scan-is : runIn F (cells vs₂ f₂ u₂ many) ≡ scanTo (remembered F s s) (variables F)
       scan-is = D .run ∙ ap (λ (run : Run). scanTo run (variables F)) begun
 
@@ -97,7 +97,7 @@ module _ {F : Field} {s : List ℕ} (f₀ : List Float) (u₀ : List ℕ) (ready
       few = omega (arith, D .kept .placed .queue-room)
 
       room₂ : base F + variables F + variables F ≤ length u₂
-      room₂ = omega (arith, ready .words-room, ready .sound .shaped .rows-long, built .long, D .kept .words-long)
+      room₂ = omega (arith, ready .words-room, ready .sound .shaped .rows-long, D .kept .words-long)
 
       pub begin-list : Shiftable (base F) (base F + variables F) many (length u₂)
       begin-list = record { order = inr (omega (arith, few)); from-room = omega (arith, few, room₂); to-room = omega (arith, few, room₂) }

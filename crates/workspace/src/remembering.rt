@@ -7,12 +7,14 @@ use probing::Known;
 ghost use mathlib.Core.Path.{_≡_};
 ghost use lib.ListN.{length};
 ghost use Rattle.scratch.specs.Lent.{before, after};
-ghost use Rattle.field.specs.Field.{given, lent};
+ghost use Rattle.field.specs.Field.{given, lent, variables};
 ghost use Rattle.field.specs.Tests.{Ready};
 ghost use Rattle.field.specs.Grade.{gradeOf};
+ghost use Rattle.places.specs.Places.{Adjacent};
 ghost use Rattle.probing.specs.Remembered.{Remembers};
 
-// The places, the rows at the start values and a copy of them, and the candidates: what a scan there forces; how many these are, beside the grade.
+// The rows at the start values and a copy of them, and the candidates: what a scan there forces; how many these are, beside the grade.
+// The places stand already.
 pub fn remember(
     c: &[f64],
     rows: &[u16],
@@ -27,12 +29,12 @@ pub fn remember(
     requires { ⌜ Ready (lent c rows cols q) (now start) (length (now f)) (length (now u)) ⌝ }
     requires { ⌜ now values ≡ now start ⌝ }
     requires { ⌜ grade ≡ gradeOf (lent c rows cols q) ⌝ }
+    requires { ⌜ Adjacent (variables (lent c rows cols q)) (now rows) (now cols) (now u) ⌝ }
     ensures { λ _. ⌜ after values ≡ before start ⌝ }
     ensures { λ r. ⌜ Remembers (given c rows cols q) (before start) (after f) (after u) r ⌝ }
 {
     let n = c.len();
     let from = n + 1 + 2 * rows.len();
-    places::build(u, rows, cols, n);
     rows::fill::fill(c, rows, cols, q, values, f);
     copy_floats(f, 0, n + n, n + n);
     let many = run::queue::scan(c, rows, cols, q, values, f, u);

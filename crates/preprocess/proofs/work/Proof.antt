@@ -1,5 +1,4 @@
 -- `work` fixes the variables of no effect, closes, and solves the small components. Assumes nothing.
-use native.Mathlib.Omega.{arith}
 use Rattle.preprocess.proofs.Laws.{ready-still, solvable, preprocessed}
 use borrow.Author.Needs.{needs}
 use Rattle.preprocess.proofs.work.Statement.{statement}
@@ -8,21 +7,20 @@ use Rattle.preprocess.proofs.work.Tie as tie
 fix-idle-requires : tie.Need-fix-idle-requires
 fix-idle-requires c κs =
     let at-start = c .before .before .before .before .before .before .before .before .before in
-    let ready = at-start .pre in
-    (ready .sound .shaped, (ready .sound .start .long, omega (arith, ready .words-room)))
+    (at-start .pre .0 .sound .shaped, (at-start .pre .0 .sound .start .long, at-start .pre .1))
 
 close-requires : tie.Need-close-requires
 close-requires c κs =
-    let at-fix-idle = c .before .before .before .before .before .before .before in
+    let at-fix-idle = c .before .before .before .before .before in
     let at-start = at-fix-idle .before .before .before .before .before .before .before .before .before .before in
-    ready-still (at-start .pre) (at-fix-idle .fix-idle .ensures) _ (search needs)
+    (ready-still (at-start .pre .0) (at-fix-idle .fix-idle .ensures) _ (search needs), at-start .pre .1)
 
 solve-requires : tie.Need-solve-requires
 solve-requires c κs =
     let at-close = c .before .before .before .before .before .before .before .before in
-    let at-fix-idle = at-close .before .before .before .before .before .before .before .before in
+    let at-fix-idle = at-close .before .before .before .before .before .before in
     let at-start = at-fix-idle .before .before .before .before .before .before .before .before .before .before in
-    solvable (at-start .pre) (at-fix-idle .fix-idle .ensures) (at-close .close .ensures) (search needs)
+    solvable (at-start .pre .0) (at-fix-idle .fix-idle .ensures) (at-close .close .ensures) (search needs)
 
 same-length : tie.Need-same-length
 same-length c = search needs
@@ -37,9 +35,9 @@ returns : tie.Need-returns
 returns c =
     let at-solve = c .before .before .before .before in
     let at-close = at-solve .before .before .before .before .before .before .before .before .before in
-    let at-fix-idle = at-close .before .before .before .before .before .before .before .before in
+    let at-fix-idle = at-close .before .before .before .before .before .before in
     let at-start = at-fix-idle .before .before .before .before .before .before .before .before .before .before in
-    preprocessed (at-start .pre) (at-fix-idle .fix-idle .ensures) (at-close .close .ensures) (at-solve .solve .ensures)
+    preprocessed (at-start .pre .0) (at-fix-idle .fix-idle .ensures) (at-close .close .ensures) (at-solve .solve .ensures)
 
 pub work-spec : {M : Type 1} → statement M
 work-spec =

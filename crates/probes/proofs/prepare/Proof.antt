@@ -1,5 +1,7 @@
--- `prepare` grades, copies the start values, and makes the workspace. Assumes nothing.
+-- `prepare` grades, copies the start values, builds the places, and makes the workspace. Assumes nothing.
+use native.Mathlib.Omega.{arith}
 use Rattle.calls.proofs.Values.{ready-loose}
+use Rattle.workspace.proofs.Begun.{begin-places}
 use borrow.Author.Needs.{needs}
 use Rattle.probes.proofs.prepare.Statement.{statement}
 use Rattle.probes.proofs.prepare.Tie as tie
@@ -10,12 +12,21 @@ graded-requires c κs = ready-loose (c .before .before .before .before .before .
 copy-requires : tie.Need-copy-requires
 copy-requires c κs = search needs
 
+build-requires : tie.Need-build-requires
+build-requires c κs =
+    let at-start = c .before .before .before .before .before .before .before .before .before .before .before .before .before .before in
+    begin-places (at-start .args .f .now) (at-start .args .u .now) (at-start .pre .0)
+
 remember-requires : tie.Need-remember-requires
 remember-requires c κs =
-    let at-copy = c .before .before .before .before .before in
+    let at-build = c .before .before .before .before .before in
+    let at-copy = at-build .before .before .before .before in
     let at-graded = at-copy .before .before in
     let at-start = at-graded .before .before .before .before .before .before .before .before .before in
-    (at-start .pre .0, (at-copy .copy .ensures, at-graded .graded .ensures))
+    let ready = at-start .pre .0 in (
+      record { sound = ready .sound; floats-room = ready .floats-room; words-room = omega (arith, ready .words-room, at-build .build .ensures .long) },
+      (at-copy .copy .ensures, (at-graded .graded .ensures, at-build .build .ensures .adjacent)),
+    )
 
 same-length : tie.Need-same-length
 same-length c = search needs
@@ -35,6 +46,7 @@ prepare-spec =
     (tie.spec
     graded-requires
     copy-requires
+    build-requires
     remember-requires
     same-length
     same-length-2

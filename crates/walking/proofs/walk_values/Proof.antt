@@ -89,7 +89,9 @@ same-length-3 : tie.Need-same-length-3 Inv-loop μ-loop
 same-length-3 c = c .before .loop .inv .words-long
 
 returns : tie.Need-returns Inv-loop μ-loop
-returns c = (c .before .loop .inv .same, valuing-done (c .before .loop .inv) (c .loop-test .left))
+returns c =
+    let inv = c .before .loop .inv in
+    (inv .same, (valuing-done inv (c .loop-test .left), inv .stands .remembers .placed .adjacent))
 
 pub walk-values-spec : {M : Type 1} → statement M
 walk-values-spec =

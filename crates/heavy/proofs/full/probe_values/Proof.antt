@@ -9,13 +9,15 @@ copy-requires c κs = search needs
 
 remember-requires : tie.Need-remember-requires
 remember-requires c κs =
-    let at-copy = c .before .before .before .before .before in
+    let at-before = c .before .before .before .before in
+    let at-copy = at-before .before in
     let at-start = at-copy .before .before .before .before .before .before .before .before .before .before in
     (at-start .pre .0, (at-copy .copy .ensures, at-start .pre .1 .1))
 
 walk-free-requires : tie.Need-walk-free-requires
 walk-free-requires c κs =
-    let at-remember = c .before .before .before .before .before .before .before .before .before in
+    let at-before = c .before .before .before .before .before .before .before .before in
+    let at-remember = at-before .before in
     let at-start = at-remember .before .before .before .before .before .before .before .before .before .before .before .before .before .before .before .before in
     (at-remember .remember .ensures .1, (at-remember .remember .ensures .0, walk-room (at-start .pre .0) (search needs)))
 
@@ -29,7 +31,7 @@ same-length-3 : tie.Need-same-length-3
 same-length-3 c = search needs
 
 returns : tie.Need-returns
-returns c = search needs
+returns c = c .before .before .before .before .before .before .walk-free .ensures
 
 pub probe-values-spec : {M : Type 1} → statement M
 probe-values-spec =

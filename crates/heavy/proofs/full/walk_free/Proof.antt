@@ -56,7 +56,8 @@ returns c =
     let at-set-none = at-walk-values .before .before .before .before .before .before in
     let at-list-free = at-set-none .before .before .before .before in
     let at-start = at-list-free .before .before .before .before .before .before .before .before .before .before in
-    all-walked (at-start .pre .0) (at-start .pre .1 .1) (at-list-free .list-free .ensures) (at-set-none .set-none .ensures) (at-walk-values .walk-values .ensures .1)
+    let walked = at-walk-values .walk-values .ensures .1 in
+    record { values = all-walked (at-start .pre .0) (at-start .pre .1 .1) (at-list-free .list-free .ensures) (at-set-none .set-none .ensures) (walked .0); adjacent = walked .1 }
 
 pub walk-free-spec : {M : Type 1} → statement M
 walk-free-spec =

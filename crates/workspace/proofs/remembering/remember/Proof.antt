@@ -1,8 +1,8 @@
--- `remember` builds the places and the rows, copies the rows, and lists what a scan forces. Assumes nothing.
+-- `remember` makes the rows, copies them, and lists what a scan forces. Assumes nothing.
 use mathlib.Core.Path.{refl}
 use mathlib.Core.Logic.{inr}
 use native.Mathlib.Omega.{arith}
-use Rattle.workspace.proofs.Begun.{begin-places, begin-rows, begin-placed, begin-undo, begin-list, begin-remembers}
+use Rattle.workspace.proofs.Begun.{begin-rows, begin-placed, begin-undo, begin-list, begin-remembers}
 use borrow.Author.Needs.{needs}
 use Rattle.workspace.proofs.remembering.remember.Statement.{statement}
 use Rattle.workspace.proofs.remembering.remember.Tie as tie
@@ -16,15 +16,10 @@ mul-from c = search needs
 add-from-2 : tie.Need-add-from-2
 add-from-2 c = search needs
 
-build-requires : tie.Need-build-requires
-build-requires c κs =
-    let at-args = c .before .before .before .before .before .before .before .before .before in
-    let a = at-args .args in begin-places (a .f .now) (a .u .now) (at-args .pre .0)
-
 fill-requires : tie.Need-fill-requires
 fill-requires c κs =
-    let at-args = c .before .before .before .before .before .before .before .before .before .before .before .before .before .before in
-    let a = at-args .args in begin-rows (a .f .now) (a .u .now) (at-args .pre .0) (at-args .pre .1 .0)
+    let at-start = c .before .before .before .before .before .before .before .before .before .before in
+    let a = at-start .args in begin-rows (a .f .now) (a .u .now) (at-start .pre .0) (at-start .pre .1 .0)
 
 add-copy-floats : tie.Need-add-copy-floats
 add-copy-floats c = search needs
@@ -35,8 +30,8 @@ add-copy-floats-2 c = search needs
 copy-floats-requires : tie.Need-copy-floats-requires
 copy-floats-requires c κs =
     let at-fill = c .before .before .before in
-    let at-args = at-fill .before .before .before .before .before .before .before .before .before .before .before .before .before .before .before in
-    let room = at-args .pre .0 .floats-room in
+    let at-start = at-fill .before .before .before .before .before .before .before .before .before .before .before in
+    let room = at-start .pre .0 .floats-room in
     let long = at-fill .fill .ensures .long in
     record { order = inr (omega arith); from-room = omega (arith, room, long); to-room = omega (arith, room, long) }
 
@@ -44,20 +39,18 @@ scan-requires : tie.Need-scan-requires
 scan-requires c κs =
     let at-copy-floats = c .before .before .before .before .before in
     let at-fill = at-copy-floats .before .before .before .before in
-    let at-build = at-fill .before .before .before .before .before in
-    let at-args = at-build .before .before .before .before .before .before .before .before .before .before in
-    let a = at-args .args in
-    begin-placed (a .f .now) (a .u .now) (at-args .pre .0) (at-args .pre .1 .0) (at-build .build .ensures) (at-fill .fill .ensures) (at-copy-floats .copy-floats .ensures)
+    let at-start = at-fill .before .before .before .before .before .before .before .before .before .before .before in
+    let a = at-start .args in
+    begin-placed (a .f .now) (a .u .now) (at-start .pre .0) (at-start .pre .1 .0) (at-start .pre .1 .1 .1) (at-fill .fill .ensures) (at-copy-floats .copy-floats .ensures)
 
 undo-requires : tie.Need-undo-requires
 undo-requires c κs =
     let at-scan = c .before .before .before .before .before .before in
     let at-copy-floats = at-scan .before .before .before .before .before .before in
     let at-fill = at-copy-floats .before .before .before .before in
-    let at-build = at-fill .before .before .before .before .before in
-    let at-args = at-build .before .before .before .before .before .before .before .before .before .before in
-    let a = at-args .args in
-    begin-undo (a .f .now) (a .u .now) (at-args .pre .0) (at-args .pre .1 .0) (at-build .build .ensures) (at-fill .fill .ensures) (at-copy-floats .copy-floats .ensures) (at-scan .scan .ensures)
+    let at-start = at-fill .before .before .before .before .before .before .before .before .before .before .before in
+    let a = at-start .args in
+    begin-undo (a .f .now) (a .u .now) (at-start .pre .0) (at-start .pre .1 .0) (at-start .pre .1 .1 .1) (at-fill .fill .ensures) (at-copy-floats .copy-floats .ensures) (at-scan .scan .ensures)
 
 add-copy-words : tie.Need-add-copy-words
 add-copy-words c = search needs
@@ -67,10 +60,9 @@ copy-words-requires c κs =
     let at-scan = c .before .before .before .before .before .before .before .before .before .before in
     let at-copy-floats = at-scan .before .before .before .before .before .before in
     let at-fill = at-copy-floats .before .before .before .before in
-    let at-build = at-fill .before .before .before .before .before in
-    let at-args = at-build .before .before .before .before .before .before .before .before .before .before in
-    let a = at-args .args in
-    begin-list (a .f .now) (a .u .now) (at-args .pre .0) (at-args .pre .1 .0) (at-build .build .ensures) (at-fill .fill .ensures) (at-copy-floats .copy-floats .ensures) (at-scan .scan .ensures)
+    let at-start = at-fill .before .before .before .before .before .before .before .before .before .before .before in
+    let a = at-start .args in
+    begin-list (a .f .now) (a .u .now) (at-start .pre .0) (at-start .pre .1 .0) (at-start .pre .1 .1 .1) (at-fill .fill .ensures) (at-copy-floats .copy-floats .ensures) (at-scan .scan .ensures)
 
 same-length : tie.Need-same-length
 same-length c = search needs
@@ -88,12 +80,11 @@ returns c =
     let at-scan = at-undo .before .before .before .before .before .before .before in
     let at-copy-floats = at-scan .before .before .before .before .before .before in
     let at-fill = at-copy-floats .before .before .before .before in
-    let at-build = at-fill .before .before .before .before .before in
-    let at-args = at-build .before .before .before .before .before .before .before .before .before .before in
-    let a = at-args .args in (
+    let at-start = at-fill .before .before .before .before .before .before .before .before .before .before .before in
+    let a = at-start .args in (
       at-undo .undo .ensures,
-      begin-remembers (a .f .now) (a .u .now) (at-args .pre .0) (at-args .pre .1 .0) (at-build .build .ensures) (at-fill .fill .ensures)
-          (at-copy-floats .copy-floats .ensures) (at-scan .scan .ensures) (at-copy-words .copy-words .ensures) refl (at-args .pre .1 .1),
+      begin-remembers (a .f .now) (a .u .now) (at-start .pre .0) (at-start .pre .1 .0) (at-start .pre .1 .1 .1) (at-fill .fill .ensures)
+          (at-copy-floats .copy-floats .ensures) (at-scan .scan .ensures) (at-copy-words .copy-words .ensures) refl (at-start .pre .1 .1 .0),
     )
 
 pub remember-spec : {M : Type 1} → statement M
@@ -103,7 +94,6 @@ remember-spec =
     add-from
     mul-from
     add-from-2
-    build-requires
     fill-requires
     add-copy-floats
     add-copy-floats-2
