@@ -6,11 +6,11 @@ use native.Mathlib.Omega.{arith}
 use borrow.Rule.Slice.PartMut.{putMid, midOf, mid-len, same-len-mid, take-put}
 use lib.Ieee.{Float, nan}
 use lib.ListN.{length, getD, take, drop}
-use lib.Seq.{ext-getD, take-take, take-all, getD-take, getD-drop, length-take-le}
+use lib.Seq.{ext-getD, take-take, getD-take, getD-drop, length-take-le}
 use Rattle.scratch.specs.Region.{region}
 use Rattle.scratch.proofs.Region.{length-region, region-at}
 use Rattle.meaning.specs.Free.{freeTo}
-use Rattle.meaning.proofs.Free.{free-few, free-at}
+use Rattle.meaning.proofs.Free.{free-at}
 use Rattle.field.specs.Field.{Field, variables}
 use Rattle.field.specs.Tests.{Ready}
 use Rattle.rows.specs.Stored.{rowOn}
@@ -23,7 +23,7 @@ use Rattle.walking.specs.Walk.{candidatesAt, gatherAt}
 use Rattle.ranking.specs.Ranking.{massOf, ahead, ranks}
 use Rattle.ranking.specs.Listed.{Listed}
 use Rattle.ranking.specs.Masses.{Rankable, Ranked}
-use Rattle.ranking.proofs.Ordered.{Every, every-at, every-from, ordered-every, ordered-length}
+use Rattle.ranking.proofs.Ordered.{Every, every-at, every-from, ordered-every}
 use Rattle.probes.specs.Standing.{Standing, Chosen}
 
 -- ---- every candidate is free
@@ -142,26 +142,14 @@ module _ {F : Field} {s : List ℕ} (f : List Float) (u : List ℕ) (A : Ready F
         room = omega (arith, space-enough A);
       }
 
-  module _ (u′ : List ℕ) (w : List Float) {count : ℕ} (R : Ranked F s u u′ (candidatesAt F) count)
-      (long : length w ≡ length (midOf (massesAt F) (massesAt F + variables F - massesAt F) f)) where
-    count-few : count ≤ variables F
-    unfolding ranks
-    count-few = omega (arith, R .counted, ordered-length (ahead (massOf F s)) (freeTo s (variables F)), free-few s (variables F))
-
-    chosen : (limit r : ℕ) → r ≤ variables F → region (candidatesAt F) r u′ ≡ take limit (ranks F s)
-        → Chosen F s limit f (putMid (massesAt F) (massesAt F + variables F - massesAt F) f w) u u′ r
-    chosen limit r few are = record {
-      floats-long = same-len-mid (massesAt F) (massesAt F + variables F - massesAt F) f w long;
-      floats-front = take-put (massesAt F) (massesAt F + variables F - massesAt F) f w (omega (arith, A .floats-room));
-      words-long = R .outside .long;
-      words-front = front-as (candidatesAt F) u u′ (omega (arith, space-enough A)) (R .outside .long) (R .outside .below);
-      within = few;
-      are = are;
-    }
-
-    pub chosen-some : (limit : ℕ) → limit < count → Chosen F s limit f (putMid (massesAt F) (massesAt F + variables F - massesAt F) f w) u u′ limit
-    unfolding region
-    chosen-some limit h = chosen limit limit (omega (arith, h, count-few)) (sym (take-take limit count (drop (candidatesAt F) u′) (omega arith)) ∙ ap (take limit) (R .ranked))
-
-    pub chosen-all : (limit : ℕ) → count ≤ limit → Chosen F s limit f (putMid (massesAt F) (massesAt F + variables F - massesAt F) f w) u u′ count
-    chosen-all limit h = chosen limit count count-few (R .ranked ∙ sym (take-all limit (ranks F s) (omega (arith, h, R .counted))))
+  pub chosen : (u′ : List ℕ) (w : List Float) {limit count : ℕ} → Ranked F s limit u u′ (candidatesAt F) count
+      → length w ≡ length (midOf (massesAt F) (massesAt F + variables F - massesAt F) f)
+      → Chosen F s limit f (putMid (massesAt F) (massesAt F + variables F - massesAt F) f w) u u′ count
+  chosen u′ w R long = record {
+    floats-long = same-len-mid (massesAt F) (massesAt F + variables F - massesAt F) f w long;
+    floats-front = take-put (massesAt F) (massesAt F + variables F - massesAt F) f w (omega (arith, A .floats-room));
+    words-long = R .outside .long;
+    words-front = front-as (candidatesAt F) u u′ (omega (arith, space-enough A)) (R .outside .long) (R .outside .below);
+    within = R .few;
+    are = R .ranked;
+  }

@@ -23,9 +23,15 @@ pub fn choose(
     let n = c.len();
     let masses = n + n + (n + n);
     let at = n + 1 + 2 * rows.len() + n + n + n + n;
-    let count = ranking::rank(c, rows, cols, q, start, &mut f[masses..masses + n], u, at);
-    if limit < count {
-        return limit;
-    }
-    count
+    ranking::rank(
+        c,
+        rows,
+        cols,
+        q,
+        start,
+        &mut f[masses..masses + n],
+        u,
+        at,
+        limit,
+    )
 }

@@ -1,7 +1,9 @@
 pub mod Ordered
+pub mod Firsts
 pub mod Heavier
 pub mod Words
 pub mod Halves
+pub mod Selection
 pub mod Sums
 pub mod Lists
 pub mod Candidates

@@ -3,7 +3,7 @@ use Prim.Native.Nat.{ℕ, _+_, _<_, _≤_}
 use mathlib.Core.Path.{_≡_}
 use mathlib.Core.Bool.{cond}
 use mathlib.Core.List.{List}
-use lib.ListN.{length, getD, set}
+use lib.ListN.{length, getD, set, take}
 use lib.Ieee.{Float, nan, binary64, add}
 use Rattle.weights.specs.Worth.{magnitude}
 use Rattle.scratch.specs.Region.{region}
@@ -44,8 +44,9 @@ pub record Rankable (F : Field) (s : List ℕ) (w : List Float) (u : List ℕ) (
   pub finite-weights : Finite F
   pub room : at + variables F + variables F ≤ length u
 
--- what it leaves: from `at` on the candidates, in order; words outside its room are as they were
-pub record Ranked (F : Field) (s : List ℕ) (u u' : List ℕ) (at count : ℕ) : Type 0 where
-  pub counted : count ≡ length (ranks F s)
-  pub ranked : region at count u' ≡ ranks F s
+-- what it leaves: from `at` on the first `limit` of the candidates, in order; words outside its room are as they were
+pub record Ranked (F : Field) (s : List ℕ) (limit : ℕ) (u u' : List ℕ) (at count : ℕ) : Type 0 where
+  pub few : count ≤ variables F
+  pub counted : count ≡ length (take limit (ranks F s))
+  pub ranked : region at count u' ≡ take limit (ranks F s)
   pub outside : Outside at (at + variables F + variables F) u u'

@@ -13,15 +13,11 @@ list-free-requires c κs =
     let start = c .before .before .before .before .before .before .before .before .before .before .before .before in
     (omega (arith, start .pre .massable .values-long, start .pre .massable .shaped .few-variables), omega (arith, start .pre .massable .values-long, start .pre .room))
 
-add-sort : tie.Need-add-sort
-add-sort c = search needs
+add-sort-first : tie.Need-add-sort-first
+add-sort-first c = search needs
 
-sort-requires : tie.Need-sort-requires
-sort-requires c κs =
-    let at-list-free = c .before .before .before .before in
-    let at-fill = at-list-free .before .before .before .before in
-    let start = at-fill .before .before .before .before .before .before .before .before .before in
-    rank-sortable (start .pre) (at-fill .fill .ensures) (at-list-free .list-free .ensures)
+sort-first-requires : tie.Need-sort-first-requires
+sort-first-requires c κs = rank-sortable (c .before .before .before .before .before .before .before .before .before .before .before .before .before .before .before .before .before .pre) (c .before .before .before .before .before .before .before .before .fill .ensures) (c .before .before .before .before .list-free .ensures)
 
 same-length : tie.Need-same-length
 same-length c = search needs
@@ -30,12 +26,7 @@ same-length-2 : tie.Need-same-length-2
 same-length-2 c = search needs
 
 returns : tie.Need-returns
-returns c =
-    let at-sort = c .before .before in
-    let at-list-free = at-sort .before .before .before .before .before in
-    let at-fill = at-list-free .before .before .before .before in
-    let start = at-fill .before .before .before .before .before .before .before .before .before in
-    (rank-done (start .pre) (at-fill .fill .ensures) (at-list-free .list-free .ensures) (at-sort .sort .ensures), at-fill .fill .ensures)
+returns c = (rank-done (c .before .before .before .before .before .before .before .before .before .before .before .before .before .before .before .before .before .before .before .before .pre) (c .before .before .before .before .before .before .before .before .before .before .before .fill .ensures) (c .before .before .before .before .before .before .before .list-free .ensures) (c .before .before .sort-first .ensures), c .before .before .before .before .before .before .before .before .before .before .before .fill .ensures)
 
 pub rank-spec : {M : Type 1} → statement M
 rank-spec =
@@ -43,8 +34,8 @@ rank-spec =
     (tie.spec
     fill-requires
     list-free-requires
-    add-sort
-    sort-requires
+    add-sort-first
+    sort-first-requires
     same-length
     same-length-2
     returns)

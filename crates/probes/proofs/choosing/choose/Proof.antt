@@ -1,5 +1,5 @@
 -- `choose` ranks the free variables and takes the first of them. Assumes nothing.
-use Rattle.probes.proofs.Chosen.{choose-rankable, chosen-some, chosen-all}
+use Rattle.probes.proofs.Chosen.{choose-rankable, chosen}
 use borrow.Author.Needs.{needs}
 use Rattle.probes.proofs.choosing.choose.Statement.{statement}
 use Rattle.probes.proofs.choosing.choose.Tie as tie
@@ -62,25 +62,9 @@ same-length-2 c = search needs
 
 returns : tie.Need-returns
 returns c =
-    let at-rank = c .before .before .before .before .before in
-    let start = at-rank .before .before .before .before .before .before .before .before .before .before in
-    chosen-some (start .args .f .now) (start .args .u .now) (start .pre)
-    (at-rank .rank .last .1 .1 .1 .1 .1 .1 .0) (at-rank .rank .last .1 .1 .1 .1 .1 .0) (at-rank .rank .ensures .0)
-    (at-rank .rank .kept .1 .1 .1 .1 .1 .0) _ (c .if1 .taken)
-
-same-length-3 : tie.Need-same-length-3
-same-length-3 c = search needs
-
-same-length-4 : tie.Need-same-length-4
-same-length-4 c = search needs
-
-returns-2 : tie.Need-returns-2
-returns-2 c =
-    let at-rank = c .before .before .before .before .before in
-    let start = at-rank .before .before .before .before .before .before .before .before .before .before in
-    chosen-all (start .args .f .now) (start .args .u .now) (start .pre)
-    (at-rank .rank .last .1 .1 .1 .1 .1 .1 .0) (at-rank .rank .last .1 .1 .1 .1 .1 .0) (at-rank .rank .ensures .0)
-    (at-rank .rank .kept .1 .1 .1 .1 .1 .0) _ (c .if1 .left)
+    let start = c .before .before .before .before .before .before .before .before .before .before .before .before .before .before in
+    let ranks = c .before .before .before .before .rank in
+    chosen (start .args .f .now) (start .args .u .now) (start .pre) (ranks .last .1 .1 .1 .1 .1 .1 .0) (ranks .last .1 .1 .1 .1 .1 .0) (ranks .ensures .0) (ranks .kept .1 .1 .1 .1 .1 .0)
 
 pub choose-spec : {M : Type 1} → statement M
 choose-spec =
@@ -104,7 +88,4 @@ choose-spec =
     rank-requires
     same-length
     same-length-2
-    returns
-    same-length-3
-    same-length-4
-    returns-2)
+    returns)
