@@ -29,7 +29,9 @@ const fn ratio(call: &'static str, least: f64, shapes: &'static [&'static str]) 
     }
 }
 
-/// For shift, anchors, probe_one and propagation the bound is what they had before the mends, on Arm, rounded down to a tenth.
+/// For shift, anchors, probe_one and propagation the bound is what they had before the mends, on Arm, rounded down to a tenth;
+/// closing from a record has that of the closure, which stands beside it. The other calls of a record and mend have no like in the
+/// text, and no bound.
 pub const AIMS: &[Aim] = &[
     ratio("closure", 1.4, &[]),
     ratio("closure", 2.0, &PLAIN),
@@ -42,6 +44,8 @@ pub const AIMS: &[Aim] = &[
         bound: Bound::Floor(2.5),
     },
     ratio("shift", 5.1, &[]),
+    ratio("sub_problem", 2.0, &[]),
+    ratio("close", 1.4, &[]),
     ratio("anchors", 1.1, &[]),
     ratio("pairs", 1.1, &[]),
     ratio("probe_one", 1.3, &[]),

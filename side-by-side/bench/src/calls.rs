@@ -1,7 +1,8 @@
-//! Each call on both sides: the answers are compared, then both sides are handed over to be timed.
+//! Each call on both sides: the answers are compared, then both sides are handed over to be timed. A call that the text does not
+//! have is timed alone.
 
 use crate::fields::{Field, Rules};
-use crate::port::{parts, Lent, LentRules};
+use crate::port::{parts, Lent, LentRecord, LentRules};
 use crate::text::{Text, TextRules};
 use crate::timing::Sides;
 use hercules::constraint::Constraint;
@@ -22,9 +23,11 @@ pub struct Call {
     pub on: On,
 }
 
-/// What a call works on, and its sides there. A field may be made of the shape's own, as the call needs it.
+/// What a call works on, and its sides there. A field may be made of the shape's own, as the call needs it; a record is of an
+/// exact field alone.
 pub enum On {
     Field(fn(Field) -> Field, fn(&Field) -> Sides),
+    Exact(fn(&Field) -> Sides),
     Rules(fn(&Rules) -> Sides),
 }
 
@@ -34,6 +37,11 @@ const fn on_field(name: &'static str, sides: fn(&Field) -> Sides) -> Call {
 
 const fn on_made(name: &'static str, made: fn(Field) -> Field, sides: fn(&Field) -> Sides) -> Call {
     let on = On::Field(made, sides);
+    Call { name, on }
+}
+
+const fn on_exact(name: &'static str, sides: fn(&Field) -> Sides) -> Call {
+    let on = On::Exact(sides);
     Call { name, on }
 }
 
@@ -49,6 +57,11 @@ pub const CALLS: &[Call] = &[
     on_field("no_effect", no_effect),
     on_made("shift", Field::with_diagonal, shift),
     on_made("sub_problem", Field::half_given, sub_problem),
+    on_made("mend", Field::turned, mend),
+    on_exact("keep", keep),
+    on_exact("pin", pin),
+    on_exact("release", release),
+    on_exact("close", close),
     on_made("anchors", Field::balanced, anchors),
     on_field("pairs", pairs),
     on_field("probe_one", probe_one),
@@ -76,6 +89,15 @@ fn both(
 ) -> Sides {
     Sides {
         rust: Some(Box::new(rust)),
+        port: Box::new(port),
+        floor: None,
+    }
+}
+
+/// A call that the text does not have.
+fn alone(port: impl FnMut() -> Duration + 'static) -> Sides {
+    Sides {
+        rust: None,
         port: Box::new(port),
         floor: None,
     }
@@ -135,7 +157,11 @@ fn sub_problem(field: &Field) -> Sides {
     let count = done(answer);
     let left = (answer >> 44) as usize;
     let (reduced, places, expected) = text.sub_problem().1;
-    agree(same_field(&reduced, &lent.field().first(left, count), count));
+    agree(same_field(
+        &reduced,
+        &lent.field().first(left, count),
+        count,
+    ));
     agree(expected.to_bits() == constant.to_bits());
     agree(places.len() == left);
     agree((0..left).all(|new| places.get(&usize::from(lent.list()[new])) == Some(&new)));
@@ -143,6 +169,61 @@ fn sub_problem(field: &Field) -> Sides {
         move || text.sub_problem().0,
         move || lent.sub_problem(&from).0,
     )
+}
+
+/// The entries are given in the reversed order, and come back in order.
+fn mend(field: &Field) -> Sides {
+    let mut lent = Lent::new(field, 3 * field.m());
+    let from = field.clone();
+    let count = done(lent.mend(&from).1);
+    agree(count == field.m() && same_entries(lent.field(), &from.clone().turned()));
+    alone(move || lent.mend(&from).0)
+}
+
+fn keep(field: &Field) -> Sides {
+    let mut lent = LentRecord::new(field);
+    alone(move || lent.keep().0)
+}
+
+/// A pin of the first free variable, which a release takes back outside the time.
+fn pin(field: &Field) -> Sides {
+    let mut lent = back_and_forth(field);
+    let i = field.free();
+    alone(move || {
+        let time = lent.pin(i, 1).0;
+        lent.release(i);
+        time
+    })
+}
+
+fn release(field: &Field) -> Sides {
+    let mut lent = back_and_forth(field);
+    let i = field.free();
+    alone(move || {
+        lent.pin(i, 1);
+        lent.release(i).0
+    })
+}
+
+/// A record in which a pin was made, changed it, and was taken back.
+fn back_and_forth(field: &Field) -> LentRecord {
+    let mut lent = LentRecord::new(field);
+    let i = field.free();
+    let made = lent.contents();
+    done(lent.pin(i, 1).1);
+    agree(lent.contents() != made);
+    done(lent.release(i).1);
+    agree(lent.contents() == made);
+    lent
+}
+
+/// Beside closing from the record stands the text's closure from the start values, which has the same answer.
+fn close(field: &Field) -> Sides {
+    let text = Text::new(field);
+    let mut lent = LentRecord::new(field);
+    done(lent.close().1);
+    agree(text.list(&text.closure().1) == lent.closed());
+    both(move || text.closure().0, move || lent.close().0)
 }
 
 fn anchors(field: &Field) -> Sides {
@@ -212,6 +293,10 @@ fn records(rust: &[Constraint]) -> Vec<u16> {
         .iter()
         .flat_map(|&(i, j, set)| [i as u16, j as u16, set as u16])
         .collect()
+}
+
+fn same_entries(a: &Field, b: &Field) -> bool {
+    a.rows == b.rows && a.cols == b.cols && a.q == b.q
 }
 
 fn same_field(rust: &Qubo, port: &Field, count: usize) -> bool {

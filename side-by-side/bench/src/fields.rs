@@ -219,6 +219,14 @@ impl Field {
         }
     }
 
+    /// The same field with its entries in the reversed order.
+    pub fn turned(mut self) -> Self {
+        self.rows.reverse();
+        self.cols.reverse();
+        self.q.reverse();
+        self
+    }
+
     /// The same field with every second variable given, 0 and 1 in turn.
     pub fn half_given(mut self) -> Self {
         for (i, value) in self.start.iter_mut().enumerate() {

@@ -45,6 +45,11 @@ fn named(variable: &str, word: &str) -> bool {
     })
 }
 
+/// Whether the shape and the size are to be measured.
+fn wanted(shape: &str, n: usize) -> bool {
+    named("SHAPES", shape) && named("SIZES", &n.to_string())
+}
+
 fn measure_all() {
     timing::keep_heap();
     timing::set_reading();
@@ -68,7 +73,6 @@ fn measure_all() {
 
 /// A line for each shape and size, then those that tell the growth of a random field with n and with m alone.
 fn measure(call: &Call, budget: Duration, add: &mut dyn FnMut(Line)) {
-    let wanted = |shape: &str, n: usize| named("SHAPES", shape) && named("SIZES", &n.to_string());
     match call.on {
         On::Rules(sides) => {
             let mut all = Vec::new();
@@ -82,19 +86,32 @@ fn measure(call: &Call, budget: Duration, add: &mut dyn FnMut(Line)) {
                 add(Line::new(call.name, rules.shape, n, m, runs));
             }
         }
-        On::Field(made, sides) => {
-            let mut all: Vec<(&str, usize, Option<usize>)> = Vec::new();
-            for shape in SHAPES {
-                all.extend(SIZES.map(|n| (shape, n, None)));
-            }
-            all.push(("random", 2_048, Some(8_192)));
-            all.extend([4_096, 8_192, 16_384].map(|m| ("random", 4_096, Some(m))));
-            for (shape, n, m) in all.into_iter().filter(|&(shape, n, _)| wanted(shape, n)) {
-                let field = made(m.map_or_else(|| Field::new(shape, n), |m| Field::random(n, m)));
-                let runs = twice(budget, || sides(&field));
-                add(Line::new(call.name, shape, n, field.m(), runs));
-            }
-        }
+        On::Field(made, sides) => on_fields(call, budget, made, sides, add),
+        On::Exact(sides) => on_fields(call, budget, |field| field, sides, add),
+    }
+}
+
+/// A line for each shape and size of a field, without the inexact ones where the call wants an exact field.
+fn on_fields(
+    call: &Call,
+    budget: Duration,
+    made: fn(Field) -> Field,
+    sides: fn(&Field) -> Sides,
+    add: &mut dyn FnMut(Line),
+) {
+    let exact = matches!(call.on, On::Exact(_));
+    let wanted =
+        |shape: &str, n: usize| wanted(shape, n) && !(exact && shape.starts_with("inexact"));
+    let mut all: Vec<(&str, usize, Option<usize>)> = Vec::new();
+    for shape in SHAPES {
+        all.extend(SIZES.map(|n| (shape, n, None)));
+    }
+    all.push(("random", 2_048, Some(8_192)));
+    all.extend([4_096, 8_192, 16_384].map(|m| ("random", 4_096, Some(m))));
+    for (shape, n, m) in all.into_iter().filter(|&(shape, n, _)| wanted(shape, n)) {
+        let field = made(m.map_or_else(|| Field::new(shape, n), |m| Field::random(n, m)));
+        let runs = twice(budget, || sides(&field));
+        add(Line::new(call.name, shape, n, field.m(), runs));
     }
 }
 

@@ -158,6 +158,18 @@ impl Lent {
         (time, (answer, constant))
     }
 
+    /// Mends a copy, as shift does.
+    pub fn mend(&mut self, from: &Field) -> (Duration, u64) {
+        let Field {
+            c, rows, cols, q, ..
+        } = &mut self.field;
+        rows.copy_from_slice(&from.rows);
+        cols.copy_from_slice(&from.cols);
+        q.copy_from_slice(&from.q);
+        let (l, f, u) = (&mut self.list, &mut self.f, &mut self.u);
+        exported!(ombradiec_mend, [c][mut rows][mut cols][mut q][mut l][mut f][mut u])
+    }
+
     pub fn anchors(&mut self, least: usize) -> (Duration, u64) {
         let Field {
             c,
@@ -221,6 +233,85 @@ impl Lent {
         } = &self.field;
         let (v, l, f, u) = (&mut self.values, &mut self.list, &mut self.f, &mut self.u);
         exported!(ombradiec_probe_limited, [c][rows][cols][q][start](most)[mut v][mut l][mut f][mut u])
+    }
+}
+
+/// An exact field with its record, and what is lent to the calls on it.
+pub struct LentRecord {
+    field: Field,
+    values: Vec<u8>,
+    bounds: Vec<f64>,
+    strict: u32,
+    closed: Vec<u8>,
+    f: Vec<f64>,
+    u: Vec<u32>,
+}
+
+impl LentRecord {
+    /// The record of the start values.
+    pub fn new(field: &Field) -> Self {
+        let Lent {
+            field,
+            values,
+            f,
+            u,
+            ..
+        } = Lent::new(field, 0);
+        let n = values.len();
+        let mut lent = Self {
+            field,
+            values,
+            bounds: vec![0.0; 2 * n],
+            strict: 0,
+            closed: vec![0; n],
+            f,
+            u,
+        };
+        assert_eq!(parts(lent.keep().1).0, 0, "refused");
+        lent
+    }
+
+    /// The values, the bits of the bounds, and the number.
+    pub fn contents(&self) -> (Vec<u8>, Vec<u64>, u32) {
+        let bits = self.bounds.iter().map(|bound| bound.to_bits());
+        (self.values.clone(), bits.collect(), self.strict)
+    }
+
+    pub fn closed(&self) -> &[u8] {
+        &self.closed
+    }
+
+    pub fn keep(&mut self) -> (Duration, u64) {
+        let Field {
+            c, rows, cols, q, ..
+        } = &self.field;
+        let (v, b, f, u) = (&self.values, &mut self.bounds, &mut self.f, &mut self.u);
+        exported!(ombradiec_keep, [c][rows][cols][q][v][mut b](&mut self.strict)[mut f][mut u])
+    }
+
+    pub fn pin(&mut self, variable: usize, value: u8) -> (Duration, u64) {
+        let Field {
+            c, rows, cols, q, ..
+        } = &self.field;
+        let (v, b) = (&mut self.values, &mut self.bounds);
+        exported!(ombradiec_pin, [c][rows][cols][q][mut v][mut b](&mut self.strict)(variable)(value))
+    }
+
+    pub fn release(&mut self, variable: usize) -> (Duration, u64) {
+        let Field {
+            c, rows, cols, q, ..
+        } = &self.field;
+        let (v, b) = (&mut self.values, &mut self.bounds);
+        exported!(ombradiec_release, [c][rows][cols][q][mut v][mut b](&mut self.strict)(variable))
+    }
+
+    pub fn close(&mut self) -> (Duration, u64) {
+        let Field {
+            c, rows, cols, q, ..
+        } = &self.field;
+        let (v, b, l) = (&self.values, &self.bounds, &mut self.closed);
+        let (f, u) = (&mut self.f, &mut self.u);
+        exported!(ombradiec_close, [c][rows][cols][q][v][b][mut l][mut f][mut u])
     }
 }
 

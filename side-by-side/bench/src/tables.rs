@@ -100,7 +100,8 @@ fn worst(lines: &[Line], aim: &Aim) -> Option<(f64, String)> {
 /// A row for each shape, a column for each call.
 fn ratios(lines: &[Line], n: usize) {
     println!("\n### n = {n}\n");
-    let calls = calls(lines);
+    let beside = |call: &&str| lines.iter().any(|l| l.call == *call && l.rust.is_some());
+    let calls: Vec<_> = calls(lines).into_iter().filter(beside).collect();
     head(&[&["shape"], calls.as_slice()].concat());
     for shape in SHAPES.into_iter().chain(["clash"]) {
         let found = calls
