@@ -13,6 +13,7 @@ use Rattle.expansion.specs.declared.ExactSum.the-variants.{Parts}
 use Rattle.expansion.specs.Sum.{Expansion, parts, plus, comesToZero, sumIn, countOf, isZero, Adds}
 use Rattle.expansion.proofs.Carrying.{zero-is}
 use Rattle.field.specs.Field.{Field, variables, entries, linearOf, rowEnd, columnEnd, quadOf}
+use Rattle.places.specs.Places.{entryIn}
 use Rattle.places.proofs.Places.{places-le}
 use Rattle.places.proofs.Walk.{walk-turn, Along, along-start, along-turn, along-end, part-long}
 use Rattle.anchors.specs.Sums.{doubled, balanceAt, balanceOver, balanceOf, balanced, plainOver, plainSum, weightAt, weightOver, weightOf, AddsAt, Walkable}
@@ -102,7 +103,7 @@ module _ {F : Field} {i start end : ℕ} {u : List ℕ} where
           B .walkable .shaped .rows-long,
         )
 
-    pub balance-turn : {k : ℕ} {f′ : List Float} {r : ExactSum} → p < end → k ≡ getD u (variables F + 1 + p) 0 → length f′ ≡ length f → AddsAt F k sum f f′ r
+    pub balance-turn : {k : ℕ} {f′ : List Float} {r : ExactSum} → p < end → k ≡ entryIn (getD u (variables F + 1 + p) 0) → length f′ ≡ length f → AddsAt F k sum f f′ r
         → Balancing F i start end u f₀ (p + 1) f′ r
     unfolding balanceOver
     balance-turn l e long a = record {
@@ -133,10 +134,10 @@ module _ {F : Field} {i end : ℕ} {u : List ℕ} where
 
   module _ {p : ℕ} {x : Float} (L : Adding F i end u p x) where
     -- the place that a turn reads is an entry
-    pub adding-entry : {k : ℕ} → p < end → k ≡ getD u (variables F + 1 + p) 0 → k < entries F
-    adding-entry l e = omega (arith, walk-turn (L .along .walk) l .entry, L .walkable .shaped .rows-long)
+    pub adding-entry : {k : ℕ} → p < end → k ≡ entryIn (getD u (variables F + 1 + p) 0) → k < entries F
+    adding-entry l e = omega (arith, walk-turn (L .along .walk) l .word .entry, L .walkable .shaped .rows-long)
 
-    pub adding-turn : {k : ℕ} → p < end → k ≡ getD u (variables F + 1 + p) 0 → Adding F i end u (p + 1) (add binary64 x (quadOf F k))
+    pub adding-turn : {k : ℕ} → p < end → k ≡ entryIn (getD u (variables F + 1 + p) 0) → Adding F i end u (p + 1) (add binary64 x (quadOf F k))
     unfolding plainOver
     adding-turn l e = record { walkable = L .walkable; along = along-turn (L .along) l e (λ ks. refl) }
 
@@ -155,7 +156,7 @@ module _ {F : Field} {i end : ℕ} {u : List ℕ} where
   weigh-start W ea eb = record { walkable = W; along = along-start (weightOver F) zero64 (W .adjacent) (W .below) ea eb }
 
   module _ {p : ℕ} {w : Float} (L : Weighing F i end u p w) where
-    pub weigh-turn : {k : ℕ} {w′ : Float} → p < end → k ≡ getD u (variables F + 1 + p) 0 → w′ ≡ weightAt F w k → Weighing F i end u (p + 1) w′
+    pub weigh-turn : {k : ℕ} {w′ : Float} → p < end → k ≡ entryIn (getD u (variables F + 1 + p) 0) → w′ ≡ weightAt F w k → Weighing F i end u (p + 1) w′
     unfolding weightOver
     weigh-turn l e n = record { walkable = L .walkable; along = rw n (along-turn (L .along) l e (λ ks. refl)) }
 

@@ -8,7 +8,7 @@ use lib.Ieee.{Float, binary64, add, mul, ofInt}
 use borrow.Author.Tests.{eq-eqb, ne-eqb}
 use Rattle.field.specs.Field.{Field, variables, linearOf}
 use Rattle.rows.specs.Model.{coeffOf}
-use Rattle.places.specs.Places.{otherEnd}
+use Rattle.places.specs.Places.{otherEnd, entryIn}
 use Rattle.places.proofs.Walk.{Along, along-start, along-turn, along-end}
 use Rattle.enumeration.specs.Held.{Held}
 use Rattle.enumeration.specs.Terms.{linearAt, linearFrom, linearPart}
@@ -32,7 +32,7 @@ pub sum-start : {F : Field} {s u : List ℕ} {i a b : ℕ} {sum : Float} → Hel
 sum-start {F} {s} {i = i} H h ea eb es = record { along = rw es (along-start (linearFrom F s i) (linearOf F i) (H .placed .adjacent) h ea eb) }
 
 module _ {F : Field} {s u : List ℕ} {i end p : ℕ} {sum : Float} (L : Summing F s u i end p sum) where
-  pub sum-turn : {k : ℕ} {next : Float} → p < end → k ≡ getD u (variables F + 1 + p) 0 → next ≡ linearAt F s i sum k → Summing F s u i end (p + 1) next
+  pub sum-turn : {k : ℕ} {next : Float} → p < end → k ≡ entryIn (getD u (variables F + 1 + p) 0) → next ≡ linearAt F s i sum k → Summing F s u i end (p + 1) next
   unfolding linearFrom
   sum-turn {k} {next} l ek en = record { along = along-turn (L .along) l ek step }
     where

@@ -7,7 +7,7 @@ use lib.Dec.{eqb}
 use lib.ListN.{getD}
 use borrow.Author.Tests.{eq-eqb, ne-eqb}
 use Rattle.field.specs.Field.{Field, variables, entries}
-use Rattle.places.specs.Places.{places}
+use Rattle.places.specs.Places.{places, entryIn}
 use Rattle.places.proofs.Walk.{Along, along-start, along-turn, along-end, walk-turn}
 use Rattle.enumeration.specs.Held.{Placed}
 use Rattle.enumeration.specs.Terms.{stands, entryFrom, entryOf}
@@ -32,7 +32,7 @@ pub record Seeking (F : Field) (i j : ℕ) (u : List ℕ) (end p : ℕ) : Type 0
 pub seek-start : {F : Field} {u : List ℕ} {i a b : ℕ} (j : ℕ) → Placed F u → i < variables F → a ≡ getD u i 0 → b ≡ getD u (i + 1) 0 → Seeking F i j u b a
 seek-start {F} {i = i} j H h ea eb = record { along = along-start (λ _. entryFrom F i j) tt (H .adjacent) h ea eb }
 
-module _ {F : Field} {i j : ℕ} {u : List ℕ} {end p : ℕ} (L : Seeking F i j u end p) {k : ℕ} (l : p < end) (ek : k ≡ getD u (variables F + 1 + p) 0) where
+module _ {F : Field} {i j : ℕ} {u : List ℕ} {end p : ℕ} (L : Seeking F i j u end p) {k : ℕ} (l : p < end) (ek : k ≡ entryIn (getD u (variables F + 1 + p) 0)) where
   pub seek-turn : false ≡ stands (F .rows) (F .cols) i j k → Seeking F i j u end (p + 1)
   unfolding entryFrom
   seek-turn e = record { along = along-turn (L .along) l ek step }

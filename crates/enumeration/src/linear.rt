@@ -6,11 +6,12 @@ ghost use lib.ListN.{length};
 ghost use Rattle.scratch.specs.Lent.{before, after};
 ghost use Rattle.scratch.specs.Region.{region};
 ghost use Rattle.field.specs.Field.{given, lent, variables, entries};
+ghost use Rattle.places.specs.Places.{otherEnd};
 ghost use Rattle.masks.specs.Listed.{lists, Room, Listed};
 ghost use Rattle.enumeration.specs.Held.{Valued, Held, Small};
 ghost use Rattle.enumeration.specs.Terms.{linearAt, linearPart, linearTerms};
 
-// The sum after place k of variable i: a fixed other end adds coefficient times value.
+// The sum after place k of variable i: its other end t, where it is fixed, adds coefficient times value.
 fn add_end(
     c: &[f64],
     rows: &[u16],
@@ -19,13 +20,15 @@ fn add_end(
     values: &[u8],
     i: usize,
     k: usize,
+    t: usize,
     sum: f64,
 ) -> f64
     requires { ⌜ Valued (lent c rows cols q) (now values) ⌝ }
     requires { ⌜ k < entries (lent c rows cols q) ⌝ }
+    requires { ⌜ t ≡ otherEnd (now rows) (now cols) i k ⌝ }
     ensures { λ r. ⌜ r ≡ linearAt (given c rows cols q) (before values) i sum k ⌝ }
 {
-    let v = values[places::other_end(rows, cols, i, k)];
+    let v = values[t];
     if v == 2 {
         return sum;
     }
@@ -52,8 +55,10 @@ fn linear_of(
     let end = wide_word(u[i + 1]);
     let mut sum = c[i];
     for p in start..end {
-        let k = wide_word(u[n + 1 + p]);
-        sum = add_end(c, rows, cols, q, values, i, k, sum);
+        let word = u[n + 1 + p];
+        let k = places::entry_in(word);
+        let t = places::end_in(word);
+        sum = add_end(c, rows, cols, q, values, i, k, t, sum);
     }
     sum
 }

@@ -12,6 +12,7 @@ use Rattle.scratch.specs.Region.{region}
 use Rattle.scratch.proofs.Region.{region-push, region-above}
 use Rattle.meaning.specs.Free.{frees}
 use Rattle.field.specs.Field.{Field, variables}
+use Rattle.places.specs.Places.{entryIn}
 use Rattle.places.proofs.Slices.{drop-more}
 use Rattle.places.proofs.Walk.{Along, along-start, along-turn, along-front, along-end, adjacent-front}
 use Rattle.parts.specs.Walk.{Search, search, Walk, visit, visitAt, visitAll, serve, turnOn, turns, walk, walkedFrom}
@@ -30,7 +31,7 @@ pub serve-start : {F : Field} {s : Cells} (zeros : Bool) {i a b : ℕ} → Place
 serve-start {F} {s} zeros {i} P h ea eb = record { along = along-start (visitAll F zeros i) (searchIn F s) (P .adjacent) h ea eb; kept = kept-same P }
 
 module _ {F : Field} {zeros : Bool} {i end p : ℕ} {s₀ s : Cells} (S : Serving F zeros i end p s₀ s) where
-  pub serve-turn : {s′ : Cells} {k : ℕ} → p < end → k ≡ getD (s .words) (variables F + 1 + p) 0 → Does F (λ w. visitAt F zeros i w k) s s′
+  pub serve-turn : {s′ : Cells} {k : ℕ} → p < end → k ≡ entryIn (getD (s .words) (variables F + 1 + p) 0) → Does F (λ w. visitAt F zeros i w k) s s′
       → Serving F zeros i end (p + 1) s₀ s′
   unfolding visitAll
   serve-turn l e D = record {

@@ -6,6 +6,7 @@ ghost use lib.ListN.{length, getD, set};
 ghost use lib.Seq.{paste};
 ghost use Rattle.scratch.specs.Lent.{before, after};
 ghost use Rattle.field.specs.Field.{given, lent, variables, entries};
+ghost use Rattle.places.specs.Places.{otherEnd};
 ghost use Rattle.parts.specs.Walk as model;
 ghost use Rattle.parts.specs.Cells.{cells, Placed, Does, Popped};
 
@@ -60,7 +61,7 @@ pub fn visit(
     top + 1
 }
 
-// Place k of variable i: its other end is visited, if the entry joins.
+// Place k of variable i: its other end j is visited, if the entry joins.
 fn visit_at(
     c: &[f64],
     rows: &[u16],
@@ -71,9 +72,11 @@ fn visit_at(
     top: usize,
     i: usize,
     k: usize,
+    j: usize,
 ) -> usize
     requires { ⌜ Placed (lent c rows cols q) (cells (now u) top) ⌝ }
     requires { ⌜ k < entries (lent c rows cols q) ⌝ }
+    requires { ⌜ j ≡ otherEnd (now rows) (now cols) i k ⌝ }
     ensures { λ r. ⌜ Does (given c rows cols q) (λ w. model.visitAt (given c rows cols q) zeros i w k)
         (cells (before u) top)
         (cells (after u) r) ⌝ }
@@ -82,7 +85,6 @@ fn visit_at(
     if !joins_by(zeros, weight) {
         return top;
     }
-    let j = places::other_end(rows, cols, i, k);
     visit(c, rows, cols, q, u, top, j)
 }
 
@@ -108,8 +110,10 @@ fn push_neighbours(
     let end = wide_word(u[i + 1]);
     let mut last = top;
     for p in start..end {
-        let k = wide_word(u[n + 1 + p]);
-        last = visit_at(c, rows, cols, q, zeros, u, last, i, k);
+        let word = u[n + 1 + p];
+        let k = places::entry_in(word);
+        let j = places::end_in(word);
+        last = visit_at(c, rows, cols, q, zeros, u, last, i, k, j);
     }
     last
 }

@@ -1,6 +1,7 @@
 pub mod Slices
 pub mod Ends
 pub mod Places
+pub mod Words
 pub mod Starts
 pub mod Shape
 pub mod Counted

@@ -11,6 +11,7 @@ module _ {F : Field} (S : Shaped F) where
   pub ends-below : EndsBelow (variables F) (F .rows) (F .cols)
   ends-below = record {
     few = omega (arith, S .rows-long, S .few-entries);
+    few-variables = S .few-variables;
     same = S .cols-long ∙ sym (S .rows-long);
     row-below = λ k h. S .row-below k (omega (arith, S .rows-long));
     column-below = λ k h. S .column-below k (omega (arith, S .rows-long));

@@ -7,8 +7,8 @@ use native.Mathlib.Decide.{decLt}
 use native.Mathlib.Omega.{arith}
 use lib.ListN.{length, getD}
 use lib.Seq.{getD-drop, ext-getD}
-use Rattle.places.specs.Places.{Built, total, start, places}
-use Rattle.places.proofs.Walk.{part-ends, place-get}
+use Rattle.places.specs.Places.{Built, total, start, places, wordOf}
+use Rattle.places.proofs.Walk.{part-ends, word-get}
 
 -- p is in the part of some variable
 owner : (rows cols : List ℕ) (n p : ℕ) → p < start rows cols n → (i : ℕ) × (i < n) × (start rows cols i ≤ p) × (p < start rows cols (suc i))
@@ -28,9 +28,9 @@ two-equal {n} {rows} {cols} {u₀} {u} {v} U W = ext-getD 0 u v (U .long ∙ sym
         let o = owner rows cols n p h in
         let a = part-ends (U .adjacent) (o .1) in
         let b = part-ends (W .adjacent) (o .1) in
-        sym (place-get (U .adjacent) (o .1) (omega (arith, o .2, a)) (omega (arith, o .3, a)))
-        ∙ ap (λ (x : ℕ). getD (places rows cols (o .0)) (p - x) 0) (a .0 ∙ sym (b .0))
-        ∙ place-get (W .adjacent) (o .1) (omega (arith, o .2, b)) (omega (arith, o .3, b))
+        word-get (U .adjacent) (o .1) (omega (arith, o .2, a)) (omega (arith, o .3, a))
+        ∙ ap (λ (x : ℕ). wordOf rows cols (o .0) (getD (places rows cols (o .0)) (p - x) 0)) (a .0 ∙ sym (b .0))
+        ∙ sym (word-get (W .adjacent) (o .1) (omega (arith, o .2, b)) (omega (arith, o .3, b)))
 
     past : (j : ℕ) → getD u (n + 1 + start rows cols n + j) 0 ≡ getD v (n + 1 + start rows cols n + j) 0
     past j =

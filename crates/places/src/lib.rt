@@ -1,4 +1,5 @@
-// For each variable the positions of its entries, rising: flat lists with offsets in lent u32 scratch, made by a counting sort.
+// For each variable its entries with their other ends, rising, an entry and an end in one word: flat lists with offsets in lent u32 scratch, made by a
+// counting sort.
 mod counting;
 mod placing;
 
@@ -6,9 +7,9 @@ ghost use mathlib.Core.Path.{_≡_};
 ghost use Prim.Native.Nat.{_+_, _*_, _<_, _≤_};
 ghost use lib.ListN.{length};
 ghost use Rattle.scratch.specs.Lent.{before, after};
-ghost use Rattle.places.specs.Places.{EndsBelow, Built, otherEnd};
+ghost use Rattle.places.specs.Places.{EndsBelow, Built, entryIn, endIn, otherEnd};
 
-// Makes the offsets and the flat lists at the front of u; past the last place u is unchanged.
+// Makes the offsets and the flat lists at the front of u; past the last word u is unchanged.
 pub fn build(u: &mut [u32], rows: &[u16], cols: &[u16], n: usize)
     requires { ⌜ EndsBelow n (now rows) (now cols) ⌝ }
     requires { ⌜ n + 1 + 2 * length (now rows) ≤ length (now u) ⌝ }
@@ -18,6 +19,20 @@ pub fn build(u: &mut [u32], rows: &[u16], cols: &[u16], n: usize)
     counting::count(u, rows, cols, n);
     counting::sums(u, n);
     placing::place(u, rows, cols, n);
+}
+
+// The entry in a word.
+pub fn entry_in(word: u32) -> usize
+    ensures { λ r. ⌜ r ≡ entryIn word ⌝ }
+{
+    (word / 4096) as usize
+}
+
+// The end in a word: of its entry's two ends the other one.
+pub fn end_in(word: u32) -> usize
+    ensures { λ r. ⌜ r ≡ endIn word ⌝ }
+{
+    (word % 4096) as usize
 }
 
 // The end of entry k that is not i.

@@ -13,7 +13,7 @@ use Rattle.rows.specs.declared.Row.{Row}
 use Rattle.rows.specs.Model.{coeffOf}
 use Rattle.rows.specs.Stored.{rowOn, putRow}
 use Rattle.rows.proofs.Upto.{getD-upTo}
-use Rattle.places.specs.Places.{otherEnd}
+use Rattle.places.specs.Places.{otherEnd, entryIn}
 use Rattle.places.proofs.Shape.{other-end-below}
 use Rattle.places.proofs.Walk.{Along, along-start, along-turn, along-front, along-end}
 use Rattle.run.specs.Run.{Run, noRow, withRow, moved, moveRow}
@@ -43,7 +43,7 @@ pub moves-start : {F : Field} {s : Cells} {i v a b : ℕ} → Placed F s → i <
 moves-start {F} {s} {i} {v} P h ea eb = record { along = along-start (moveAll F i v) (runIn F s) (P .adjacent) h ea eb; kept = kept-same P }
 
 module _ {F : Field} {i v end p : ℕ} {s₀ s : Cells} (S : Moves F i v end p s₀ s) where
-  pub moves-turn : {s′ : Cells} {k : ℕ} → p < end → k ≡ getD (s .words) (variables F + 1 + p) 0 → Does F (λ run. moveAt F i v run k) s s′ → Moves F i v end (p + 1) s₀ s′
+  pub moves-turn : {s′ : Cells} {k : ℕ} → p < end → k ≡ entryIn (getD (s .words) (variables F + 1 + p) 0) → Does F (λ run. moveAt F i v run k) s s′ → Moves F i v end (p + 1) s₀ s′
   unfolding moveAll
   moves-turn l e D = record {
     along = along-front (along-turn (S .along) l e (λ ks. ap (λ (r : Run). moveAll F i v r ks) (sym (D .run)))) (D .kept .front) (D .kept .words-long);

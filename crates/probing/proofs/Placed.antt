@@ -11,10 +11,10 @@ use Rattle.field.specs.Field.{Field, variables, entries, linearOf, rowEnd, colu
 use Rattle.rows.specs.declared.Row.{Row}
 use Rattle.rows.specs.Row.{startRow, addTerm}
 use Rattle.rows.specs.Model.{coeffOf, atEnd, atEntry, rowTo, rowOf}
-use Rattle.places.specs.Places.{keep, places, otherEnd}
+use Rattle.places.specs.Places.{keep, places, otherEnd, entryIn, endIn}
 use Rattle.places.proofs.Places.{tail, tail-end, tail-step}
 use Rattle.places.proofs.Shape.{other-end-below}
-use Rattle.places.proofs.Walk.{Along, walk-turn, along-start, along-turn, along-end}
+use Rattle.places.proofs.Walk.{Along, walk-turn, turn-entry, turn-other, along-start, along-turn, along-end}
 use Rattle.probing.specs.Remembered.{addPlace, addPlaces, Readable}
 
 module _ {F : Field} (S : Shaped F) (off : Standard F) (s : List ℕ) (t : ℕ) where
@@ -50,15 +50,15 @@ module _ {F : Field} {s u : List ℕ} (R : Readable F s u) {t : ℕ} where
   row-start h ea eb e = rw e (along-start (addPlaces F s t) (startRow (linearOf F t)) (R .adjacent) h ea eb)
 
   module _ {end p : ℕ} {row : Row} (L : Along (addPlaces F s t) (variables F) (F .rows) (F .cols) u u t end p (startRow (linearOf F t)) row) where
-    pub row-reads : p < end → {k : ℕ} → k ≡ getD u (variables F + 1 + p) 0
-        → (k < length (F .rows)) × ((k < length (F .cols)) × ((k < entries F) × (otherEnd (F .rows) (F .cols) t k < length s)))
-    row-reads l {k} e =
-        let h : k < entries F = omega (arith, walk-turn (L .walk) l .entry, R .shaped .rows-long) in (
-          omega (arith, R .shaped .rows-long),
-          (omega (arith, R .shaped .cols-long), (h, omega (arith, other-end-below (R .shaped) t h refl, R .values-long))),
-        )
+    pub row-reads : p < end → {k j : ℕ} → k ≡ entryIn (getD u (variables F + 1 + p) 0) → j ≡ endIn (getD u (variables F + 1 + p) 0)
+        → (k < entries F) × ((j < length s) × (j ≡ otherEnd (F .rows) (F .cols) t k))
+    row-reads l {k} {j} ek ej =
+        let turn = walk-turn (L .walk) l in
+        let h : k < entries F = omega (arith, turn-entry turn ek, R .shaped .rows-long) in
+        let o : j ≡ otherEnd (F .rows) (F .cols) t k = turn-other turn ek ej in
+        (h, (omega (arith, other-end-below (R .shaped) t h o, R .values-long), o))
 
-    pub row-turn : {k : ℕ} {next : Row} → p < end → k ≡ getD u (variables F + 1 + p) 0 → next ≡ addPlace (F .rows) (F .cols) (F .quad) s t row k
+    pub row-turn : {k : ℕ} {next : Row} → p < end → k ≡ entryIn (getD u (variables F + 1 + p) 0) → next ≡ addPlace (F .rows) (F .cols) (F .quad) s t row k
         → Along (addPlaces F s t) (variables F) (F .rows) (F .cols) u u t end (p + 1) (startRow (linearOf F t)) next
     unfolding addPlaces
     row-turn {k} l e en = along-turn (L) l e (λ ks. ap (λ (r : Row). addPlaces F s t r ks) (sym en))

@@ -13,9 +13,9 @@ use Rattle.rows.specs.declared.Row.{Row}
 use Rattle.rows.specs.Model.{rowOf}
 use Rattle.rows.specs.Stored.{rowOn, putRow}
 use Rattle.rows.proofs.Upto.{length-upTo}
-use Rattle.places.specs.Places.{otherEnd, Touches}
+use Rattle.places.specs.Places.{otherEnd, entryIn, Touches, Word}
 use Rattle.places.proofs.Shape.{other-end-below}
-use Rattle.places.proofs.Walk.{part-long, part-most, place-touches}
+use Rattle.places.proofs.Walk.{part-long, part-most, place-word}
 use Rattle.run.specs.Run.{withRow}
 use Rattle.run.specs.Cells.{Cells, cells, runIn, Placed, Kept, Does}
 use Rattle.run.proofs.Moves.{put-does}
@@ -67,7 +67,7 @@ module _ {F : Field} {s : Cells} (P : Placed F s) {i end x : ℕ} (W : Within F 
         let f = N .found l in
         record {
           apart = λ e. ne (et ∙ e);
-          entry = getD (s .words) (variables F + 1 + r .at) 0;
+          entry = entryIn (getD (s .words) (variables F + 1 + r .at) 0);
           within = cursor-reads .entry (r .at) (N .from) l;
           near = eqb-true _ _ (f .0);
           far = sym (f .1) ∙ eh ∙ et;
@@ -91,8 +91,8 @@ module _ (F : Field) (i end p x : ℕ) (vs u : List ℕ) (f₀ f : List Float) w
     pub kept : Kept F (cells vs f₀ u 0) (cells vs f u 0)
     pub toward : Toward (placed .shaped) i (runIn F (cells vs f₀ u 0)) (rows-many F (cells vs f₀ u 0)) (runIn F (cells vs f u 0))
     pub passed : (y : ℕ) → getD u i 0 ≤ y → y < p
-        → Made (placed .shaped) i (runIn F (cells vs f₀ u 0)) (rows-many F (cells vs f₀ u 0)) (runIn F (cells vs f u 0)) (getD u (variables F + 1 + y) 0)
-        ⊎ Paired F i (getD u (variables F + 1 + y) 0)
+        → Made (placed .shaped) i (runIn F (cells vs f₀ u 0)) (rows-many F (cells vs f₀ u 0)) (runIn F (cells vs f u 0)) (entryIn (getD u (variables F + 1 + y) 0))
+        ⊎ Paired F i (entryIn (getD u (variables F + 1 + y) 0))
 
 pub refresh-start : {F : Field} {vs u : List ℕ} {f : List Float} {i a b : ℕ} → Placed F (cells vs f u 0) → i < variables F → a ≡ getD u i 0 → b ≡ getD u (i + 1) 0
     → Refreshing F i b a a vs u f f
@@ -109,14 +109,14 @@ refresh-start {F} {vs} {u} {f} {i} {a} {b} P h ea eb =
 
 module _ {F : Field} {i end p x : ℕ} {vs u : List ℕ} {f₀ f : List Float} (R : Refreshing F i end p x vs u f₀ f) where
   -- what a turn reads
-  pub refresh-reads : p < end → (variables F + 1 + p < length u) × ((p < 2 * length (F .rows)) × (getD u (variables F + 1 + p) 0 < entries F))
+  pub refresh-reads : p < end → (variables F + 1 + p < length u) × ((p < 2 * length (F .rows)) × (entryIn (getD u (variables F + 1 + p) 0) < entries F))
   refresh-reads l =
       let m = part-most (R .placed .adjacent) (R .place .here) in (
         omega (arith, m, R .place .stop, R .placed .words-room),
         (omega (arith, m, R .place .stop), place-entry (R .placed .shaped) (R .placed .adjacent) (R .place .here) {p = p} (R .place .from) (omega (arith, R .place .stop))),
       )
 
-  pub refresh-turn : {f′ : List Float} {k x′ : ℕ} → p < end → k ≡ getD u (variables F + 1 + p) 0 → Within F u i end x′
+  pub refresh-turn : {f′ : List Float} {k x′ : ℕ} → p < end → k ≡ entryIn (getD u (variables F + 1 + p) 0) → Within F u i end x′
       → Once F i k (cells vs f u 0) (cells vs f′ u 0) → Refreshing F i end (p + 1) x′ vs u f₀ f′
   refresh-turn {f′} {k} {x′} l ek W (inl D) = record {
     placed = R .placed;
@@ -127,18 +127,18 @@ module _ {F : Field} {i end p x : ℕ} {vs u : List ℕ} {f₀ f : List Float} (
     passed = λ y a z. go y a (ℕ-discrete y p) z;
   }
     where
-      touches : (getD u (variables F + 1 + p) 0 < length (F .rows)) × Touches (F .rows) (F .cols) i (getD u (variables F + 1 + p) 0)
-      touches = place-touches (R .placed .adjacent) (R .place .here) (R .place .from) (omega (arith, R .place .stop))
+      word : Word (F .rows) (F .cols) i (getD u (variables F + 1 + p) 0)
+      word = place-word (R .placed .adjacent) (R .place .here) (R .place .from) (omega (arith, R .place .stop))
 
       here : k < entries F
-      here = omega (arith, touches .0, R .placed .shaped .rows-long)
+      here = omega (arith, word .entry, R .placed .shaped .rows-long)
 
       touch : Touches (F .rows) (F .cols) i k
-      touch = rw ek (touches .1)
+      touch = rw ek (word .touches)
 
       go : (y : ℕ) → getD u i 0 ≤ y → Dec (y ≡ p) → y < p + 1
-          → Made (R .placed .shaped) i (runIn F (cells vs f₀ u 0)) (rows-many F (cells vs f₀ u 0)) (runIn F (cells vs f′ u 0)) (getD u (variables F + 1 + y) 0)
-          ⊎ Paired F i (getD u (variables F + 1 + y) 0)
+          → Made (R .placed .shaped) i (runIn F (cells vs f₀ u 0)) (rows-many F (cells vs f₀ u 0)) (runIn F (cells vs f′ u 0)) (entryIn (getD u (variables F + 1 + y) 0))
+          ⊎ Paired F i (entryIn (getD u (variables F + 1 + y) 0))
       go y a (yes e) z = inl (rw (D .run, e, ← ek) (made-here _ i _ _ (R .toward) k here touch))
       go y a (no n) z = ⊎-elim (λ m. inl (rw (D .run) (made-still _ i _ _ (R .toward) k here touch _ m))) inr (R .passed y a (omega arith))
   refresh-turn {f′} {k} {x′} l ek W (inr D) = record {
@@ -151,8 +151,8 @@ module _ {F : Field} {i end p x : ℕ} {vs u : List ℕ} {f₀ f : List Float} (
   }
     where
       go : (y : ℕ) → getD u i 0 ≤ y → Dec (y ≡ p) → y < p + 1
-          → Made (R .placed .shaped) i (runIn F (cells vs f₀ u 0)) (rows-many F (cells vs f₀ u 0)) (runIn F (cells vs f′ u 0)) (getD u (variables F + 1 + y) 0)
-          ⊎ Paired F i (getD u (variables F + 1 + y) 0)
+          → Made (R .placed .shaped) i (runIn F (cells vs f₀ u 0)) (rows-many F (cells vs f₀ u 0)) (runIn F (cells vs f′ u 0)) (entryIn (getD u (variables F + 1 + y) 0))
+          ⊎ Paired F i (entryIn (getD u (variables F + 1 + y) 0))
       go y a (yes e) z = inr (rw (e, ← ek) (D .1))
       go y a (no n) z = ⊎-elim (λ m. inl (rw (D .0 .run) m)) inr (R .passed y a (omega arith))
 

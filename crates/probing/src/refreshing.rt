@@ -18,7 +18,7 @@ ghost use Rattle.run.specs.Cells.{cells, Placed, Does};
 ghost use Rattle.probing.specs.Remembered as model;
 ghost use Rattle.probing.specs.Once as once;
 
-// The term of place k goes into the row of t.
+// The term of place k, whose other end is j, goes into the row of t.
 fn add_place(
     row: Row,
     rows: &[u16],
@@ -27,14 +27,13 @@ fn add_place(
     values: &[u8],
     t: usize,
     k: usize,
+    j: usize,
 ) -> Row
-    requires { ⌜ k < length (now rows) ⌝ }
-    requires { ⌜ k < length (now cols) ⌝ }
     requires { ⌜ k < length (now q) ⌝ }
-    requires { ⌜ otherEnd (now rows) (now cols) t k < length (now values) ⌝ }
+    requires { ⌜ j < length (now values) ⌝ }
+    requires { ⌜ j ≡ otherEnd (now rows) (now cols) t k ⌝ }
     ensures { λ r. ⌜ r ≡ model.addPlace (before rows) (before cols) (before q) (before values) t row k ⌝ }
 {
-    let j = places::other_end(rows, cols, t, k);
     let coeff = weights::half(q[k]);
     row.add_term(coeff, values[j])
 }
@@ -58,8 +57,10 @@ fn fresh_row(
     let end = wide_word(u[t + 1]);
     let mut row = Row::start(c[t]);
     for p in start..end {
-        let k = wide_word(u[n + 1 + p]);
-        row = add_place(row, rows, cols, q, values, t, k);
+        let word = u[n + 1 + p];
+        let k = places::entry_in(word);
+        let j = places::end_in(word);
+        row = add_place(row, rows, cols, q, values, t, k, j);
     }
     row
 }
@@ -152,12 +153,12 @@ fn refresh(
     let end = wide_word(u[i + 1]);
     let mut x = start;
     for p in start..end {
-        let k = wide_word(u[n + 1 + p]);
+        let k = places::entry_in(u[n + 1 + p]);
         x = refresh_once(c, rows, cols, q, values, f, u, i, k, x, end);
     }
 }
 
-// Place k of variable i, which takes the value v: its term in the row of the other end was free and is fixed.
+// Place k of variable i, which takes the value v: its term in the row of its other end t was free and is fixed.
 fn move_at(
     c: &[f64],
     rows: &[u16],
@@ -169,14 +170,15 @@ fn move_at(
     i: usize,
     v: u8,
     k: usize,
+    t: usize,
 )
     requires { ⌜ Placed (lent c rows cols q) (cells (now values) (now f) (now u) 0) ⌝ }
     requires { ⌜ k < entries (lent c rows cols q) ⌝ }
+    requires { ⌜ t ≡ otherEnd (now rows) (now cols) i k ⌝ }
     ensures { λ _. ⌜ Does (given c rows cols q) (λ run. model.moveAt (given c rows cols q) i v run k)
         (cells (before values) (before f) (before u) 0)
         (cells (before values) (after f) (before u) 0) ⌝ }
 {
-    let t = places::other_end(rows, cols, i, k);
     let coeff = weights::half(q[k]);
     move_row(f, c.len(), t, coeff, v);
 }
@@ -203,8 +205,10 @@ fn move_terms(
     let start = wide_word(u[i]);
     let end = wide_word(u[i + 1]);
     for p in start..end {
-        let k = wide_word(u[n + 1 + p]);
-        move_at(c, rows, cols, q, values, f, u, i, v, k);
+        let word = u[n + 1 + p];
+        let k = places::entry_in(word);
+        let t = places::end_in(word);
+        move_at(c, rows, cols, q, values, f, u, i, v, k, t);
     }
 }
 

@@ -1,7 +1,7 @@
 -- What the turns of the loops that mark, count and list keep. Assumes nothing.
 use Prim.Native.Nat.{ℕ, zero, suc, _+_, _*_, _-_, _<_, _≤_}
 use mathlib.Core.Path.{_≡_, refl, sym, ap, _∙_}
-use mathlib.Core.Logic.{_≢_, _⊎_, inl, inr, ⊎-elim}
+use mathlib.Core.Logic.{_≢_}
 use mathlib.Core.Bool.{Bool, true, false, cond}
 use mathlib.Core.List.{List, [], _∷_, _++_, append-nil}
 use native.Mathlib.Numerals.{add-one}
@@ -11,9 +11,9 @@ use lib.ListN.{length, getD, set, length-set, length-append}
 use lib.Dec.{eqb}
 use Rattle.scratch.specs.Over.{over}
 use Rattle.scratch.proofs.Over.{length-over, over-push}
-use Rattle.places.specs.Places.{Adjacent, EndsBelow, places, otherEnd, Touches}
-use Rattle.places.proofs.Walk.{Along, along-start, along-turn, along-end, walk-turn}
-use Rattle.parts.proofs.Listed.{other-ends}
+use Rattle.places.specs.Places.{Adjacent, EndsBelow, places, otherEnd, entryIn, endIn}
+use Rattle.places.proofs.Places.{other-below}
+use Rattle.places.proofs.Walk.{Along, along-start, along-turn, along-end, walk-turn, turn-entry, turn-other}
 use Rattle.reason.specs.Stages.{marked, markAll, threes, Pushed}
 
 pub marked-free : {v : ℕ} → v ≡ 2 → 2 ≡ marked v
@@ -37,25 +37,18 @@ module _ {rows cols u values₀ values : List ℕ} {i end p : ℕ} (M : Marking 
   pub mark-index : length values₀ + 1 + p < length u
   mark-index = walk-turn (M .along .walk) l .index
 
-  pub mark-entry : {k : ℕ} → k ≡ getD u (length values₀ + 1 + p) 0 → (k < length rows) × (k < length cols)
-  mark-entry e = let z = walk-turn (M .along .walk) l .entry in rw e (z, omega (arith, M .ends .same))
+  mark-other : {t : ℕ} → t ≡ endIn (getD u (length values₀ + 1 + p) 0) → t ≡ otherEnd rows cols i (entryIn (getD u (length values₀ + 1 + p) 0))
+  mark-other = turn-other (walk-turn (M .along .walk) l) refl
 
-  pub mark-below : {k t : ℕ} → k ≡ getD u (length values₀ + 1 + p) 0 → t ≡ otherEnd rows cols i k → t < length values
-  mark-below {k} e o =
-      let w = walk-turn (M .along .walk) l in
-      let b : k < length rows = rw e (w .entry) in
-      let touch : Touches rows cols i k = rw e (w .touches) in
-      rw o (⊎-elim
-      (λ y. rw (← (y .1)) (omega (arith, M .ends .column-below k b, M .long)))
-      (λ y. rw (← (y .0)) (omega (arith, M .ends .row-below k b, M .long)))
-      (other-ends rows cols i k touch))
+  pub mark-below : {t : ℕ} → t ≡ endIn (getD u (length values₀ + 1 + p) 0) → t < length values
+  mark-below e = rw (mark-other e) (omega (arith, other-below rows cols i _ (M .ends) (turn-entry (walk-turn (M .along .walk) l) refl), M .long))
 
-  pub mark-turn : {k t v : ℕ} → k ≡ getD u (length values₀ + 1 + p) 0 → t ≡ otherEnd rows cols i k → v ≡ marked (getD values t 0) → Marking rows cols u values₀ i end (p + 1) (set values t v)
+  pub mark-turn : {t v : ℕ} → t ≡ endIn (getD u (length values₀ + 1 + p) 0) → v ≡ marked (getD values t 0) → Marking rows cols u values₀ i end (p + 1) (set values t v)
   unfolding markAll
-  mark-turn {k} {t} {v} e o x = record {
+  mark-turn {t} {v} e x = record {
     ends = M .ends;
     long = length-set values t v ∙ M .long;
-    along = along-turn (M .along) l e (λ ks. rw (x, o) refl);
+    along = along-turn (M .along) l refl (λ ks. rw (x, mark-other e) refl);
   }
 
 pub mark-done : {rows cols u values₀ values : List ℕ} {i end p : ℕ} → Marking rows cols u values₀ i end p values → end ≤ p → values ≡ markAll rows cols i values₀ (places rows cols i)

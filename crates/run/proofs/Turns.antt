@@ -12,6 +12,7 @@ use Rattle.field.specs.Field.{Field, variables}
 use Rattle.rows.specs.declared.Row.{Row}
 use Rattle.rows.specs.Stored.{rowsOn, Filled}
 use Rattle.rows.proofs.Stored.{written-rows}
+use Rattle.places.specs.Places.{entryIn}
 use Rattle.places.proofs.Walk.{Along, along-start, along-turn, along-front, along-end}
 use Rattle.run.specs.Run.{Run, scanAt, scanTo, serveAt, serveAll, serve, work, propagate, closureRun, closure}
 use Rattle.run.specs.Cells.{Cells, base, runIn, Placed, Kept, Does}
@@ -41,7 +42,7 @@ pub serve-start : {F : Field} {s : Cells} {i v a b : ℕ} → Placed F s → i <
 serve-start {F} {s} {i} {v} P h ea eb = record { along = along-start (serveAll F i v) (runIn F s) (P .adjacent) h ea eb; kept = kept-same P }
 
 module _ {F : Field} {i v end p : ℕ} {s₀ s : Cells} (S : Serving F i v end p s₀ s) where
-  pub serve-turn : {s′ : Cells} {k : ℕ} → p < end → k ≡ getD (s .words) (variables F + 1 + p) 0 → Does F (λ run. serveAt F i v run k) s s′ → Serving F i v end (p + 1) s₀ s′
+  pub serve-turn : {s′ : Cells} {k : ℕ} → p < end → k ≡ entryIn (getD (s .words) (variables F + 1 + p) 0) → Does F (λ run. serveAt F i v run k) s s′ → Serving F i v end (p + 1) s₀ s′
   unfolding serveAll
   serve-turn l e D = record {
     along = along-front (along-turn (S .along) l e (λ ks. ap (λ (r : Run). serveAll F i v r ks) (sym (D .run)))) (D .kept .front) (D .kept .words-long);

@@ -96,8 +96,10 @@ pub fn serve(
     let end = wide_word(u[i + 1]);
     let mut last = tail;
     for p in start..end {
-        let k = wide_word(u[n + 1 + p]);
-        last = serve_at(c, rows, cols, q, values, f, u, last, i, v, k);
+        let word = u[n + 1 + p];
+        let k = places::entry_in(word);
+        let t = places::end_in(word);
+        last = serve_at(c, rows, cols, q, values, f, u, last, i, v, k, t);
     }
     last
 }

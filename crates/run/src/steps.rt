@@ -13,6 +13,7 @@ ghost use Rattle.field.specs.Field.{given, lent, variables, entries};
 ghost use Rattle.meaning.specs.Free.{isFree};
 ghost use Rattle.rows.specs.Row.{valueOf, isStrict};
 ghost use Rattle.rows.specs.Stored.{rowOn, putRow};
+ghost use Rattle.places.specs.Places.{otherEnd};
 ghost use Rattle.run.specs.Run as model;
 ghost use Rattle.run.specs.Cells.{cells, Placed, Does, Settled};
 
@@ -107,7 +108,7 @@ pub fn scan_at(
     settle(found, values, u, base, tail)
 }
 
-// Place k of variable i, whose value is v.
+// Place k of variable i, whose value is v; t is its other end.
 pub fn serve_at(
     c: &[f64],
     rows: &[u16],
@@ -120,14 +121,15 @@ pub fn serve_at(
     i: usize,
     v: u8,
     k: usize,
+    t: usize,
 ) -> usize
     requires { ⌜ Placed (lent c rows cols q) (cells (now values) (now f) (now u) tail) ⌝ }
     requires { ⌜ k < entries (lent c rows cols q) ⌝ }
+    requires { ⌜ t ≡ otherEnd (now rows) (now cols) i k ⌝ }
     ensures { λ r. ⌜ Does (given c rows cols q) (λ run. model.serveAt (given c rows cols q) i v run k)
         (cells (before values) (before f) (before u) tail)
         (cells (after values) (after f) (after u) r) ⌝ }
 {
-    let t = places::other_end(rows, cols, i, k);
     if values[t] != 2 {
         return tail;
     }

@@ -17,6 +17,7 @@ use Rattle.field.specs.Field.{Field, variables, entries, Shaped}
 use Rattle.rows.specs.Row.{isStrict}
 use Rattle.rows.specs.Stored.{rowOn}
 use Rattle.rows.proofs.Upto.{getD-upTo}
+use Rattle.places.specs.Places.{entryIn}
 use Rattle.places.proofs.Places.{other-column, other-row}
 use Rattle.places.proofs.Slices.{front-getD}
 use Rattle.places.proofs.Walk.{part-long, part-most}
@@ -24,7 +25,7 @@ use Rattle.run.specs.Run.{noRow, rowFor, scanAt, scanTo}
 use Rattle.run.specs.Cells.{Cells, base, runIn, Kept, Does}
 use Rattle.run.proofs.Cells.{does-same, does-as, does-then}
 use Rattle.scanning.specs.declared.Cursor.{Cursor}
-use Rattle.scanning.specs.Merge.{lesser, Next, always, listAt, nearAt, farAt, Through, Listed, Joined, Covers}
+use Rattle.scanning.specs.Merge.{lesser, Next, always, listAt, placeAt, nearAt, farAt, Through, Listed, Joined, Covers}
 use Rattle.scanning.proofs.Scanned.{scan-some}
 use Rattle.scanning.proofs.Search.{lesser-left, lesser-right, Behind, Rises, behind-next, head-from, head-least}
 use Rattle.scanning.proofs.Order.{place-entry, above-rises, beside-rises, Stands, stands}
@@ -40,8 +41,8 @@ module _ {F : Field} {s₀ s : Cells} (K : Kept F s₀ s) where
   pub list-kept : (p : ℕ) → listAt (s .words) (base F + variables F) p ≡ listAt (s₀ .words) (base F + variables F) p
   list-kept p = same-rest (base F + s .tail) (s .words) (s₀ .words) (K .words-rest) (base F + variables F + p) (omega (arith, K .placed .queue-room))
 
-  place-kept : (p : ℕ) → p < 2 * length (F .rows) → listAt (s .words) (variables F + 1) p ≡ listAt (s₀ .words) (variables F + 1) p
-  place-kept p h = front-getD (base F) (s .words) (s₀ .words) (K .front) (variables F + 1 + p) (omega arith)
+  place-kept : (p : ℕ) → p < 2 * length (F .rows) → placeAt (s .words) (variables F + 1) p ≡ placeAt (s₀ .words) (variables F + 1) p
+  place-kept p h = ap entryIn (front-getD (base F) (s .words) (s₀ .words) (K .front) (variables F + 1 + p) (omega arith))
 
 next-as : {pick pick′ : ℕ → Bool} {val val′ : ℕ → ℕ} {b at end n : ℕ} {r : Cursor} → Next pick val b at end n r
     → ((p : ℕ) → p < end → pick′ p ≡ pick p) → ((p : ℕ) → p < end → val′ p ≡ val p) → Next pick′ val′ b at end n r
@@ -128,7 +129,7 @@ module _ {F : Field} {i many first last b h x y : ℕ} {s₀ s : Cells} (M : Mer
     in-list : Next always (listAt (s₀ .words) (base F + variables F)) b h many (variables F) r₁
     in-list = next-as N₁ (λ p z. refl) (λ p z. sym (list-kept (M .does .kept) p))
 
-    same-place : (p : ℕ) → p < last → listAt (s₀ .words) (variables F + 1) p ≡ listAt (s .words) (variables F + 1) p
+    same-place : (p : ℕ) → p < last → placeAt (s₀ .words) (variables F + 1) p ≡ placeAt (s .words) (variables F + 1) p
     same-place p z = sym (place-kept (M .does .kept) p (omega (arith, most)))
 
     in-above : Next (nearAt (F .rows) (s₀ .words) (variables F + 1) i) (farAt (F .cols) (s₀ .words) (variables F + 1)) b x last (variables F) r₂

@@ -11,8 +11,8 @@ use lib.Dec.{eqb}
 use lib.ListN.{length, getD}
 use Rattle.field.specs.Field.{Field, variables, entries, rowEnd, columnEnd, Before, Shaped}
 use Rattle.places.specs.Places.{keep, placesFrom, places, Adjacent, Touches}
-use Rattle.places.proofs.Walk.{part-long, place-get, place-touches}
-use Rattle.scanning.specs.Merge.{In, listAt, nearAt, farAt}
+use Rattle.places.proofs.Walk.{part-long, place-get, place-word}
+use Rattle.scanning.specs.Merge.{In, placeAt, nearAt, farAt}
 use Rattle.scanning.proofs.Search.{Rises}
 
 -- ---- every entry with an end at i is a place of i
@@ -108,10 +108,10 @@ module _ {F : Field} (S : Shaped F) where
 -- ---- in the flat list
 
 module _ {F : Field} (S : Shaped F) {u : List ℕ} (A : Adjacent (variables F) (F .rows) (F .cols) u) {i : ℕ} (hi : i < variables F) where
-  pub place-entry : {p : ℕ} → getD u i 0 ≤ p → p < getD u (i + 1) 0 → listAt u (variables F + 1) p < entries F
-  place-entry l h = omega (arith, place-touches A hi l h .0, S .rows-long)
+  pub place-entry : {p : ℕ} → getD u i 0 ≤ p → p < getD u (i + 1) 0 → placeAt u (variables F + 1) p < entries F
+  place-entry l h = omega (arith, place-word A hi l h .entry, S .rows-long)
 
-  places-rise : (p q : ℕ) → getD u i 0 ≤ p → p < q → q < getD u (i + 1) 0 → listAt u (variables F + 1) p < listAt u (variables F + 1) q
+  places-rise : (p q : ℕ) → getD u i 0 ≤ p → p < q → q < getD u (i + 1) 0 → placeAt u (variables F + 1) p < placeAt u (variables F + 1) q
   places-rise p q l a h =
       rw (← place-get A hi l (omega arith), ← place-get A hi {p = q} (omega arith) h)
       (places-up (F .rows) (F .cols) i (p - getD u i 0) (q - getD u i 0) (omega arith) (omega (arith, part-long A hi)))
@@ -121,8 +121,8 @@ module _ {F : Field} (S : Shaped F) {u : List ℕ} (A : Adjacent (variables F) (
 
   pub beside-rises : Rises (nearAt (F .cols) u (variables F + 1) i) (farAt (F .rows) u (variables F + 1)) (getD u i 0) (getD u (i + 1) 0)
   beside-rises p q l a h ep eq =
-      let cp : getD (F .cols) (listAt u (variables F + 1) p) 0 ≡ i = eqb-true _ _ ep in
-      let cq : getD (F .cols) (listAt u (variables F + 1) q) 0 ≡ i = eqb-true _ _ eq in
+      let cp : getD (F .cols) (placeAt u (variables F + 1) p) 0 ≡ i = eqb-true _ _ ep in
+      let cq : getD (F .cols) (placeAt u (variables F + 1) q) 0 ≡ i = eqb-true _ _ eq in
       ⊎-elim (λ z. absurd (omega arith)) (λ z. omega (arith, z .1))
       (in-order S _ _ (places-rise p q l a h) (place-entry (omega arith) h))
 
@@ -131,7 +131,7 @@ module _ {F : Field} (S : Shaped F) {u : List ℕ} (A : Adjacent (variables F) (
     pub position : ℕ
     pub from : getD u i 0 ≤ position
     pub to : position < getD u (i + 1) 0
-    pub holds : listAt u (variables F + 1) position ≡ k
+    pub holds : placeAt u (variables F + 1) position ≡ k
 
   pub stands : (k : ℕ) → k < entries F → Touches (F .rows) (F .cols) i k → Stands k
   stands k h touch =

@@ -10,7 +10,7 @@ use lib.Dec.{eqb, leb}
 use lib.ListN.{getD}
 use Rattle.scratch.proofs.All.{both}
 use Rattle.scanning.specs.declared.Cursor.{Cursor}
-use Rattle.scanning.specs.Merge.{lesser, Next, listAt, nearAt, farAt}
+use Rattle.scanning.specs.Merge.{lesser, Next, placeAt, nearAt, farAt}
 
 pub lesser-left : (a b : ℕ) → lesser a b ≤ a
 lesser-left a b = go (leb a b) refl
@@ -53,7 +53,7 @@ module _ {pick : ℕ → Bool} {val : ℕ → ℕ} {b at end : ℕ} where
 -- ---- a search through places: entry k stands at p, and passes the test or not
 
 module _ (near far u : List ℕ) (from i : ℕ) {b at end p : ℕ} (S : Searching (nearAt near u from i) (farAt far u from) b at end p) (l : p < end)
-    (k : ℕ) (e : k ≡ listAt u from p) {r : Bool} (er : r ≡ (eqb (getD near k 0) i && leb b (getD far k 0))) where
+    (k : ℕ) (e : k ≡ placeAt u from p) {r : Bool} (er : r ≡ (eqb (getD near k 0) i && leb b (getD far k 0))) where
   pub place-hit : {x n : ℕ} → r ≡ true → x ≡ getD far k 0 → Next (nearAt near u from i) (farAt far u from) b at end n (record { at = p; head = x })
   place-hit h ex =
       let t = both _ _ (sym er ∙ h) in

@@ -10,7 +10,7 @@ use lib.ListN.{length, getD}
 use Rattle.field.specs.Field.{Field, variables}
 use Rattle.rows.specs.Row.{isStrict}
 use Rattle.rows.specs.Stored.{rowOn}
-use Rattle.places.specs.Places.{otherEnd, Touches}
+use Rattle.places.specs.Places.{otherEnd, entryIn, Touches}
 use Rattle.run.specs.Cells.{Cells, base, Placed}
 use Rattle.scanning.specs.declared.Cursor.{Cursor}
 
@@ -41,19 +41,22 @@ always p = true
 abbrev pub listAt : List ℕ → ℕ → ℕ → ℕ
 listAt u from p = getD u (from + p) 0
 
--- of the places from index `from` on: those with i in the one list of ends, and the end in the other
+-- of the words of places from index `from` on: the entries, those with i in the one list of ends, and the end in the other
+abbrev pub placeAt : List ℕ → ℕ → ℕ → ℕ
+placeAt u from p = entryIn (listAt u from p)
+
 abbrev pub nearAt : List ℕ → List ℕ → ℕ → ℕ → ℕ → Bool
-nearAt near u from i p = eqb (getD near (listAt u from p) 0) i
+nearAt near u from i p = eqb (getD near (placeAt u from p) 0) i
 
 abbrev pub farAt : List ℕ → List ℕ → ℕ → ℕ → ℕ
-farAt far u from p = getD far (listAt u from p) 0
+farAt far u from p = getD far (placeAt u from p) 0
 
 -- what a search through places asks
 pub record Through (near far u : List ℕ) (from at end : ℕ) : Type 0 where
   pub start : at ≤ end
   pub room : from + end ≤ length u
   pub same : length far ≡ length near
-  pub entry : (p : ℕ) → at ≤ p → p < end → listAt u from p < length near
+  pub entry : (p : ℕ) → at ≤ p → p < end → placeAt u from p < length near
 
 -- t is among the candidates
 pub record Listed (F : Field) (u : List ℕ) (many t : ℕ) : Type 0 where

@@ -66,7 +66,7 @@ pub fn next_place(
 {
     let mut p = at;
     while p < end {
-        let k = wide_word(u[from + p]);
+        let k = places::entry_in(u[from + p]);
         if picks(near, far, k, i, b) {
             return Cursor {
                 at: p,

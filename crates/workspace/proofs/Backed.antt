@@ -10,9 +10,9 @@ use lib.ListN.{length, getD, set, drop, length-set}
 use lib.Seq.{getD-drop, getD-set-same, getD-set-other, ext-getD}
 use Rattle.rows.specs.Stored.{rowOn, putRow}
 use Rattle.rows.proofs.Stored.{length-put}
-use Rattle.places.specs.Places.{places, otherEnd}
+use Rattle.places.specs.Places.{places, otherEnd, entryIn, endIn}
 use Rattle.places.proofs.Places.{other-below}
-use Rattle.places.proofs.Walk.{Along, walk-turn, along-start, along-turn, along-end}
+use Rattle.places.proofs.Walk.{Along, walk-turn, turn-entry, turn-other, along-start, along-turn, along-end}
 use Rattle.scanning.specs.Merge.{listAt}
 use Rattle.workspace.specs.Restored.{backAt, backAll, back, Backable, From, Undoable}
 
@@ -33,17 +33,17 @@ pub back-start : {n : ℕ} {rows cols u : List ℕ} {x a b : ℕ} {f : List Floa
 back-start {n} {rows} {cols} {x = x} {f = f} B h ea eb = record { asks = B; along = along-start (backAll n rows cols x) f (B .adjacent) h ea eb; long = refl }
 
 module _ {n : ℕ} {rows cols u : List ℕ} {x end p : ℕ} {f₀ f : List Float} (B : Backing n rows cols u x end p f₀ f) where
-  pub back-end : p < end → {k : ℕ} → k ≡ getD u (n + 1 + p) 0 → (k < length rows) × (k < length cols)
-  back-end l {k} e = let h : k < length rows = omega (arith, walk-turn (B .along .walk) l .entry) in (h, omega (arith, B .asks .ends .same))
+  back-other : (l : p < end) {t : ℕ} → t ≡ endIn (getD u (n + 1 + p) 0) → t ≡ otherEnd rows cols x (entryIn (getD u (n + 1 + p) 0))
+  back-other l = turn-other (walk-turn (B .along .walk) l) refl
 
-  pub back-asks : p < end → {k t : ℕ} → k ≡ getD u (n + 1 + p) 0 → t ≡ otherEnd rows cols x k → (t < n) × (n + n + (n + n) ≤ length f)
-  back-asks l {k} e et = (rw et (other-below rows cols x k (B .asks .ends) (back-end l e .0)), omega (arith, B .asks .room, B .long))
+  pub back-asks : p < end → {t : ℕ} → t ≡ endIn (getD u (n + 1 + p) 0) → (t < n) × (n + n + (n + n) ≤ length f)
+  back-asks l e = (rw (back-other l e) (other-below rows cols x _ (B .asks .ends) (turn-entry (walk-turn (B .along .walk) l) refl)), omega (arith, B .asks .room, B .long))
 
-  pub back-turn : {k t : ℕ} {f′ : List Float} → p < end → k ≡ getD u (n + 1 + p) 0 → t ≡ otherEnd rows cols x k → f′ ≡ backAt n f t → Backing n rows cols u x end (p + 1) f₀ f′
+  pub back-turn : {t : ℕ} {f′ : List Float} → p < end → t ≡ endIn (getD u (n + 1 + p) 0) → f′ ≡ backAt n f t → Backing n rows cols u x end (p + 1) f₀ f′
   unfolding backAll
-  back-turn {k} {t} {f′} l e et ef = record {
+  back-turn {t} {f′} l e ef = record {
     asks = B .asks;
-    along = along-turn (B .along) l e (λ ks. ap (λ (z : List Float). backAll n rows cols x z ks) (sym (ef ∙ ap (backAt n f) et)));
+    along = along-turn (B .along) l refl (λ ks. ap (λ (z : List Float). backAll n rows cols x z ks) (sym (ef ∙ ap (backAt n f) (back-other l e))));
     long = ap length ef ∙ length-put f n t (rowOn (drop (n + n) f) n t) ∙ B .long;
   }
 

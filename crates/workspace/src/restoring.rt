@@ -36,8 +36,7 @@ fn back(rows: &[u16], cols: &[u16], f: &mut [f64], u: &[u32], n: usize, x: usize
     let start = wide_word(u[x]);
     let end = wide_word(u[x + 1]);
     for p in start..end {
-        let k = wide_word(u[n + 1 + p]);
-        let t = places::other_end(rows, cols, x, k);
+        let t = places::end_in(u[n + 1 + p]);
         back_at(f, n, t);
     }
 }

@@ -76,7 +76,11 @@ same-length-2 : tie.Need-same-length-2
 same-length-2 c = search needs
 
 same-length-3 : tie.Need-same-length-3
-same-length-3 c = search needs
+same-length-3 c =
+    let at-list-free = c .before .before .before .before .before .before .before .before in
+    let at-merge = at-list-free .before .before .before .before .before .before in
+    let at-build = at-merge .before .before .before .before .before .before .before .before .before in
+    omega (arith, at-list-free .list-free .ensures .long, at-merge .merge .ensures .kept .words-long, at-build .build .ensures .long)
 
 returns : tie.Need-returns
 returns c = c .before .before .walk-pairs .ensures

@@ -57,21 +57,21 @@ loop-holds c =
     (omega (arith, c .before .before .before .before .before .before .before .before .before .before .before .before .before .before .before .pre .1, c .before .before .add .kept .1 .0))
     (c .before .before .before .before .before .before .before .wide-word .ensures) (c .before .before .before .before .before .wide-word2 .ensures) (c .before .before .add .ensures)
 
-add-wide-word-2 : tie.Need-add-wide-word-2 Inv-loop μ-loop
-add-wide-word-2 c =
+add-entry-in : tie.Need-add-entry-in Inv-loop μ-loop
+add-entry-in c =
     omega (arith, c .before .before .before .before .before .before .before .before .before .before .before .before .before .before .before .before .before .pre .0 .shaped .few-variables)
 
-add-wide-word-3 : tie.Need-add-wide-word-3 Inv-loop μ-loop
-add-wide-word-3 c = omega (arith, walk-turn (c .before .loop .inv .along .walk) (c .loop-test .taken) .index)
+add-entry-in-2 : tie.Need-add-entry-in-2 Inv-loop μ-loop
+add-entry-in-2 c = omega (arith, walk-turn (c .before .loop .inv .along .walk) (c .loop-test .taken) .index)
 
-mul-wide-word-3 : tie.Need-mul-wide-word-3 Inv-loop μ-loop
-mul-wide-word-3 c = omega (arith, walk-turn (c .before .loop .inv .along .walk) (c .loop-test .taken) .index)
+mul-entry-in : tie.Need-mul-entry-in Inv-loop μ-loop
+mul-entry-in c = omega (arith, walk-turn (c .before .loop .inv .along .walk) (c .loop-test .taken) .index)
 
-shared-slice-read-wide-word-3 : tie.Need-shared-slice-read-wide-word-3 Inv-loop μ-loop
-shared-slice-read-wide-word-3 c = walk-turn (c .before .before .loop .inv .along .walk) (c .before .loop-test .taken) .index
+shared-slice-read-entry-in : tie.Need-shared-slice-read-entry-in Inv-loop μ-loop
+shared-slice-read-entry-in c = walk-turn (c .before .before .loop .inv .along .walk) (c .before .loop-test .taken) .index
 
-wide-word-requires-3 : tie.Need-wide-word-requires-3 Inv-loop μ-loop
-wide-word-requires-3 c κs = search needs
+entry-in-requires : tie.Need-entry-in-requires Inv-loop μ-loop
+entry-in-requires c κs = search needs
 
 balance-at-requires : tie.Need-balance-at-requires Inv-loop μ-loop
 balance-at-requires c κs = (
@@ -79,8 +79,8 @@ balance-at-requires c κs = (
   (
     omega (
       arith,
-      c .before .wide-word3 .ensures,
-      walk-turn (c .before .before .before .before .loop .inv .along .walk) (c .before .before .before .loop-test .taken) .entry,
+      c .before .entry-in .ensures,
+      walk-turn (c .before .before .before .before .loop .inv .along .walk) (c .before .before .before .loop-test .taken) .word .entry,
       c .before .before .before .before .before .before .before .before .before .before .before .before .before .before .before .before .before .before .before .before .pre .0 .shaped .rows-long,
     ),
     balance-room (c .before .before .before .before .loop .inv) (c .before .before .before .loop-test .taken),
@@ -96,7 +96,7 @@ loop-less c = omega (arith, c .before .before .before .before .before .before .l
 loop-again : tie.Need-loop-again Inv-loop μ-loop
 loop-again c =
     balance-turn (c .before .before .before .before .before .before .before .loop .inv) (c .before .before .before .before .before .before .loop-test .taken)
-    (c .before .before .before .before .wide-word3 .ensures) (c .before .before .balance-at .kept .1 .1 .1 .1 .1 .1 .0) (c .before .before .balance-at .ensures)
+    (c .before .before .before .before .entry-in .ensures) (c .before .before .balance-at .kept .1 .1 .1 .1 .1 .1 .0) (c .before .before .balance-at .ensures)
 
 is-zero-requires : tie.Need-is-zero-requires Inv-loop μ-loop
 is-zero-requires c κs = search needs
@@ -124,11 +124,11 @@ comes-to-zero-spec =
     shared-slice-read-add
     add-requires
     loop-holds
-    add-wide-word-2
-    add-wide-word-3
-    mul-wide-word-3
-    shared-slice-read-wide-word-3
-    wide-word-requires-3
+    add-entry-in
+    add-entry-in-2
+    mul-entry-in
+    shared-slice-read-entry-in
+    entry-in-requires
     balance-at-requires
     add-p
     loop-less

@@ -44,26 +44,26 @@ shared-slice-read-sum c = omega (arith, c .before .before .before .before .befor
 loop-holds : tie.Need-loop-holds Inv-loop μ-loop
 loop-holds c = adding-start (c .before .before .before .before .before .before .before .before .before .before .pre) (c .before .before .before .wide-word .ensures) (c .before .wide-word2 .ensures)
 
-add-wide-word-2 : tie.Need-add-wide-word-2 Inv-loop μ-loop
-add-wide-word-2 c = omega (arith, c .before .before .before .before .before .before .before .before .before .before .before .before .pre .shaped .few-variables)
+add-entry-in : tie.Need-add-entry-in Inv-loop μ-loop
+add-entry-in c = omega (arith, c .before .before .before .before .before .before .before .before .before .before .before .before .pre .shaped .few-variables)
 
-add-wide-word-3 : tie.Need-add-wide-word-3 Inv-loop μ-loop
-add-wide-word-3 c = omega (arith, walk-turn (c .before .loop .inv .along .walk) (c .loop-test .taken) .index)
+add-entry-in-2 : tie.Need-add-entry-in-2 Inv-loop μ-loop
+add-entry-in-2 c = omega (arith, walk-turn (c .before .loop .inv .along .walk) (c .loop-test .taken) .index)
 
-mul-wide-word-3 : tie.Need-mul-wide-word-3 Inv-loop μ-loop
-mul-wide-word-3 c = omega (arith, walk-turn (c .before .loop .inv .along .walk) (c .loop-test .taken) .index)
+mul-entry-in : tie.Need-mul-entry-in Inv-loop μ-loop
+mul-entry-in c = omega (arith, walk-turn (c .before .loop .inv .along .walk) (c .loop-test .taken) .index)
 
-shared-slice-read-wide-word-3 : tie.Need-shared-slice-read-wide-word-3 Inv-loop μ-loop
-shared-slice-read-wide-word-3 c = walk-turn (c .before .before .loop .inv .along .walk) (c .before .loop-test .taken) .index
+shared-slice-read-entry-in : tie.Need-shared-slice-read-entry-in Inv-loop μ-loop
+shared-slice-read-entry-in c = walk-turn (c .before .before .loop .inv .along .walk) (c .before .loop-test .taken) .index
 
-wide-word-requires-3 : tie.Need-wide-word-requires-3 Inv-loop μ-loop
-wide-word-requires-3 c κs = search needs
+entry-in-requires : tie.Need-entry-in-requires Inv-loop μ-loop
+entry-in-requires c κs = search needs
 
 mul-sum-2 : tie.Need-mul-sum-2 Inv-loop μ-loop
-mul-sum-2 c = omega (arith, adding-entry (c .before .before .before .loop .inv) (c .before .before .loop-test .taken) (c .wide-word3 .ensures), c .before .before .before .before .before .before .before .before .before .before .before .before .before .before .pre .shaped .few-entries)
+mul-sum-2 c = omega (arith, adding-entry (c .before .before .before .loop .inv) (c .before .before .loop-test .taken) (c .entry-in .ensures), c .before .before .before .before .before .before .before .before .before .before .before .before .before .before .pre .shaped .few-entries)
 
 shared-slice-read-sum-2 : tie.Need-shared-slice-read-sum-2 Inv-loop μ-loop
-shared-slice-read-sum-2 c = adding-entry (c .before .before .before .before .loop .inv) (c .before .before .before .loop-test .taken) (c .before .wide-word3 .ensures)
+shared-slice-read-sum-2 c = adding-entry (c .before .before .before .before .loop .inv) (c .before .before .before .loop-test .taken) (c .before .entry-in .ensures)
 
 add-p : tie.Need-add-p Inv-loop μ-loop
 add-p c = search needs
@@ -72,7 +72,7 @@ loop-less : tie.Need-loop-less Inv-loop μ-loop
 loop-less c = omega (arith, c .before .before .before .loop-test .taken)
 
 loop-again : tie.Need-loop-again Inv-loop μ-loop
-loop-again c = adding-turn (c .before .before .before .before .loop .inv) (c .before .before .before .loop-test .taken) (c .before .wide-word3 .ensures)
+loop-again c = adding-turn (c .before .before .before .before .loop .inv) (c .before .before .before .loop-test .taken) (c .before .entry-in .ensures)
 
 returns : tie.Need-returns Inv-loop μ-loop
 returns c = adding-done (c .before .loop .inv) (c .loop-test .left)
@@ -93,11 +93,11 @@ plain-sum-spec =
     mul-sum
     shared-slice-read-sum
     loop-holds
-    add-wide-word-2
-    add-wide-word-3
-    mul-wide-word-3
-    shared-slice-read-wide-word-3
-    wide-word-requires-3
+    add-entry-in
+    add-entry-in-2
+    mul-entry-in
+    shared-slice-read-entry-in
+    entry-in-requires
     mul-sum-2
     shared-slice-read-sum-2
     add-p

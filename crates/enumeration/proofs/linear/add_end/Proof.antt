@@ -6,17 +6,13 @@ use borrow.Author.Needs.{needs}
 use Rattle.enumeration.proofs.linear.add_end.Statement.{statement}
 use Rattle.enumeration.proofs.linear.add_end.Tie as tie
 
-other-end-requires : tie.Need-other-end-requires
-other-end-requires c κs = search needs
-
 shared-slice-read-v : tie.Need-shared-slice-read-v
 shared-slice-read-v c =
-    let at-other-end = c .before in
-    let start = at-other-end .before .before .before .before .before .before in
-    omega (arith, other-end-below (start .pre .0 .shaped) _ (start .pre .1) (at-other-end .other-end .ensures), start .pre .0 .values-long)
+    let start = c .before .before .before .before .before .before in
+    omega (arith, other-end-below (start .pre .0 .shaped) _ (start .pre .1 .0) (start .pre .1 .1), start .pre .0 .values-long)
 
 returns : tie.Need-returns
-returns c = end-free _ _ _ _ _ (c .before .before .other-end .ensures) (c .if1 .taken)
+returns c = end-free _ _ _ _ _ (c .before .before .before .before .before .before .before .pre .1 .1) (c .if1 .taken)
 
 mul-weight : tie.Need-mul-weight
 mul-weight c = search needs
@@ -31,13 +27,12 @@ int-to-float-result : tie.Need-int-to-float-result
 int-to-float-result c = search needs
 
 returns-2 : tie.Need-returns-2
-returns-2 c = end-fixed _ _ _ _ _ (c .before .before .before .before .before .other-end .ensures) (c .before .half .ensures) (c .before .before .before .if1 .left)
+returns-2 c = end-fixed _ _ _ _ _ (c .before .before .before .before .before .before .before .before .before .before .pre .1 .1) (c .before .half .ensures) (c .before .before .before .if1 .left)
 
 pub add-end-spec : {M : Type 1} → statement M
 add-end-spec =
     tie.close
     (tie.spec
-    other-end-requires
     shared-slice-read-v
     returns
     mul-weight

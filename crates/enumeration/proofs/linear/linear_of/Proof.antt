@@ -3,7 +3,7 @@ use Prim.Native.Nat.{_-_}
 use mathlib.Core.Path.{refl}
 use native.Mathlib.Omega.{arith}
 use Rattle.field.specs.Field.{fieldOf}
-use Rattle.places.proofs.Walk.{walk-turn}
+use Rattle.places.proofs.Walk.{walk-turn, turn-entry, turn-other}
 use Rattle.enumeration.proofs.Ends.{Summing, sum-start, sum-turn, sum-done}
 use borrow.Author.Needs.{needs}
 use Rattle.enumeration.proofs.linear.linear_of.Statement.{statement}
@@ -53,29 +53,31 @@ loop-holds c =
     let start = at-wide-word .before .before .before .before .before .before .before .before in
     sum-start (start .pre .0) (start .pre .1) (at-wide-word .wide-word .ensures) (at-wide-word2 .wide-word2 .ensures) refl
 
-add-wide-word-2 : tie.Need-add-wide-word-2 Inv-loop μ-loop
-add-wide-word-2 c = search needs
+add-word : tie.Need-add-word Inv-loop μ-loop
+add-word c = search needs
 
-add-wide-word-3 : tie.Need-add-wide-word-3 Inv-loop μ-loop
-add-wide-word-3 c = omega (arith, walk-turn (c .before .loop .inv .along .walk) (c .loop-test .taken) .index)
+add-word-2 : tie.Need-add-word-2 Inv-loop μ-loop
+add-word-2 c = omega (arith, walk-turn (c .before .loop .inv .along .walk) (c .loop-test .taken) .index)
 
-mul-wide-word-3 : tie.Need-mul-wide-word-3 Inv-loop μ-loop
-mul-wide-word-3 c = omega (arith, walk-turn (c .before .loop .inv .along .walk) (c .loop-test .taken) .index)
+mul-word : tie.Need-mul-word Inv-loop μ-loop
+mul-word c = omega (arith, walk-turn (c .before .loop .inv .along .walk) (c .loop-test .taken) .index)
 
-shared-slice-read-wide-word-3 : tie.Need-shared-slice-read-wide-word-3 Inv-loop μ-loop
-shared-slice-read-wide-word-3 c = walk-turn (c .before .before .loop .inv .along .walk) (c .before .loop-test .taken) .index
+shared-slice-read-word : tie.Need-shared-slice-read-word Inv-loop μ-loop
+shared-slice-read-word c = walk-turn (c .before .before .loop .inv .along .walk) (c .before .loop-test .taken) .index
 
-wide-word-requires-3 : tie.Need-wide-word-requires-3 Inv-loop μ-loop
-wide-word-requires-3 c κs = search needs
+entry-in-requires : tie.Need-entry-in-requires Inv-loop μ-loop
+entry-in-requires c κs = search needs
+
+end-in-requires : tie.Need-end-in-requires Inv-loop μ-loop
+end-in-requires c κs = search needs
 
 add-end-requires : tie.Need-add-end-requires Inv-loop μ-loop
 add-end-requires c κs =
-    let at-loop-test = c .before .before in
-    let at-loop = at-loop-test .before in
-    let start = at-loop .before .before .before .before .before .before .before .before .before .before .before .before in (
+    let turn = walk-turn (c .before .before .before .before .loop .inv .along .walk) (c .before .before .before .loop-test .taken) in
+    let ek = c .before .entry-in .ensures in
+    let start = c .before .before .before .before .before .before .before .before .before .before .before .before .before .before .before .before in (
       record { shaped = start .pre .0 .placed .shaped; values-long = start .pre .0 .values-long },
-      omega
-          (arith, c .wide-word3 .ensures, walk-turn (at-loop .loop .inv .along .walk) (at-loop-test .loop-test .taken) .entry, start .pre .0 .placed .shaped .rows-long),
+      (omega (arith, turn-entry turn ek, start .pre .0 .placed .shaped .rows-long), turn-other turn ek (c .end-in .ensures)),
     )
 
 add-p : tie.Need-add-p Inv-loop μ-loop
@@ -85,7 +87,7 @@ loop-less : tie.Need-loop-less Inv-loop μ-loop
 loop-less c = search needs
 
 loop-again : tie.Need-loop-again Inv-loop μ-loop
-loop-again c = sum-turn (c .before .before .before .before .loop .inv) (c .before .before .before .loop-test .taken) (c .before .wide-word3 .ensures) (c .add-end .ensures)
+loop-again c = sum-turn (c .before .before .before .before .before .loop .inv) (c .before .before .before .before .loop-test .taken) (c .before .before .entry-in .ensures) (c .add-end .ensures)
 
 returns : tie.Need-returns Inv-loop μ-loop
 returns c = sum-done (c .before .loop .inv) (c .loop-test .left)
@@ -106,11 +108,12 @@ linear-of-spec =
     mul-sum
     shared-slice-read-sum
     loop-holds
-    add-wide-word-2
-    add-wide-word-3
-    mul-wide-word-3
-    shared-slice-read-wide-word-3
-    wide-word-requires-3
+    add-word
+    add-word-2
+    mul-word
+    shared-slice-read-word
+    entry-in-requires
+    end-in-requires
     add-end-requires
     add-p
     loop-less

@@ -3,9 +3,6 @@ use borrow.Author.Needs.{needs}
 use Rattle.probing.proofs.refreshing.add_place.Statement.{statement}
 use Rattle.probing.proofs.refreshing.add_place.Tie as tie
 
-other-end-requires : tie.Need-other-end-requires
-other-end-requires c κs = search needs
-
 mul-half : tie.Need-mul-half
 mul-half c = search needs
 
@@ -22,13 +19,12 @@ add-term-requires : tie.Need-add-term-requires
 add-term-requires c κs = search needs
 
 returns : tie.Need-returns
-returns c = rw (c .before .before .before .before .other-end .ensures, c .before .before .half .ensures) at (c .add-term .ensures)
+returns c = rw (c .before .before .before .before .before .before .before .before .pre .1 .1, c .before .before .half .ensures) at (c .add-term .ensures)
 
 pub add-place-spec : {M : Type 1} → statement M
 add-place-spec =
     tie.close
     (tie.spec
-    other-end-requires
     mul-half
     shared-slice-read-half
     half-requires

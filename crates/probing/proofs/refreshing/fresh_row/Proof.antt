@@ -57,41 +57,35 @@ loop-holds c =
     let start = at-wide-word .before .before .before .before .before .before .before .before in
     row-start (start .pre .0) (start .pre .1) (at-wide-word .wide-word .ensures) (at-wide-word2 .wide-word2 .ensures) (c .start .ensures)
 
-add-wide-word-2 : tie.Need-add-wide-word-2 Inv-loop μ-loop
-add-wide-word-2 c = search needs
+add-word : tie.Need-add-word Inv-loop μ-loop
+add-word c = search needs
 
-add-wide-word-3 : tie.Need-add-wide-word-3 Inv-loop μ-loop
-add-wide-word-3 c = omega (arith, walk-turn (c .before .loop .inv .walk) (c .loop-test .taken) .index)
+add-word-2 : tie.Need-add-word-2 Inv-loop μ-loop
+add-word-2 c = omega (arith, walk-turn (c .before .loop .inv .walk) (c .loop-test .taken) .index)
 
-mul-wide-word-3 : tie.Need-mul-wide-word-3 Inv-loop μ-loop
-mul-wide-word-3 c = omega (arith, walk-turn (c .before .loop .inv .walk) (c .loop-test .taken) .index)
+mul-word : tie.Need-mul-word Inv-loop μ-loop
+mul-word c = omega (arith, walk-turn (c .before .loop .inv .walk) (c .loop-test .taken) .index)
 
-shared-slice-read-wide-word-3 : tie.Need-shared-slice-read-wide-word-3 Inv-loop μ-loop
-shared-slice-read-wide-word-3 c = walk-turn (c .before .before .loop .inv .walk) (c .before .loop-test .taken) .index
+shared-slice-read-word : tie.Need-shared-slice-read-word Inv-loop μ-loop
+shared-slice-read-word c = walk-turn (c .before .before .loop .inv .walk) (c .before .loop-test .taken) .index
 
-wide-word-requires-3 : tie.Need-wide-word-requires-3 Inv-loop μ-loop
-wide-word-requires-3 c κs = search needs
+entry-in-requires : tie.Need-entry-in-requires Inv-loop μ-loop
+entry-in-requires c κs = search needs
+
+end-in-requires : tie.Need-end-in-requires Inv-loop μ-loop
+end-in-requires c κs = search needs
 
 add-place-requires : tie.Need-add-place-requires Inv-loop μ-loop
-add-place-requires c κs =
-    let at-loop-test = c .before .before in
-    let at-loop = at-loop-test .before in
-    let start = at-loop .before .before .before .before .before .before .before .before .before .before .before .before .before in
-    row-reads (start .pre .0) (at-loop .loop .inv) (at-loop-test .loop-test .taken) (c .wide-word3 .ensures)
+add-place-requires c κs = row-reads (c .before .before .before .before .before .before .before .before .before .before .before .before .before .before .before .before .before .pre .0) (c .before .before .before .before .loop .inv) (c .before .before .before .loop-test .taken) (c .before .entry-in .ensures) (c .end-in .ensures)
 
 add-p : tie.Need-add-p Inv-loop μ-loop
 add-p c = omega arith
 
 loop-less : tie.Need-loop-less Inv-loop μ-loop
-loop-less c = omega (arith, c .before .before .before .loop-test .taken)
+loop-less c = omega (arith, c .before .before .before .before .loop-test .taken)
 
 loop-again : tie.Need-loop-again Inv-loop μ-loop
-loop-again c =
-    let at-wide-word3 = c .before in
-    let at-loop-test = at-wide-word3 .before .before in
-    let at-loop = at-loop-test .before in
-    let start = at-loop .before .before .before .before .before .before .before .before .before .before .before .before .before in
-    row-turn (start .pre .0) (at-loop .loop .inv) (at-loop-test .loop-test .taken) (at-wide-word3 .wide-word3 .ensures) (c .add-place .ensures)
+loop-again c = row-turn (c .before .before .before .before .before .before .before .before .before .before .before .before .before .before .before .before .before .before .pre .0) (c .before .before .before .before .before .loop .inv) (c .before .before .before .before .loop-test .taken) (c .before .before .entry-in .ensures) (c .add-place .ensures)
 
 returns : tie.Need-returns Inv-loop μ-loop
 returns c =
@@ -116,11 +110,12 @@ fresh-row-spec =
     shared-slice-read-start
     start-requires
     loop-holds
-    add-wide-word-2
-    add-wide-word-3
-    mul-wide-word-3
-    shared-slice-read-wide-word-3
-    wide-word-requires-3
+    add-word
+    add-word-2
+    mul-word
+    shared-slice-read-word
+    entry-in-requires
+    end-in-requires
     add-place-requires
     add-p
     loop-less

@@ -6,9 +6,6 @@ use borrow.Author.Needs.{needs}
 use Rattle.probing.proofs.refreshing.move_at.Statement.{statement}
 use Rattle.probing.proofs.refreshing.move_at.Tie as tie
 
-other-end-requires : tie.Need-other-end-requires
-other-end-requires c κs = search needs
-
 mul-half : tie.Need-mul-half
 mul-half c = search needs
 
@@ -20,26 +17,21 @@ half-requires c κs = search needs
 
 move-row-requires : tie.Need-move-row-requires
 move-row-requires c κs =
-    let at-other-end = c .before .before .before in
-    let at-start = at-other-end .before .before .before .before .before .before .before .before in
-    omega (arith, other-end-below (at-start .pre .0 .shaped) _ (at-start .pre .1) (at-other-end .other-end .ensures), at-start .pre .0 .floats-room)
+    let start = c .before .before .before .before .before .before .before .before .before .before in
+    omega (arith, other-end-below (start .pre .0 .shaped) _ (start .pre .1 .0) (start .pre .1 .1), start .pre .0 .floats-room)
 
 same-length : tie.Need-same-length
 same-length c = search needs
 
 returns : tie.Need-returns
 returns c =
-    let at-move-row = c .before .before in
-    let at-half = at-move-row .before .before in
-    let at-other-end = at-half .before .before in
-    let at-start = at-other-end .before .before .before .before .before .before .before .before in
-    move-does (at-start .pre .0) _ _ (at-start .pre .1) (at-other-end .other-end .ensures) (at-half .half .ensures) (at-move-row .move-row .ensures .0) (at-move-row .move-row .ensures .1)
+    let start = c .before .before .before .before .before .before .before .before .before .before .before .before .before in
+    move-does (start .pre .0) _ _ (start .pre .1 .0) (start .pre .1 .1) (c .before .before .before .before .half .ensures) (c .before .before .move-row .ensures .0) (c .before .before .move-row .ensures .1)
 
 pub move-at-spec : {M : Type 1} → statement M
 move-at-spec =
     tie.close
     (tie.spec
-    other-end-requires
     mul-half
     shared-slice-read-half
     half-requires

@@ -44,27 +44,27 @@ loop-holds c =
     let at-start = at-wide-word .before .before .before .before .before .before .before .before .before in
     refresh-start (at-start .pre .0) (at-start .pre .1 .1) (at-wide-word .wide-word .ensures) (c .wide-word2 .ensures)
 
-add-wide-word-2 : tie.Need-add-wide-word-2 Inv-loop μ-loop
-add-wide-word-2 c = search needs
+add-entry-in : tie.Need-add-entry-in Inv-loop μ-loop
+add-entry-in c = search needs
 
-add-wide-word-3 : tie.Need-add-wide-word-3 Inv-loop μ-loop
-add-wide-word-3 c = omega (arith, refresh-reads (c .before .loop .inv) (c .loop-test .taken) .0)
+add-entry-in-2 : tie.Need-add-entry-in-2 Inv-loop μ-loop
+add-entry-in-2 c = omega (arith, refresh-reads (c .before .loop .inv) (c .loop-test .taken) .0)
 
-mul-wide-word-3 : tie.Need-mul-wide-word-3 Inv-loop μ-loop
-mul-wide-word-3 c = omega (arith, refresh-reads (c .before .loop .inv) (c .loop-test .taken) .0)
+mul-entry-in : tie.Need-mul-entry-in Inv-loop μ-loop
+mul-entry-in c = omega (arith, refresh-reads (c .before .loop .inv) (c .loop-test .taken) .0)
 
-shared-slice-read-wide-word-3 : tie.Need-shared-slice-read-wide-word-3 Inv-loop μ-loop
-shared-slice-read-wide-word-3 c = refresh-reads (c .before .before .loop .inv) (c .before .loop-test .taken) .0
+shared-slice-read-entry-in : tie.Need-shared-slice-read-entry-in Inv-loop μ-loop
+shared-slice-read-entry-in c = refresh-reads (c .before .before .loop .inv) (c .before .loop-test .taken) .0
 
-wide-word-requires-3 : tie.Need-wide-word-requires-3 Inv-loop μ-loop
-wide-word-requires-3 c κs = search needs
+entry-in-requires : tie.Need-entry-in-requires Inv-loop μ-loop
+entry-in-requires c κs = search needs
 
 refresh-once-requires : tie.Need-refresh-once-requires Inv-loop μ-loop
 refresh-once-requires c κs =
     let at-loop-test = c .before .before .before in
     let at-loop = at-loop-test .before in
     let at-start = at-loop .before .before .before .before .before .before .before .before .before .before .before .before in
-    (at-loop .loop .inv .kept .placed, (at-start .pre .1 .0, (omega (arith, c .before .wide-word3 .ensures, refresh-reads (at-loop .loop .inv) (at-loop-test .loop-test .taken) .1 .1), at-loop .loop .inv .cursor)))
+    (at-loop .loop .inv .kept .placed, (at-start .pre .1 .0, (omega (arith, c .before .entry-in .ensures, refresh-reads (at-loop .loop .inv) (at-loop-test .loop-test .taken) .1 .1), at-loop .loop .inv .cursor)))
 
 add-p : tie.Need-add-p Inv-loop μ-loop
 add-p c = omega arith
@@ -75,10 +75,10 @@ loop-less c = omega (arith, c .before .before .before .before .before .before .l
 loop-again : tie.Need-loop-again Inv-loop μ-loop
 loop-again c =
     let at-refresh-once = c .before .before in
-    let at-wide-word3 = at-refresh-once .before .before in
-    let at-loop-test = at-wide-word3 .before .before in
+    let at-entry-in = at-refresh-once .before .before in
+    let at-loop-test = at-entry-in .before .before in
     let at-loop = at-loop-test .before in
-    refresh-turn (at-loop .loop .inv) (at-loop-test .loop-test .taken) (at-wide-word3 .wide-word3 .ensures) (at-refresh-once .refresh-once .ensures .0) (at-refresh-once .refresh-once .ensures .1)
+    refresh-turn (at-loop .loop .inv) (at-loop-test .loop-test .taken) (at-entry-in .entry-in .ensures) (at-refresh-once .refresh-once .ensures .0) (at-refresh-once .refresh-once .ensures .1)
 
 same-length : tie.Need-same-length Inv-loop μ-loop
 same-length c = c .before .loop .inv .kept .floats-long
@@ -100,11 +100,11 @@ refresh-spec =
     shared-slice-read-wide-word-2
     wide-word-requires-2
     loop-holds
-    add-wide-word-2
-    add-wide-word-3
-    mul-wide-word-3
-    shared-slice-read-wide-word-3
-    wide-word-requires-3
+    add-entry-in
+    add-entry-in-2
+    mul-entry-in
+    shared-slice-read-entry-in
+    entry-in-requires
     refresh-once-requires
     add-p
     loop-less

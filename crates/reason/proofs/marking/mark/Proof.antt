@@ -2,7 +2,7 @@
 use Prim.Native.Nat.{_-_}
 use native.Mathlib.Omega.{arith}
 use lib.ListN.{length}
-use Rattle.reason.proofs.MarkTurns.{Marking, mark-start, mark-index, mark-entry, mark-below, mark-turn, mark-done}
+use Rattle.reason.proofs.MarkTurns.{Marking, mark-start, mark-index, mark-below, mark-turn, mark-done}
 use borrow.Author.Needs.{needs}
 use Rattle.reason.proofs.marking.mark.Statement.{statement}
 use Rattle.reason.proofs.marking.mark.Tie as tie
@@ -37,32 +37,29 @@ wide-word-requires-2 c κs = search needs
 loop-holds : tie.Need-loop-holds Inv-loop μ-loop
 loop-holds c = mark-start (c .before .before .before .before .before .before .before .before .pre .0) (c .before .before .before .before .before .before .before .before .pre .1 .0) (c .before .before .before .before .before .before .before .before .pre .1 .1) (c .before .before .wide-word .ensures) (c .wide-word2 .ensures)
 
-add-wide-word-2 : tie.Need-add-wide-word-2 Inv-loop μ-loop
-add-wide-word-2 c = omega (arith, mark-index (c .before .loop .inv) (c .loop-test .taken))
+add-end-in : tie.Need-add-end-in Inv-loop μ-loop
+add-end-in c = omega (arith, mark-index (c .before .loop .inv) (c .loop-test .taken))
 
-add-wide-word-3 : tie.Need-add-wide-word-3 Inv-loop μ-loop
-add-wide-word-3 c = omega (arith, mark-index (c .before .loop .inv) (c .loop-test .taken))
+add-end-in-2 : tie.Need-add-end-in-2 Inv-loop μ-loop
+add-end-in-2 c = omega (arith, mark-index (c .before .loop .inv) (c .loop-test .taken))
 
-mul-wide-word-3 : tie.Need-mul-wide-word-3 Inv-loop μ-loop
-mul-wide-word-3 c = omega (arith, mark-index (c .before .loop .inv) (c .loop-test .taken))
+mul-end-in : tie.Need-mul-end-in Inv-loop μ-loop
+mul-end-in c = omega (arith, mark-index (c .before .loop .inv) (c .loop-test .taken))
 
-shared-slice-read-wide-word-3 : tie.Need-shared-slice-read-wide-word-3 Inv-loop μ-loop
-shared-slice-read-wide-word-3 c = mark-index (c .before .before .loop .inv) (c .before .loop-test .taken)
+shared-slice-read-end-in : tie.Need-shared-slice-read-end-in Inv-loop μ-loop
+shared-slice-read-end-in c = mark-index (c .before .before .loop .inv) (c .before .loop-test .taken)
 
-wide-word-requires-3 : tie.Need-wide-word-requires-3 Inv-loop μ-loop
-wide-word-requires-3 c κs = search needs
-
-other-end-requires : tie.Need-other-end-requires Inv-loop μ-loop
-other-end-requires c κs = mark-entry (c .before .before .before .loop .inv) (c .before .before .loop-test .taken) (c .wide-word3 .ensures)
+end-in-requires : tie.Need-end-in-requires Inv-loop μ-loop
+end-in-requires c κs = search needs
 
 slice-read-marked : tie.Need-slice-read-marked Inv-loop μ-loop
-slice-read-marked c = mark-below (c .before .before .before .before .before .loop .inv) (c .before .before .before .before .loop-test .taken) (c .before .before .wide-word3 .ensures) (c .before .other-end .ensures)
+slice-read-marked c = mark-below (c .before .before .before .before .loop .inv) (c .before .before .before .loop-test .taken) (c .before .end-in .ensures)
 
 marked-requires : tie.Need-marked-requires Inv-loop μ-loop
 marked-requires c κs = search needs
 
 slice-write-values : tie.Need-slice-write-values Inv-loop μ-loop
-slice-write-values c = mark-below (c .before .before .before .before .before .before .loop .inv) (c .before .before .before .before .before .loop-test .taken) (c .before .before .before .wide-word3 .ensures) (c .before .before .other-end .ensures)
+slice-write-values c = mark-below (c .before .before .before .before .before .loop .inv) (c .before .before .before .before .loop-test .taken) (c .before .before .end-in .ensures)
 
 add-p : tie.Need-add-p Inv-loop μ-loop
 add-p c = omega arith
@@ -71,7 +68,7 @@ loop-less : tie.Need-loop-less Inv-loop μ-loop
 loop-less c = omega arith
 
 loop-again : tie.Need-loop-again Inv-loop μ-loop
-loop-again c = mark-turn (c .before .before .before .before .before .before .loop .inv) (c .before .before .before .before .before .loop-test .taken) (c .before .before .before .wide-word3 .ensures) (c .before .before .other-end .ensures) (c .marked .ensures)
+loop-again c = mark-turn (c .before .before .before .before .before .loop .inv) (c .before .before .before .before .loop-test .taken) (c .before .before .end-in .ensures) (c .marked .ensures)
 
 same-length : tie.Need-same-length Inv-loop μ-loop
 same-length c = c .before .loop .inv .long
@@ -93,12 +90,11 @@ mark-spec =
     shared-slice-read-wide-word-2
     wide-word-requires-2
     loop-holds
-    add-wide-word-2
-    add-wide-word-3
-    mul-wide-word-3
-    shared-slice-read-wide-word-3
-    wide-word-requires-3
-    other-end-requires
+    add-end-in
+    add-end-in-2
+    mul-end-in
+    shared-slice-read-end-in
+    end-in-requires
     slice-read-marked
     marked-requires
     slice-write-values

@@ -16,40 +16,40 @@ abbrev μ-loop : tie.MeasureT-loop
 loop-holds : tie.Need-loop-holds Inv-loop μ-loop
 loop-holds c = search-start (c .before .before .before .pre .start)
 
-add-wide-word : tie.Need-add-wide-word Inv-loop μ-loop
-add-wide-word c = omega (arith, c .before .before .before .before .before .pre .room, c .loop-test .taken)
+add-entry-in : tie.Need-add-entry-in Inv-loop μ-loop
+add-entry-in c = omega (arith, c .before .before .before .before .before .pre .room, c .loop-test .taken)
 
-mul-wide-word : tie.Need-mul-wide-word Inv-loop μ-loop
-mul-wide-word c = omega (arith, c .before .before .before .before .before .pre .room, c .loop-test .taken)
+mul-entry-in : tie.Need-mul-entry-in Inv-loop μ-loop
+mul-entry-in c = omega (arith, c .before .before .before .before .before .pre .room, c .loop-test .taken)
 
-shared-slice-read-wide-word : tie.Need-shared-slice-read-wide-word Inv-loop μ-loop
-shared-slice-read-wide-word c = omega (arith, c .before .before .before .before .before .before .pre .room, c .before .loop-test .taken)
+shared-slice-read-entry-in : tie.Need-shared-slice-read-entry-in Inv-loop μ-loop
+shared-slice-read-entry-in c = omega (arith, c .before .before .before .before .before .before .pre .room, c .before .loop-test .taken)
 
-wide-word-requires : tie.Need-wide-word-requires Inv-loop μ-loop
-wide-word-requires c κs = search needs
+entry-in-requires : tie.Need-entry-in-requires Inv-loop μ-loop
+entry-in-requires c κs = search needs
 
 picks-requires : tie.Need-picks-requires Inv-loop μ-loop
 picks-requires c κs =
     let h = c .before .before .before .before .before .before .before .pre .entry _ (c .before .before .before .loop .inv .from) (c .before .before .loop-test .taken) in
-    (omega (arith, h, c .wide-word .ensures), omega (arith, h, c .wide-word .ensures, c .before .before .before .before .before .before .before .pre .same))
+    (omega (arith, h, c .entry-in .ensures), omega (arith, h, c .entry-in .ensures, c .before .before .before .before .before .before .before .pre .same))
 
 mul-wide-short : tie.Need-mul-wide-short Inv-loop μ-loop
 mul-wide-short c =
-    let at-wide-word = c .before .before in
-    let at-loop-test = at-wide-word .before .before in
+    let at-entry-in = c .before .before in
+    let at-loop-test = at-entry-in .before .before in
     let at-loop = at-loop-test .before in
     let start = at-loop .before .before .before .before in
     let h = start .pre .entry _ (at-loop .loop .inv .from) (at-loop-test .loop-test .taken) in
-    omega (arith, h, at-wide-word .wide-word .ensures, start .pre .same)
+    omega (arith, h, at-entry-in .entry-in .ensures, start .pre .same)
 
 shared-slice-read-wide-short : tie.Need-shared-slice-read-wide-short Inv-loop μ-loop
 shared-slice-read-wide-short c =
-    let at-wide-word = c .before .before .before in
-    let at-loop-test = at-wide-word .before .before in
+    let at-entry-in = c .before .before .before in
+    let at-loop-test = at-entry-in .before .before in
     let at-loop = at-loop-test .before in
     let start = at-loop .before .before .before .before in
     let h = start .pre .entry _ (at-loop .loop .inv .from) (at-loop-test .loop-test .taken) in
-    omega (arith, h, at-wide-word .wide-word .ensures, start .pre .same)
+    omega (arith, h, at-entry-in .entry-in .ensures, start .pre .same)
 
 wide-short-requires : tie.Need-wide-short-requires Inv-loop μ-loop
 wide-short-requires c κs = search needs
@@ -58,12 +58,12 @@ returns : tie.Need-returns Inv-loop μ-loop
 returns c =
     let at-if1 = c .before .before in
     let at-picks = at-if1 .before in
-    let at-wide-word = at-picks .before in
-    let at-loop-test = at-wide-word .before .before in
+    let at-entry-in = at-picks .before in
+    let at-loop-test = at-entry-in .before .before in
     let at-loop = at-loop-test .before in
     let at-args = at-loop .before .before .before .before in
     let a = at-args .args in
-    place-hit (a .near .now) (a .far .now) (a .u .now) (a .from) (a .i) (at-loop .loop .inv) (at-loop-test .loop-test .taken) _ (at-wide-word .wide-word .ensures) (at-picks .picks .ensures)
+    place-hit (a .near .now) (a .far .now) (a .u .now) (a .from) (a .i) (at-loop .loop .inv) (at-loop-test .loop-test .taken) _ (at-entry-in .entry-in .ensures) (at-picks .picks .ensures)
     (at-if1 .if1 .taken) (c .wide-short .ensures)
 
 add-p : tie.Need-add-p Inv-loop μ-loop
@@ -75,12 +75,12 @@ loop-less c = search needs
 loop-again : tie.Need-loop-again Inv-loop μ-loop
 loop-again c =
     let at-picks = c .before in
-    let at-wide-word = at-picks .before in
-    let at-loop-test = at-wide-word .before .before in
+    let at-entry-in = at-picks .before in
+    let at-loop-test = at-entry-in .before .before in
     let at-loop = at-loop-test .before in
     let at-args = at-loop .before .before .before .before in
     let a = at-args .args in
-    place-miss (a .near .now) (a .far .now) (a .u .now) (a .from) (a .i) (at-loop .loop .inv) (at-loop-test .loop-test .taken) _ (at-wide-word .wide-word .ensures)
+    place-miss (a .near .now) (a .far .now) (a .u .now) (a .from) (a .i) (at-loop .loop .inv) (at-loop-test .loop-test .taken) _ (at-entry-in .entry-in .ensures)
     (at-picks .picks .ensures) (c .if1 .left)
 
 returns-2 : tie.Need-returns-2 Inv-loop μ-loop
@@ -93,10 +93,10 @@ next-place-spec =
     Inv-loop
     μ-loop
     loop-holds
-    add-wide-word
-    mul-wide-word
-    shared-slice-read-wide-word
-    wide-word-requires
+    add-entry-in
+    mul-entry-in
+    shared-slice-read-entry-in
+    entry-in-requires
     picks-requires
     mul-wide-short
     shared-slice-read-wide-short

@@ -2,7 +2,7 @@
 use Prim.Native.Nat.{_-_}
 use native.Mathlib.Omega.{arith}
 use Rattle.places.proofs.Walk.{walk-turn}
-use Rattle.workspace.proofs.Backed.{Backing, back-start, back-end, back-asks, back-turn, back-done}
+use Rattle.workspace.proofs.Backed.{Backing, back-start, back-asks, back-turn, back-done}
 use borrow.Author.Needs.{needs}
 use Rattle.workspace.proofs.restoring.back.Statement.{statement}
 use Rattle.workspace.proofs.restoring.back.Tie as tie
@@ -42,46 +42,32 @@ loop-holds c =
     let start = at-wide-word .before .before .before .before .before .before in
     back-start (start .pre .0) (start .pre .1) (at-wide-word .wide-word .ensures) (c .wide-word2 .ensures)
 
-add-wide-word-2 : tie.Need-add-wide-word-2 Inv-loop μ-loop
-add-wide-word-2 c = omega (arith, walk-turn (c .before .loop .inv .along .walk) (c .loop-test .taken) .index)
+add-end-in : tie.Need-add-end-in Inv-loop μ-loop
+add-end-in c = omega (arith, walk-turn (c .before .loop .inv .along .walk) (c .loop-test .taken) .index)
 
-add-wide-word-3 : tie.Need-add-wide-word-3 Inv-loop μ-loop
-add-wide-word-3 c = omega (arith, walk-turn (c .before .loop .inv .along .walk) (c .loop-test .taken) .index)
+add-end-in-2 : tie.Need-add-end-in-2 Inv-loop μ-loop
+add-end-in-2 c = omega (arith, walk-turn (c .before .loop .inv .along .walk) (c .loop-test .taken) .index)
 
-mul-wide-word-3 : tie.Need-mul-wide-word-3 Inv-loop μ-loop
-mul-wide-word-3 c = omega (arith, walk-turn (c .before .loop .inv .along .walk) (c .loop-test .taken) .index)
+mul-end-in : tie.Need-mul-end-in Inv-loop μ-loop
+mul-end-in c = omega (arith, walk-turn (c .before .loop .inv .along .walk) (c .loop-test .taken) .index)
 
-shared-slice-read-wide-word-3 : tie.Need-shared-slice-read-wide-word-3 Inv-loop μ-loop
-shared-slice-read-wide-word-3 c = walk-turn (c .before .before .loop .inv .along .walk) (c .before .loop-test .taken) .index
+shared-slice-read-end-in : tie.Need-shared-slice-read-end-in Inv-loop μ-loop
+shared-slice-read-end-in c = walk-turn (c .before .before .loop .inv .along .walk) (c .before .loop-test .taken) .index
 
-wide-word-requires-3 : tie.Need-wide-word-requires-3 Inv-loop μ-loop
-wide-word-requires-3 c κs = search needs
-
-other-end-requires : tie.Need-other-end-requires Inv-loop μ-loop
-other-end-requires c κs = back-end (c .before .before .before .loop .inv) (c .before .before .loop-test .taken) (c .wide-word3 .ensures)
+end-in-requires : tie.Need-end-in-requires Inv-loop μ-loop
+end-in-requires c κs = search needs
 
 back-at-requires : tie.Need-back-at-requires Inv-loop μ-loop
-back-at-requires c κs =
-    let at-other-end = c .before in
-    let at-wide-word3 = at-other-end .before in
-    let at-loop-test = at-wide-word3 .before .before in
-    let at-loop = at-loop-test .before in
-    back-asks (at-loop .loop .inv) (at-loop-test .loop-test .taken) (at-wide-word3 .wide-word3 .ensures) (at-other-end .other-end .ensures)
+back-at-requires c κs = back-asks (c .before .before .before .before .loop .inv) (c .before .before .before .loop-test .taken) (c .before .end-in .ensures)
 
 add-p : tie.Need-add-p Inv-loop μ-loop
 add-p c = omega arith
 
 loop-less : tie.Need-loop-less Inv-loop μ-loop
-loop-less c = omega (arith, c .before .before .before .before .before .before .before .loop-test .taken)
+loop-less c = omega (arith, c .before .before .before .before .before .before .loop-test .taken)
 
 loop-again : tie.Need-loop-again Inv-loop μ-loop
-loop-again c =
-    let at-back-at = c .before .before in
-    let at-other-end = at-back-at .before .before in
-    let at-wide-word3 = at-other-end .before in
-    let at-loop-test = at-wide-word3 .before .before in
-    let at-loop = at-loop-test .before in
-    back-turn (at-loop .loop .inv) (at-loop-test .loop-test .taken) (at-wide-word3 .wide-word3 .ensures) (at-other-end .other-end .ensures) (at-back-at .back-at .ensures)
+loop-again c = back-turn (c .before .before .before .before .before .before .before .loop .inv) (c .before .before .before .before .before .before .loop-test .taken) (c .before .before .before .before .end-in .ensures) (c .before .before .back-at .ensures)
 
 same-length : tie.Need-same-length Inv-loop μ-loop
 same-length c = c .before .loop .inv .long
@@ -103,12 +89,11 @@ back-spec =
     shared-slice-read-wide-word-2
     wide-word-requires-2
     loop-holds
-    add-wide-word-2
-    add-wide-word-3
-    mul-wide-word-3
-    shared-slice-read-wide-word-3
-    wide-word-requires-3
-    other-end-requires
+    add-end-in
+    add-end-in-2
+    mul-end-in
+    shared-slice-read-end-in
+    end-in-requires
     back-at-requires
     add-p
     loop-less
