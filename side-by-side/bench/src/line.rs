@@ -77,6 +77,29 @@ impl Line {
     }
 }
 
+impl Line {
+    /// A line that was printed plainly; the names are those of the tables.
+    pub fn read(text: &str, name: fn(&str) -> &'static str) -> Self {
+        let words: Vec<_> = text.split('\t').collect();
+        let number = |at: usize| words[at].parse::<usize>().expect("a number");
+        let time = |at: usize| {
+            let micros = words[at].parse::<f64>().ok()?;
+            Some(Duration::from_nanos((micros * 1_000.0).round() as u64))
+        };
+        Self {
+            call: name(words[0]),
+            shape: name(words[1]),
+            n: number(2),
+            m: number(3),
+            rust: time(4),
+            port: time(5).expect("a time"),
+            runs: number(6),
+            depth: number(7),
+            floor: time(8),
+        }
+    }
+}
+
 impl fmt::Display for Line {
     fn fmt(&self, out: &mut fmt::Formatter<'_>) -> fmt::Result {
         write!(

@@ -1,7 +1,8 @@
 //! Times the Rust text and the port in one process on the same fields, after comparing their answers, and prints Markdown tables.
-//! Usage: bench [calls | fields FOLDER]
+//! Usage: bench [calls | fields FOLDER | tables]
 //! CALLS, SHAPES and SIZES name what is measured, with commas, all where they are not set, and MILLISECONDS the time for each side;
-//! with OUTPUT=lines each line is printed plainly. With `calls` the calls' names are printed, with `fields` the fields are written into the folder, as toulbar2 reads them.
+//! with OUTPUT=lines each line is printed plainly. With `calls` the calls' names are printed, with `fields` the fields are written into the folder, as toulbar2 reads them, and
+//! with `tables` plain lines that were measured before are read from standard input, and their tables printed.
 
 mod aims;
 mod calls;
@@ -30,12 +31,26 @@ fn main() {
         None => |_| measure_all(),
         Some("calls") => |_| CALLS.iter().for_each(|call| println!("{}", call.name)),
         Some("fields") => |words| toulbar2::write(Path::new(&words[1])),
+        Some("tables") => |_| tables::print(&read_all()),
         Some(word) => panic!("no such word: {word}"),
     };
     // A thread whose stack is there from the start, so that it can be painted.
     let thread = std::thread::Builder::new().stack_size(1 << 24);
     let done = thread.spawn(move || work(words)).expect("a thread").join();
     std::process::exit(i32::from(done.is_err()));
+}
+
+/// The plain lines of standard input.
+fn read_all() -> Vec<Line> {
+    let name = |word: &str| {
+        let calls = CALLS.iter().map(|call| call.name);
+        let mut names = calls.chain(SHAPES).chain(RULES);
+        names.find(|&name| name == word).expect("a call or a shape")
+    };
+    let lines = std::io::stdin().lines();
+    lines
+        .map(|line| Line::read(&line.expect("a line"), name))
+        .collect()
 }
 
 /// Whether a variable of the environment, a list with commas, names the word; all words where it is not set.
