@@ -6,4 +6,4 @@ usage='usage: compare.sh SEED COUNT [RUST_TEXT_FOLDER]'
 seed=${1:?$usage}
 count=${2:?$usage}
 cd "$(dirname "$0")"
-CALLS=${CALLS:-closure,components,preprocess,heavy,single-probe,cold-probe,probe,limited-probe,pairs,propagation,anchors,no-effect,shift,sub-problem,mend,reason,keep,allow} exec side-by-side/compare "$seed" "$count" "${3:-../shared/docs/src}" -- tools/run replay
+CALLS=${CALLS:-closure,components,preprocess,heavy,single-probe,cold-probe,probe,limited-probe,pairs,propagation,anchors,no-effect,shift,sub-problem,mend,reason,keep,cold-full,cold-limited,allow} exec side-by-side/compare "$seed" "$count" "${3:-../shared/docs/src}" -- tools/run replay

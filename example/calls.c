@@ -67,12 +67,19 @@ int main(void)
     print("probe_one", answer, "values", values[0], values[1]);
     answer = ombradiec_probe_one(FIELD, SLICE(free_both), 0, 2, SLICE(values), SCRATCH);
     print("probe_one", answer, "values", values[0], values[1]);
+    answer = ombradiec_cold_probe_one(FIELD, SLICE(free_both), 0, 1, SLICE(values), SCRATCH);
+    print("cold_probe_one", answer, "values", values[0], values[1]);
 
     answer = ombradiec_probe(FIELD, SLICE(free_both), SLICE(values), SLICE(constraints), SCRATCH);
     print("probe", answer, "ends", constraints[0], constraints[1]);
     printf("  set %d, values %d %d\n", constraints[2], values[0], values[1]);
     answer = ombradiec_probe_limited(FIELD, SLICE(free_both), 0, SLICE(values), SLICE(constraints), SCRATCH);
     print("probe_limited", answer, "values", values[0], values[1]);
+    answer = ombradiec_cold_probe(FIELD, SLICE(free_both), SLICE(values), SLICE(constraints), SCRATCH);
+    print("cold_probe", answer, "ends", constraints[0], constraints[1]);
+    printf("  set %d, values %d %d\n", constraints[2], values[0], values[1]);
+    answer = ombradiec_cold_probe_limited(FIELD, SLICE(free_both), 0, SLICE(values), SLICE(constraints), SCRATCH);
+    print("cold_probe_limited", answer, "values", values[0], values[1]);
 
     const double none[2] = {0, -0.0};
     answer = ombradiec_no_effect(none, 2, rows, 0, cols, 0, q, 0, SLICE(list), SLICE(words));

@@ -190,6 +190,14 @@ ombradiec_answer ombradiec_probe_one(const double *c, size_t c_len, const uint16
                                      uint8_t *values, size_t values_len, double *f, size_t f_len, uint32_t *u,
                                      size_t u_len);
 
+/* The same with rows made afresh, as a second opinion on ombradiec_probe_one, which goes over remembered rows: on every field
+ * and on every refusal the answers are equal. */
+ombradiec_answer ombradiec_cold_probe_one(const double *c, size_t c_len, const uint16_t *rows, size_t rows_len,
+                                          const uint16_t *cols, size_t cols_len, const double *q, size_t q_len,
+                                          const uint8_t *start, size_t start_len, size_t variable, uint8_t value,
+                                          uint8_t *values, size_t values_len, double *f, size_t f_len, uint32_t *u,
+                                          size_t u_len);
+
 /* The grounds of a value: given with the start values; a lower bound above 0, so that 1 would cost more, which makes it 0;
  * an upper bound below 0, which makes it 1. */
 #define OMBRADIEC_GIVEN 0
@@ -213,12 +221,27 @@ ombradiec_answer ombradiec_probe(const double *c, size_t c_len, const uint16_t *
                                  uint8_t *values, size_t values_len, uint16_t *constraints,
                                  size_t constraints_len, double *f, size_t f_len, uint32_t *u, size_t u_len);
 
+/* The same with rows made afresh for every probe, as a second opinion: equal answers, in the time of 2k closures for k free
+ * variables. */
+ombradiec_answer ombradiec_cold_probe(const double *c, size_t c_len, const uint16_t *rows, size_t rows_len,
+                                      const uint16_t *cols, size_t cols_len, const double *q, size_t q_len,
+                                      const uint8_t *start, size_t start_len,
+                                      uint8_t *values, size_t values_len, uint16_t *constraints,
+                                      size_t constraints_len, double *f, size_t f_len, uint32_t *u, size_t u_len);
+
 /* The same of up to `candidates` free variables, those of the greatest sum of |q| over entries with both ends free. */
 ombradiec_answer ombradiec_probe_limited(const double *c, size_t c_len, const uint16_t *rows, size_t rows_len,
                                          const uint16_t *cols, size_t cols_len, const double *q, size_t q_len,
                                          const uint8_t *start, size_t start_len, size_t candidates,
                                          uint8_t *values, size_t values_len, uint16_t *constraints,
                                          size_t constraints_len, double *f, size_t f_len, uint32_t *u, size_t u_len);
+
+/* The same with rows made afresh for every probe. */
+ombradiec_answer ombradiec_cold_probe_limited(const double *c, size_t c_len, const uint16_t *rows, size_t rows_len,
+                                              const uint16_t *cols, size_t cols_len, const double *q, size_t q_len,
+                                              const uint8_t *start, size_t start_len, size_t candidates,
+                                              uint8_t *values, size_t values_len, uint16_t *constraints,
+                                              size_t constraints_len, double *f, size_t f_len, uint32_t *u, size_t u_len);
 
 /* Puts every value that the constraints imply into `start`, or answers OMBRADIEC_CLASH; there is no field and no grade.
  * The records need be neither sorted nor merged; one with all four bits clashes once either variable has a value. */

@@ -36,14 +36,6 @@ fn on_values(call: OnValues, field: &Field, start: &mut Values, scratch: &mut Sc
     on_field!(call, field, start.as_mut_ptr(), start.len(), f.as_mut_ptr(), f.len(), u.as_mut_ptr(), u.len())
 }
 
-/// After [`Refusal::Room`] the library's value list is all zeros, which would read as found: all of it is freed.
-fn freed(answer: Result<Done, Refusal>, values: &mut Values) -> Result<Done, Refusal> {
-    if answer == Err(Refusal::Room) {
-        values.clear();
-    }
-    answer
-}
-
 /// Puts every value that the gradient forces into `start`. On an exact field every best completion has them. Counts the free
 /// variables whose row is flat at the end, with both bounds 0: given the values so far, either value costs nothing.
 ///
@@ -314,44 +306,6 @@ pub fn pairs(
     )
 }
 
-/// Puts what the closure finds with one more value given into `values`, without the start values, which do not change. On an
-/// exact field every best completion that has this value has the found ones.
-///
-/// ```
-/// use ombradiec::{probe_one, Field, Scratch, Values};
-/// let mut values = Values::free(2);
-/// let field = Field::new(&[-1.0, -1.0], &[(0, 1, 4.0)]);
-/// probe_one(&field, &Values::free(2), 0, true, &mut values, &mut Scratch::new())?;
-/// assert_eq!(values.given().collect::<Vec<_>>(), [(0, true), (1, false)]);
-/// # Ok::<(), ombradiec::Refusal>(())
-/// ```
-pub fn probe_one(
-    field: &Field,
-    start: &Values,
-    variable: usize,
-    value: bool,
-    values: &mut Values,
-    scratch: &mut Scratch,
-) -> Result<Done, Refusal> {
-    let (f, u) = scratch.lend(field.variables(), field.quad.len());
-    let found = &mut values.0;
-    let answer = on_field!(
-        ombradiec_probe_one,
-        field,
-        start.0.as_ptr(),
-        start.0.len(),
-        variable,
-        value.into(),
-        found.as_mut_ptr(),
-        found.len(),
-        f.as_mut_ptr(),
-        f.len(),
-        u.as_mut_ptr(),
-        u.len()
-    );
-    freed(answer, values)
-}
-
 /// Says why a variable has its value in the closure, which is not written: its ground with the bound, and at the front of
 /// `list` the neighbours whose values the bound counts as fixed, rising. With these values alone, and all else free, the bound
 /// is strict; each of them is given, or was forced earlier in the run. The list may hold neighbours that the bound could do
@@ -402,87 +356,6 @@ pub fn reason(
         )
     };
     read_reason(answer, bound)
-}
-
-/// Puts what both probes of every free variable find into `values`, and at the front of `constraints`, one for one pair and
-/// rising by it; counts the constraints. On an exact field every best completion obeys both.
-///
-/// ```
-/// use ombradiec::{probe, Constraint, Field, Kind, Scratch, Values};
-/// let (mut values, mut constraints) = (Values::free(2), [Constraint::default(); 2]);
-/// let field = Field::new(&[-1.0, -1.0], &[(0, 1, 4.0)]);
-/// let done = probe(&field, &Values::free(2), &mut values, &mut constraints, &mut Scratch::new())?;
-/// assert_eq!(constraints[..done.count], [Constraint::new(0, 1, Kind::ExactlyOne)]);
-/// assert_eq!(values, Values::free(2));
-/// # Ok::<(), ombradiec::Refusal>(())
-/// ```
-pub fn probe(
-    field: &Field,
-    start: &Values,
-    values: &mut Values,
-    constraints: &mut [Constraint],
-    scratch: &mut Scratch,
-) -> Result<Done, Refusal> {
-    let (f, u) = scratch.lend(field.variables(), field.quad.len());
-    let found = &mut values.0;
-    // A constraint is three u16 and nothing else.
-    let (records, records_len) = (constraints.as_mut_ptr().cast(), 3 * constraints.len());
-    let answer = on_field!(
-        ombradiec_probe,
-        field,
-        start.0.as_ptr(),
-        start.0.len(),
-        found.as_mut_ptr(),
-        found.len(),
-        records,
-        records_len,
-        f.as_mut_ptr(),
-        f.len(),
-        u.as_mut_ptr(),
-        u.len()
-    );
-    freed(answer, values)
-}
-
-/// The same as [`probe`] of up to `candidates` free variables, those of the greatest sum of |q| over entries with both ends
-/// free.
-///
-/// ```
-/// use ombradiec::{probe_limited, Constraint, Field, Scratch, Values};
-/// let (mut values, mut constraints) = (Values::free(2), [Constraint::default(); 2]);
-/// let field = Field::new(&[-1.0, -1.0], &[(0, 1, 4.0)]);
-/// let done = probe_limited(&field, &Values::free(2), 0, &mut values, &mut constraints, &mut Scratch::new())?;
-/// assert_eq!(done.count, 0);
-/// # Ok::<(), ombradiec::Refusal>(())
-/// ```
-pub fn probe_limited(
-    field: &Field,
-    start: &Values,
-    candidates: usize,
-    values: &mut Values,
-    constraints: &mut [Constraint],
-    scratch: &mut Scratch,
-) -> Result<Done, Refusal> {
-    let (f, u) = scratch.lend(field.variables(), field.quad.len());
-    let found = &mut values.0;
-    // A constraint is three u16 and nothing else.
-    let (records, records_len) = (constraints.as_mut_ptr().cast(), 3 * constraints.len());
-    let answer = on_field!(
-        ombradiec_probe_limited,
-        field,
-        start.0.as_ptr(),
-        start.0.len(),
-        candidates,
-        found.as_mut_ptr(),
-        found.len(),
-        records,
-        records_len,
-        f.as_mut_ptr(),
-        f.len(),
-        u.as_mut_ptr(),
-        u.len()
-    );
-    freed(answer, values)
 }
 
 /// Puts every value that the constraints imply into `start`, or finds that they clash; then `start` does not change. There is

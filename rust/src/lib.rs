@@ -25,15 +25,17 @@
 #![deny(missing_docs)]
 
 mod answer;
+#[macro_use]
 mod calls;
 mod field;
 mod kept;
 mod library;
+mod probes;
 
 pub use answer::{Allowed, Change, Done, Grade, Ground, Reason, Refusal, SubProblem};
 pub use calls::{
-    allow, anchors, closure, components, heavy, mend, no_effect, pairs, preprocess, probe, probe_limited, probe_one,
-    propagate, reason, shift, sub_problem,
+    allow, anchors, closure, components, heavy, mend, no_effect, pairs, preprocess, propagate, reason, shift, sub_problem,
 };
 pub use field::{Constraint, Field, Kind, Scratch, Values};
 pub use kept::Kept;
+pub use probes::{cold_probe, cold_probe_limited, cold_probe_one, probe, probe_limited, probe_one};

@@ -164,8 +164,8 @@ pub fn make(
     if code <= PREPROCESS {
         return in_start(code, c, rows, cols, q, start, f, u);
     }
-    if code <= COLD_PROBE {
-        return answered(probe::probe_one(
+    if code == COLD_PROBE {
+        return answered(probe::cold_probe_one(
             c,
             rows,
             cols,

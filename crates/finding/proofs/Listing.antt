@@ -34,11 +34,11 @@ chosen-more : (t : List ℕ) (least : ℕ) (u : List ℕ) (from k d : ℕ) → c
 chosen-more t least u from k zero = rw (add-zero k) (le-refl (chosenTo t least u from k))
 chosen-more t least u from k (suc d) = rw (add-suc k d) (omega (arith, chosen-more t least u from k d, chosen-step t least u from (k + d)))
 
-finding-small : (s t : List ℕ) (i first : ℕ) (u : List ℕ) (j : ℕ) → i < 4096 → j < 4096 → SmallFinding (findingIn s t i first u j)
+pub finding-small : (s t : List ℕ) (i first : ℕ) (u : List ℕ) (j : ℕ) → i < 4096 → j < 4096 → SmallFinding (findingIn s t i first u j)
 unfolding findingIn
 finding-small s t i first u j a b = found-small i j a b (givesAt i j (getD s j 0) (getD u (first + j) 0)) (givesAt i j (getD s j 0) (getD t j 0))
 
-finding-same : (s t : List ℕ) (i first : ℕ) (u u′ : List ℕ) (j : ℕ) → getD u′ (first + j) 0 ≡ getD u (first + j) 0 → findingIn s t i first u′ j ≡ findingIn s t i first u j
+pub finding-same : (s t : List ℕ) (i first : ℕ) (u u′ : List ℕ) (j : ℕ) → getD u′ (first + j) 0 ≡ getD u (first + j) 0 → findingIn s t i first u′ j ≡ findingIn s t i first u j
 unfolding findingIn
 finding-same s t i first u u′ j e = rw e
 

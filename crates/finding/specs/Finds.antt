@@ -4,13 +4,12 @@ use mathlib.Core.Path.{_≡_}
 use mathlib.Core.Bool.{cond}
 use mathlib.Core.List.{List, [], _∷_}
 use lib.Dec.{eqb, ltb}
-use lib.ListN.{length, getD, set, replicate}
+use lib.ListN.{length, getD, replicate}
 use Rattle.meaning.specs.Records.{Record, recordOf}
 use Rattle.constraints.specs.Keys.{keyOf}
 use Rattle.field.specs.Field.{Field, variables}
 use Rattle.rows.specs.Stored.{upTo}
-use Rattle.run.specs.Run.{closure}
-use Rattle.probe.specs.Call.{newAt}
+use Rattle.probe.specs.Call.{newAt, Route, cold}
 use Rattle.probe.specs.Found.{Finding, nothing, value, constraint, found}
 
 -- ---- a finding
@@ -47,9 +46,13 @@ givesAt i j s v = cond (eqb i j) 2 (newAt s v)
 unfoldable pub findingOf : List ℕ → ℕ → List ℕ → List ℕ → ℕ → Finding
 findingOf s i t t′ j = found i j (givesAt i j (getD s j 0) (getD t j 0)) (givesAt i j (getD s j 0) (getD t′ j 0))
 
+-- what is found of j by the probes of i, worked by the route R
+unfoldable pub findingBy : Route → Field → List ℕ → ℕ → ℕ → Finding
+findingBy R F s i j = findingOf s i (R F s i 0) (R F s i 1) j
+
 -- "gives the closure of the start values with its one value added"
-unfoldable pub finding : Field → List ℕ → ℕ → ℕ → Finding
-finding F s i j = findingOf s i (closure F (set s i 0)) (closure F (set s i 1)) j
+abbrev pub finding : Field → List ℕ → ℕ → ℕ → Finding
+finding = findingBy cold
 
 -- the records of what is found of the variables below k, before those in l
 unfoldable pub recordsTo : (ℕ → Finding) → List Record → ℕ → List Record
@@ -62,11 +65,17 @@ valuesAfter g old = upTo (λ j. wins (g j) (getD old j 0)) (length old)
 
 -- ---- the first k candidates of a list, one after the other
 
-unfoldable pub recordsOf : Field → List ℕ → List ℕ → ℕ → List Record
-recordsOf F s cands zero = []
-recordsOf F s cands (suc k) = recordsTo (finding F s (getD cands k 0)) (recordsOf F s cands k) (variables F)
+unfoldable pub recordsFoundBy : Route → Field → List ℕ → List ℕ → ℕ → List Record
+recordsFoundBy R F s cands zero = []
+recordsFoundBy R F s cands (suc k) = recordsTo (findingBy R F s (getD cands k 0)) (recordsFoundBy R F s cands k) (variables F)
+
+abbrev pub recordsOf : Field → List ℕ → List ℕ → ℕ → List Record
+recordsOf = recordsFoundBy cold
 
 -- "A value list holds 2 where no value is found"
-unfoldable pub valuesOf : Field → List ℕ → List ℕ → ℕ → List ℕ
-valuesOf F s cands zero = replicate (variables F) 2
-valuesOf F s cands (suc k) = valuesAfter (finding F s (getD cands k 0)) (valuesOf F s cands k)
+unfoldable pub valuesFoundBy : Route → Field → List ℕ → List ℕ → ℕ → List ℕ
+valuesFoundBy R F s cands zero = replicate (variables F) 2
+valuesFoundBy R F s cands (suc k) = valuesAfter (findingBy R F s (getD cands k 0)) (valuesFoundBy R F s cands k)
+
+abbrev pub valuesOf : Field → List ℕ → List ℕ → ℕ → List ℕ
+valuesOf = valuesFoundBy cold

@@ -51,7 +51,7 @@ fn enter(u: &mut [u32], i: u16, j: u16, v: u32, w: u32, place: usize, end: usize
 }
 
 // What is found of variable j.
-fn emit(
+pub fn emit(
     start: &[u8],
     values: &[u8],
     u: &mut [u32],

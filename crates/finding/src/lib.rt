@@ -1,3 +1,3 @@
 // What both probes of one candidate find, by numbers, and how it goes into scratch.
 pub mod emitting;
-mod rule;
+pub mod rule;

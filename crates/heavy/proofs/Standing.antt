@@ -20,7 +20,7 @@ use Rattle.twin.specs.Twin.{firstAt}
 use Rattle.twin.proofs.Framed.{remembers-front}
 use Rattle.walking.specs.Walk.{candidatesAt, gatherAt, Walkable}
 use Rattle.ranking.specs.Listed.{Listed}
-use Rattle.probes.specs.Call.{allValues}
+use Rattle.probes.specs.Call.{allValuesBy}
 use Rattle.probes.specs.Standing.{Noned}
 use Rattle.heavy.specs.Rounds.{probeValues}
 
@@ -69,5 +69,5 @@ module _ {F : Field} {s : List ℕ} {f : List Float} {u u₁ u₂ : List ℕ} {k
   }
 
   pub all-walked : {t : List ℕ} → t ≡ valuesOf F s (region (candidatesAt F) count u₂) (length (region (candidatesAt F) count u₂)) → t ≡ probeValues F s
-  unfolding probeValues allValues
+  unfolding probeValues allValuesBy
   all-walked e = e ∙ ap (λ (z : List ℕ). valuesOf F s z (length z)) candidates

@@ -19,12 +19,12 @@ use Rattle.rows.proofs.Upto.{length-upTo, getD-upTo}
 use Rattle.run.specs.Run.{closure}
 use Rattle.no_effect.specs.Effect.{hasNoEffect}
 use Rattle.probe.specs.Found.{found}
-use Rattle.finding.specs.Finds.{wins, givesAt, findingOf, finding, valuesAfter, valuesOf}
+use Rattle.finding.specs.Finds.{wins, givesAt, findingOf, finding, findingBy, valuesAfter, valuesOf, valuesFoundBy}
 use Rattle.preprocess.specs.Working.{preprocess}
 use Rattle.preprocess.specs.Elsewhere.{SameElsewhere}
 use Rattle.preprocess.proofs.Blind.{closure-blind}
 use Rattle.preprocess.proofs.Unseen.{preprocess-blind, frees-alike}
-use Rattle.probes.specs.Call.{allValues}
+use Rattle.probes.specs.Call.{allValuesBy}
 use Rattle.heavy.specs.Rounds.{laidAt, laidOver, probeValues, round, allRounds, heavy}
 use Rattle.heavy.specs.Call.{heavyCall}
 use Rattle.heavy.proofs.Added.{round-sound, rounds-are}
@@ -59,14 +59,14 @@ free-same s s′ same (suc n) = rw (free-same s s′ same n, same n) refl
 
 module _ {F : Field} (S : Shaped F) {s s′ : List ℕ} (E : SameElsewhere F s s′) where
   finding-same : (i j : ℕ) → hasNoEffect F j ≡ false → finding F s′ i j ≡ finding F s i j
-  unfolding finding findingOf
+  unfolding findingBy findingOf
   finding-same i j e =
       let put : (v : ℕ) → getD (closure F (set s′ i v)) j 0 ≡ getD (closure F (set s i v)) j 0
       = λ v. closure-blind S (set s i v) (set s′ i v) (set-elsewhere E i v .long) (set-elsewhere E i v .at) j e in
       rw (put 0, put 1, E .at j e) refl
 
   values-same : (cands : List ℕ) (k : ℕ) → SameElsewhere F (valuesOf F s cands k) (valuesOf F s′ cands k)
-  unfolding valuesOf valuesAfter
+  unfolding valuesFoundBy valuesAfter
   values-same cands zero = record { long = refl; at = λ j e. refl }
   values-same cands (suc k) = go (valuesOf F s cands k) (valuesOf F s′ cands k) (values-same cands k)
     where
@@ -78,7 +78,7 @@ module _ {F : Field} (S : Shaped F) {s s′ : List ℕ} (E : SameElsewhere F s s
       }
 
   probe-same : ((i : ℕ) → isFree s′ i ≡ isFree s i) → SameElsewhere F (probeValues F s) (probeValues F s′)
-  unfolding probeValues allValues
+  unfolding probeValues allValuesBy
   probe-same free = rw (free-same s s′ free (variables F)) (values-same (freeTo s (variables F)) (length (freeTo s (variables F))))
 
 laid-same : {F : Field} {t t′ s s′ : List ℕ} → SameElsewhere F t t′ → SameElsewhere F s s′ → SameElsewhere F (laidOver t s) (laidOver t′ s′)

@@ -60,6 +60,10 @@ pub const REASON: u8 = 16;
 
 pub const KEEP: u8 = 17;
 
+pub const COLD_FULL: u8 = 18;
+
+pub const COLD_LIMITED: u8 = 19;
+
 pub const ALLOW: u8 = 20;
 
 // The number of a call that is not here.
@@ -418,6 +422,17 @@ fn put_answers(
     put_variables(out, ground, code, outcome, list)
 }
 
+// The code whose line a call has: the cold probes of many candidates have the lines of the fast ones.
+fn shown_as(code: u8) -> u8 {
+    if code == COLD_FULL {
+        return PROBE;
+    }
+    if code == COLD_LIMITED {
+        return LIMITED_PROBE;
+    }
+    code
+}
+
 // The whole line of a call that keeps the field; the start values stood in the contents from `at` on.
 pub fn put_line(
     out: &mut [u8],
@@ -435,8 +450,9 @@ pub fn put_line(
     requires { ⌜ at + length (now start) ≤ length (now contents) ⌝ }
     ensures { λ r. ⌜ r ≤ length (after out) ⌝ }
 {
-    let begun = put_outcome(out, used, code, outcome);
-    let values = put_values(out, begun, code, outcome.number, contents, at, start);
-    let answers = put_answers(out, values, code, outcome, found, list);
-    put_scratch(out, answers, code, outcome.number, f, u)
+    let shown = shown_as(code);
+    let begun = put_outcome(out, used, shown, outcome);
+    let values = put_values(out, begun, shown, outcome.number, contents, at, start);
+    let answers = put_answers(out, values, shown, outcome, found, list);
+    put_scratch(out, answers, shown, outcome.number, f, u)
 }

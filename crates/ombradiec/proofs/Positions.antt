@@ -70,7 +70,7 @@ module _ (g : values.Values) (F : Field) (s : List ℕ) (f : List Float) (u : Li
 
 module _ (F : Field) (s : List ℕ) (i v : ℕ) (t : List ℕ) (f : List Float) (u : List ℕ) where
   pub probe-one-fits : answerCount (probing.probeOneCall F s i v t f u .answer) < 0x1000_0000
-  unfolding probing.probeOneCall
+  unfolding probing.probeOneBy
   probe-one-fits =
       answer-has Refused _ (probing.probeTests F s i v (length f) (length u)) _ _ (λ a. answerCount a < 0x1000_0000)
       (λ r e. omega (arith, probe-near F s i v (length f) (length u) r e)) (omega arith, tt) (λ e. omega arith)

@@ -20,8 +20,8 @@ use Rattle.probe.specs.Found.{Finding, nothing, value, constraint}
 use Rattle.sorting.proofs.Numbers.{merged-length}
 use Rattle.ranking.specs.Ranking.{ranks, ahead, massOf}
 use Rattle.ranking.proofs.Ordered.{ordered-length}
-use Rattle.finding.specs.Finds.{added, finding, recordsTo, recordsOf}
-use Rattle.probes.specs.Call.{allRecords, Left, left, candidatesCall, probeCall, probeLimitedCall}
+use Rattle.finding.specs.Finds.{added, finding, recordsTo, recordsOf, recordsFoundBy}
+use Rattle.probes.specs.Call.{allRecordsBy, Left, left, candidatesCall, candidatesBy, probeCall, probeBy, probeLimitedCall, probeLimitedBy}
 use Rattle.packing.specs.Layout.{countOf}
 
 -- ---- the records of some candidates
@@ -38,7 +38,7 @@ of-one g l zero = omega arith
 of-one g l (suc k) = omega (arith, of-one g l k, added-few (g k) (recordsTo g l k))
 
 of-all : (F : Field) (s cands : List ℕ) (k : ℕ) → length (recordsOf F s cands k) ≤ k * variables F
-unfolding recordsOf
+unfolding recordsFoundBy
 of-all F s cands zero = omega arith
 of-all F s cands (suc k) =
     omega (arith, of-all F s cands k, of-one (finding F s (getD cands k 0)) (recordsOf F s cands k) (variables F), suc-mul k (variables F))
@@ -58,7 +58,7 @@ ranks-few F s limit =
 
 module _ (F : Field) (s cands t k : List ℕ) (f : List Float) (u : List ℕ) (few : length cands ≤ variables F) where
   candidates-fit : countOf (candidatesCall F s cands t k f u .answer) < 0x1000_0000
-  unfolding candidatesCall allRecords
+  unfolding candidatesBy allRecordsBy
   candidates-fit =
       answer-has Refuses _ (readyTests F s (length f) (length u)) _ _ (λ a. countOf a < 0x1000_0000) (λ r e. omega (arith, ready-near F s (length f) (length u) r e)) (omega arith, tt) (λ e.
       let small = ready-passes F s (length f) (length u) .0 e .sound .shaped .few-variables in
@@ -66,11 +66,11 @@ module _ (F : Field) (s cands t k : List ℕ) (f : List Float) (u : List ℕ) (f
 
 module _ (F : Field) (s t k : List ℕ) (f : List Float) (u : List ℕ) where
   pub probe-fits : countOf (probeCall F s t k f u .answer) < 0x1000_0000
-  unfolding probeCall
+  unfolding probeBy
   probe-fits = candidates-fit F s (freeTo s (variables F)) t k f u (free-few s (variables F))
 
   pub probe-limited-fits : (limit : ℕ) → countOf (probeLimitedCall F s limit t k f u .answer) < 0x1000_0000
-  unfolding probeLimitedCall
+  unfolding probeLimitedBy
   probe-limited-fits limit = candidates-fit F s (take limit (ranks F s)) t k f u (ranks-few F s limit)
 
   module _ {a : Counted} {t′ k′ : List ℕ} {f′ : List Float} {u′ : List ℕ} where

@@ -200,7 +200,7 @@ pub extern "C" fn ombradiec_pairs(
     pack_paired(pairs::pairs(c, rows, cols, q, start, limit, constraints, f, u))
 }
 
-// What one value forces.
+// What one value forces, over remembered rows.
 #[no_mangle]
 pub extern "C" fn ombradiec_probe_one(
     c: &[f64],
@@ -216,7 +216,26 @@ pub extern "C" fn ombradiec_probe_one(
 ) -> u64
     ensures { λ r. ⌜ Exported packedAnswer (λ a. probing.left a (after values) (after f) (after u)) r (probing.probeOneCall (given c rows cols q) (before start) variable value (before values) (before f) (before u)) ⌝ }
 {
-    pack_answer(probe::probe_one(c, rows, cols, q, start, variable, value, values, f, u))
+    pack_answer(probes::probe_one(c, rows, cols, q, start, variable, value, values, f, u))
+}
+
+// The same with rows made afresh.
+#[no_mangle]
+pub extern "C" fn ombradiec_cold_probe_one(
+    c: &[f64],
+    rows: &[u16],
+    cols: &[u16],
+    q: &[f64],
+    start: &[u8],
+    variable: usize,
+    value: u8,
+    values: &mut [u8],
+    f: &mut [f64],
+    u: &mut [u32],
+) -> u64
+    ensures { λ r. ⌜ Exported packedAnswer (λ a. probing.left a (after values) (after f) (after u)) r (probing.probeOneCall (given c rows cols q) (before start) variable value (before values) (before f) (before u)) ⌝ }
+{
+    pack_answer(probe::cold_probe_one(c, rows, cols, q, start, variable, value, values, f, u))
 }
 
 // Why a variable has its value in the closure; the bound goes into `bound`, which a refusal leaves.
@@ -276,6 +295,54 @@ pub extern "C" fn ombradiec_probe_limited(
     ensures { λ r. ⌜ Exported packedCounted (λ a. searching.left a (after values) (after constraints) (after f) (after u)) r (searching.probeLimitedCall (given c rows cols q) (before start) candidates (before values) (before constraints) (before f) (before u)) ⌝ }
 {
     pack_counted(probes::probe_limited(
+        c,
+        rows,
+        cols,
+        q,
+        start,
+        candidates,
+        values,
+        constraints,
+        f,
+        u,
+    ))
+}
+
+// What both probes of every free variable find, with rows made afresh for each probe.
+#[no_mangle]
+pub extern "C" fn ombradiec_cold_probe(
+    c: &[f64],
+    rows: &[u16],
+    cols: &[u16],
+    q: &[f64],
+    start: &[u8],
+    values: &mut [u8],
+    constraints: &mut [u16],
+    f: &mut [f64],
+    u: &mut [u32],
+) -> u64
+    ensures { λ r. ⌜ Exported packedCounted (λ a. searching.left a (after values) (after constraints) (after f) (after u)) r (searching.probeCall (given c rows cols q) (before start) (before values) (before constraints) (before f) (before u)) ⌝ }
+{
+    pack_counted(cold::cold_probe(c, rows, cols, q, start, values, constraints, f, u))
+}
+
+// The same of the first candidates by edge mass.
+#[no_mangle]
+pub extern "C" fn ombradiec_cold_probe_limited(
+    c: &[f64],
+    rows: &[u16],
+    cols: &[u16],
+    q: &[f64],
+    start: &[u8],
+    candidates: usize,
+    values: &mut [u8],
+    constraints: &mut [u16],
+    f: &mut [f64],
+    u: &mut [u32],
+) -> u64
+    ensures { λ r. ⌜ Exported packedCounted (λ a. searching.left a (after values) (after constraints) (after f) (after u)) r (searching.probeLimitedCall (given c rows cols q) (before start) candidates (before values) (before constraints) (before f) (before u)) ⌝ }
+{
+    pack_counted(cold::cold_probe_limited(
         c,
         rows,
         cols,

@@ -36,7 +36,7 @@ use Rattle.calls.proofs.Usual.{this-stage, other-stage}
 use Rattle.rows.proofs.Upto.{getD-upTo}
 use Rattle.run.specs.Run.{closure}
 use Rattle.run.proofs.Theorems as run
-use Rattle.probe.specs.Call.{probeTests, probeTable, Probable, newAt, newOnly, probeOne, Gives, Left, left, probeOneCall}
+use Rattle.probe.specs.Call.{probeTests, probeTable, Probable, newAt, newOnly, probeOne, givenBy, Gives, Left, left, probeOneCall, probeOneBy}
 use Rattle.probe.proofs.Laws.{probe-passes, never-room}
 
 -- any two results that the promise permits are equal
@@ -49,17 +49,17 @@ module _ (F : Field) (s : List ℕ) (i v : ℕ) (t : List ℕ) (f : List Float) 
 
   -- The call is refused with r exactly if the tests before r's own pass, and its own fails.
   pub refused-when : (r : Refusal) → (probeOneCall F s i v t f u .answer ≡ Refused r) ↔ FirstToFail (probeTable F s i v t (length f) (length u)) r
-  unfolding probeOneCall probeTable table
+  unfolding probeOneBy probeTable table
   refused-when = usual.refused-when Refused _ _ _ _ same-refused done-apart refl
 
   -- A refusal from 1 to 8 changes nothing lent.
   pub refused-leaves : (r : Refusal) → r ≢ Room → probeOneCall F s i v t f u .answer ≡ Refused r → probeOneCall F s i v t f u ≡ left (Refused r) t f u
-  unfolding probeOneCall
+  unfolding probeOneBy
   refused-leaves r n e = usual.refused-leaves Refused _ _ _ _ same-refused done-apart r (other-stage n no-stage) e
 
   -- Refusal 9 is given exactly if those tests pass and the list is not n long,
   pub room-when : (probeOneCall F s i v t f u .answer ≡ Refused Room) ↔ (Probable F s i v (length f) (length u) × (length t ≢ variables F))
-  unfolding probeOneCall
+  unfolding probeOneBy
   room-when =
       let w = usual.last-when Refused _ _ Room _ _ same-refused done-apart (never-room F s i v (length f) (length u)) (eqb (length t) (variables F)) in
       let p = probe-passes F s i v (length f) (length u) in
@@ -67,12 +67,12 @@ module _ (F : Field) (s : List ℕ) (i v : ℕ) (t : List ℕ) (f : List Float) 
 
   -- and leaves the list and both scratches all zeros.
   pub room-leaves : probeOneCall F s i v t f u .answer ≡ Refused Room → probeOneCall F s i v t f u ≡ left (Refused Room) (cleared 0 t) (cleared zero64 f) (cleared 0 u)
-  unfolding probeOneCall
+  unfolding probeOneBy
   room-leaves e = usual.later-leaves Refused _ _ _ _ same-refused done-apart Room _ (never-room F s i v (length f) (length u)) (this-stage no-stage) e
 
   -- It is done exactly if the field, the start values, the variable, the value, both scratches and the list are as the table asks, and then gives the grade.
   pub done-when : (probeOneCall F s i v t f u .answer ≡ Done (gradeOf F)) ↔ (Probable F s i v (length f) (length u) × (length t ≡ variables F))
-  unfolding probeOneCall table
+  unfolding probeOneBy table
   done-when =
       usual.done-when Refused _ _ _ _ same-refused done-apart
       (group-is (probeTests F s i v (length f) (length u)) _ (probe-passes F s i v (length f) (length u)) (last-is Room _ (eq-is (length t) (variables F))))
@@ -80,7 +80,7 @@ module _ (F : Field) (s : List ℕ) (i v : ℕ) (t : List ℕ) (f : List Float) 
   module _ (g : Grade) (e : probeOneCall F s i v t f u .answer ≡ Done g) where
     -- Then the probe is in the list, and both scratches are all zeros.
     pub done-leaves : probeOneCall F s i v t f u ≡ left (Done (gradeOf F)) (probeOne F s i v) (cleared zero64 f) (cleared 0 u)
-    unfolding probeOneCall
+    unfolding probeOneBy
     done-leaves = usual.done-leaves Refused _ _ _ _ same-refused done-apart (λ r z. done-apart r (sym e ∙ z))
 
     answered : Done (gradeOf F) ≡ probeOneCall F s i v t f u .answer
@@ -106,7 +106,7 @@ module _ (F : Field) (s : List ℕ) (i v : ℕ) (t : List ℕ) (f : List Float) 
         }
 
     at : (j : ℕ) → j < variables F → getD (probeOneCall F s i v t f u .lent .values) j 0 ≡ newAt (getD s j 0) (getD (closure F (set s i v)) j 0)
-    unfolding probeOne newOnly
+    unfolding givenBy newOnly
     at j l =
         ap (λ (x : List ℕ). getD x j 0) values-are
         ∙ getD-upTo (λ j. newAt (getD s j 0) (getD (closure F (set s i v)) j 0)) (length s) j 0 (omega (arith, probable .ready .sound .start .long))
@@ -138,7 +138,7 @@ exact-field F s i v t f u e =
 module _ (F : Field) (s : List ℕ) (i v : ℕ) (t : List ℕ) (f : List Float) (u : List ℕ) (e : probeOneCall F s i v t f u .answer ≡ Done Exact) where
   -- the list is the closure over whole numbers, without the start values
   pub probe-closes : {unit : ℕ} → Serves unit F → Gives (wholeOf unit F) s i v (probeOneCall F s i v t f u .lent .values)
-  unfolding probeOne
+  unfolding givenBy
   probe-closes serving = let x = exact-field F s i v t f u e in record {
     closed = closure F (set s i v);
     is-closure = run.closure-is-closure (x .0) (serving .exact) (start-with F s i v t f u Exact e);

@@ -28,7 +28,7 @@ use Rattle.calls.specs.Call.{without}
 use Rattle.calls.proofs.Usual as usual
 use Rattle.rows.specs.Stored.{upTo}
 use Rattle.rows.proofs.Upto.{length-upTo, getD-upTo}
-use Rattle.probe.specs.Call.{mayProbe, probeTests, Probable, probeOne, left, probeOneCall}
+use Rattle.probe.specs.Call.{mayProbe, probeTests, Probable, probeOne, left, probeOneCall, probeOneBy}
 
 -- ---- one value a turn
 
@@ -95,15 +95,15 @@ never-room F s i v floats words = rw (fault-other (variables F) (F .rows) (F .co
 
 module _ (F : Field) (s : List ℕ) (i v : ℕ) (t : List ℕ) (f : List Float) (u : List ℕ) where
   pub refused-call : {r : Refusal} → tested (probeTests F s i v (length f) (length u)) ≡ Failed r → left (Refused r) t f u ≡ probeOneCall F s i v t f u
-  unfolding probeOneCall
+  unfolding probeOneBy
   refused-call e = usual.refused-call Refused _ _ _ _ e
 
   module _ {t′ : List ℕ} {f′ : List Float} {u′ : List ℕ} (k l : ℕ) (e : tested (probeTests F s i v (length f) (length u)) ≡ Passed)
       (ef : f′ ≡ replicate k zero64) (lf : k ≡ length f) (eu : u′ ≡ replicate l 0) (lu : l ≡ length u) where
     pub room-call : length t ≢ variables F → t′ ≡ replicate (length t) 0 → left (Refused Room) t′ f′ u′ ≡ probeOneCall F s i v t f u
-    unfolding probeOneCall
+    unfolding probeOneBy
     room-call n et = rw (et, ef, lf, eu, lu) (usual.last-refuses Refused _ _ Room _ _ e (ne-eqb _ _ n))
 
     pub done-call : {g : Grade} → length t ≡ variables F → g ≡ gradeOf F → t′ ≡ probeOne F s i v → left (Done g) t′ f′ u′ ≡ probeOneCall F s i v t f u
-    unfolding probeOneCall
+    unfolding probeOneBy
     done-call n eg et = rw (eg, et, ef, lf, eu, lu) (usual.last-passes Refused _ _ Room _ _ e (eq-eqb _ _ n))

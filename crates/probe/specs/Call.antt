@@ -1,4 +1,4 @@
--- What the call `probe_one` answers and leaves, as one function of what it is given, for every input. Assumes nothing.
+-- What a single probe answers and leaves, by either route, as one function of what it is given, for every input. Assumes nothing.
 use Prim.Native.Nat.{ℕ, _<_, _≤_}
 use mathlib.Core.Path.{_≡_}
 use mathlib.Core.Bool.{Bool, cond, _&&_}
@@ -60,9 +60,21 @@ newAt s v = cond (eqb s 2) v 2
 unfoldable pub newOnly : List ℕ → List ℕ → List ℕ
 newOnly s t = upTo (λ j. newAt (getD s j 0) (getD t j 0)) (length s)
 
+-- a route: from a field, the start values, a variable and a value to the values that the probe leaves, the start values among them
+abbrev pub Route : Type 0
+Route = Field → List ℕ → ℕ → ℕ → List ℕ
+
+-- "fresh bounds for the start values with the one variable set, then the ordinary propagation"
+abbrev pub cold : Route
+cold F s i v = closure F (set s i v)
+
+-- what a single probe by the route R gives
+unfoldable pub givenBy : Route → Field → List ℕ → ℕ → ℕ → List ℕ
+givenBy R F s i v = newOnly s (R F s i v)
+
 -- "a single probe gives the closure of the start values with its one value added, without the start values"
-unfoldable pub probeOne : Field → List ℕ → ℕ → ℕ → List ℕ
-probeOne F s i v = newOnly s (closure F (set s i v))
+abbrev pub probeOne : Field → List ℕ → ℕ → ℕ → List ℕ
+probeOne = givenBy cold
 
 -- "On exact fields": t is the whole-number closure of the start values with the one value added, without the start values
 pub record Gives (G : meaning.Field) (s : List ℕ) (i v : ℕ) (t : List ℕ) : Type 0 where
@@ -81,8 +93,12 @@ left r t f u = values.left r t f u
 
 -- tests 1 to 8, then 9, then the probe of i at v; t is the list that the values go into: "9 is given exactly if .. the probe value list is not n long;
 -- then each answer list is all zeros"; "After passing 8, scratch ends as all zeros"
-unfoldable pub probeOneCall : Field → List ℕ → ℕ → ℕ → List ℕ → List Float → List ℕ → Left
-probeOneCall F s i v t f u =
+unfoldable pub probeOneBy : Route → Field → List ℕ → ℕ → ℕ → List ℕ → List Float → List ℕ → Left
+probeOneBy R F s i v t f u =
     called
     (usual Refused (lent t f u) (probeTests F s i v (length f) (length u)) (stage Room (eqb (length t) (variables F)) (lent (cleared 0 t) (cleared zero64 f) (cleared 0 u)) ∷ [])
-    (left (Done (gradeOf F)) (probeOne F s i v) (cleared zero64 f) (cleared 0 u)))
+    (left (Done (gradeOf F)) (givenBy R F s i v) (cleared zero64 f) (cleared 0 u)))
+
+-- the calls `probe_one` and `cold_probe_one`
+abbrev pub probeOneCall : Field → List ℕ → ℕ → ℕ → List ℕ → List Float → List ℕ → Left
+probeOneCall = probeOneBy cold

@@ -1,5 +1,5 @@
-// The public call: a single probe.
-mod testing;
+// The public call: a single probe with rows made afresh.
+pub mod testing;
 pub mod values;
 
 use crate::testing::ready_to_probe;
@@ -37,7 +37,7 @@ fn work(
 }
 
 // What the probe of a variable at a value finds goes into the values; a refusal before 9 changes nothing.
-pub fn probe_one(
+pub fn cold_probe_one(
     c: &[f64],
     rows: &[u16],
     cols: &[u16],

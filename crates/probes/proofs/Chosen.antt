@@ -31,7 +31,7 @@ use Rattle.probes.specs.Standing.{Standing, Chosen}
 abbrev pub Free : List ℕ → ℕ → Type 0
 Free s i = getD s i 0 ≡ 2
 
-all-free : (s : List ℕ) (n : ℕ) → Every (Free s) (freeTo s n)
+pub all-free : (s : List ℕ) (n : ℕ) → Every (Free s) (freeTo s n)
 all-free s n = every-from (Free s) (freeTo s n) (λ a h. free-at s n a h .1)
 
 take-every : (P : ℕ → Type 0) (k : ℕ) (l : List ℕ) → Every P l → Every P (take k l)
@@ -45,22 +45,22 @@ ranked-free F s limit = take-every (Free s) limit (ranks F s) (ordered-every (ah
 
 -- ---- the workspace with them
 
+-- those that stand in the words are free where all of the list are
+pub candidates-free : (F : Field) (s u cands : List ℕ) {count : ℕ} → count ≤ variables F → gatherAt F + variables F ≤ length u → region (candidatesAt F) count u ≡ cands
+    → Every (Free s) cands → (h : ℕ) → h < count → getD s (getD u (candidatesAt F + h) 0) 0 ≡ 2
+candidates-free F s u cands {count} within space are free h l =
+    let a = length-region (candidatesAt F) count u (omega (arith, within, space)) in
+    let e : getD cands h 0 ≡ getD u (candidatesAt F + h) 0 = ap (λ (z : List ℕ). getD z h 0) (sym are) ∙ region-at (candidatesAt F) count u h 0 l in
+    rw e at (every-at (Free s) cands free h (omega (arith, l, a, ap length are)))
+
 standing-of : {F : Field} {s : List ℕ} {f : List Float} {u cands : List ℕ} {known : Known} {count : ℕ} → Remembers F s f u known → count ≤ variables F
     → gatherAt F + variables F ≤ length u → region (candidatesAt F) count u ≡ cands → Every (Free s) cands → Standing F s f u known count
-standing-of {F} {s} {f} {u} {cands} {known} {count} R within space are free = record {
-  remembers = R;
-  within = within;
-  free = λ h l.
-      let a = length-region (candidatesAt F) count u (omega (arith, within, space)) in
-      let e : getD cands h 0 ≡ getD u (candidatesAt F + h) 0 = ap (λ (z : List ℕ). getD z h 0) (sym are) ∙ region-at (candidatesAt F) count u h 0 l in
-      rw e at (every-at (Free s) cands free h (omega (arith, l, a, ap length are)));
-  space = space;
-}
+standing-of {F} {s} {f} {u} {cands} R within space are free = record { remembers = R; within = within; free = candidates-free F s u cands within space are free; space = space }
 
 front-first : (F : Field) (u u′ : List ℕ) → take (candidatesAt F) u′ ≡ take (candidatesAt F) u → take (firstAt F) u′ ≡ take (firstAt F) u
 front-first F u u′ e = sym (take-take (firstAt F) (candidatesAt F) u′ (omega arith)) ∙ ap (take (firstAt F)) e ∙ take-take (firstAt F) (candidatesAt F) u (omega arith)
 
-space-enough : {F : Field} {s : List ℕ} {floats words : ℕ} → Ready F s floats words → gatherAt F + variables F ≤ words
+pub space-enough : {F : Field} {s : List ℕ} {floats words : ℕ} → Ready F s floats words → gatherAt F + variables F ≤ words
 space-enough R = omega (arith, R .words-room, R .sound .shaped .rows-long)
 
 module _ {F : Field} {s : List ℕ} {floats words : ℕ} (A : Ready F s floats words) where

@@ -25,13 +25,14 @@ use Rattle.field.specs.Tests.{readyTests, Ready}
 use Rattle.field.specs.Grade.{gradeOf}
 use Rattle.field.proofs.Table.{group-is, last-is}
 use Rattle.field.proofs.Means.{ready-passes}
+use Rattle.probe.specs.Call.{cold}
 use Rattle.calls.specs.Call.{table, no-stage}
 use Rattle.calls.proofs.Answers.{same-refuses, counts-apart}
 use Rattle.calls.proofs.Call as any
 use Rattle.calls.proofs.Usual as usual
 use Rattle.calls.proofs.Usual.{this-stage, other-stage}
 use Rattle.calls.proofs.Values.{never-room}
-use Rattle.probes.specs.Call.{allRecords, allValues, Left, left, fits, candidatesTable, result, candidatesCall}
+use Rattle.probes.specs.Call.{allRecords, allValues, Left, left, fits, fitsBy, candidatesTable, resultBy, candidatesCall, candidatesBy}
 use Rattle.probes.specs.Says.{DoneSays}
 
 module _ (F : Field) (s cands t k : List ℕ) (f : List Float) (u : List ℕ) where
@@ -42,11 +43,11 @@ module _ (F : Field) (s cands t k : List ℕ) (f : List Float) (u : List ℕ) wh
   -- ---- what 9 asks
 
   fit-is : (fits F s cands t k ≡ true) ↔ ((length t ≡ variables F) × (length (allRecords F s cands) ≤ room k))
-  unfolding fits
+  unfolding fitsBy
   fit-is = both-is _ _ (eq-is (length t) (variables F)) (le-is (length (allRecords F s cands)) (room k))
 
   no-fit : fits F s cands t k ≡ false → (length t ≢ variables F) ⊎ (room k < length (allRecords F s cands))
-  unfolding fits
+  unfolding fitsBy
   no-fit e = go (eqb (length t) (variables F)) (leb (length (allRecords F s cands)) (room k)) refl refl e
     where
       go : (a b : Bool) → eqb (length t) (variables F) ≡ a → leb (length (allRecords F s cands)) (room k) ≡ b → a && b ≡ false
@@ -56,7 +57,7 @@ module _ (F : Field) (s cands t k : List ℕ) (f : List Float) (u : List ℕ) wh
       go true true p q z = let y : _≡_ {A = ℕ} 0 1 = cc in absurd (omega arith)
 
   fit-no : (length t ≢ variables F) ⊎ (room k < length (allRecords F s cands)) → fits F s cands t k ≡ false
-  unfolding fits
+  unfolding fitsBy
   fit-no (inl n) = rw (ne-eqb _ _ n) refl
   fit-no (inr m) = rw (lt-leb _ _ m) (last (eqb (length t) (variables F)))
     where
@@ -68,18 +69,18 @@ module _ (F : Field) (s cands t k : List ℕ) (f : List Float) (u : List ℕ) wh
 
   -- DEMAND 1. The call is refused with r exactly if the tests before r's own pass, and its own fails.
   pub refused-when : (r : Refusal) → (candidatesCall F s cands t k f u .answer ≡ Refuses r) ↔ FirstToFail (candidatesTable F s cands t k (length f) (length u)) r
-  unfolding candidatesCall candidatesTable table
+  unfolding candidatesBy candidatesTable table
   refused-when = usual.refused-when Refuses _ _ _ _ same-refuses counts-apart refl
 
   -- A refusal from 1 to 8 changes nothing lent.
   pub refused-leaves : (r : Refusal) → r ≢ Room → candidatesCall F s cands t k f u .answer ≡ Refuses r → candidatesCall F s cands t k f u ≡ left (Refuses r) t k f u
-  unfolding candidatesCall
+  unfolding candidatesBy
   refused-leaves r n e = usual.refused-leaves Refuses _ _ _ _ same-refuses counts-apart r (other-stage n no-stage) e
 
   -- 9 is given exactly if the tests before it pass, and the value list is not n long or the records, merged by pair, are more than the list has room for.
   pub room-when : (candidatesCall F s cands t k f u .answer ≡ Refuses Room)
       ↔ (Ready F s (length f) (length u) × ((length t ≢ variables F) ⊎ (room k < length (allRecords F s cands))))
-  unfolding candidatesCall
+  unfolding candidatesBy
   room-when =
       let w = usual.last-when Refuses _ _ Room _ _ same-refuses counts-apart (never-room F s (length f) (length u)) (fits F s cands t k) in
       let p = ready-passes F s (length f) (length u) in
@@ -88,27 +89,27 @@ module _ (F : Field) (s cands t k : List ℕ) (f : List Float) (u : List ℕ) wh
   -- It leaves both answer lists and both scratches all zeros.
   pub room-leaves : candidatesCall F s cands t k f u .answer ≡ Refuses Room
       → candidatesCall F s cands t k f u ≡ left (Refuses Room) (cleared 0 t) (cleared 0 k) (cleared zero64 f) (cleared 0 u)
-  unfolding candidatesCall
+  unfolding candidatesBy
   room-leaves e = usual.later-leaves Refuses _ _ _ _ same-refuses counts-apart Room _ (never-room F s (length f) (length u)) (this-stage no-stage) e
 
   -- ---- done
 
-  passed : (candidatesCall F s cands t k f u .answer ≡ result F s cands k f u .answer)
+  passed : (candidatesCall F s cands t k f u .answer ≡ resultBy cold F s cands k f u .answer)
       ↔ (Ready F s (length f) (length u) × ((length t ≡ variables F) × (length (allRecords F s cands) ≤ room k)))
-  unfolding candidatesCall table
+  unfolding candidatesBy table
   passed =
       usual.done-when Refuses _ _ _ _ same-refuses counts-apart (group-is (readyTests F s (length f) (length u)) _ (ready-passes F s (length f) (length u)) (last-is Room _ fit-is))
 
-  ended : {g : Grade} {items : ℕ} → candidatesCall F s cands t k f u .answer ≡ Counts g items → candidatesCall F s cands t k f u ≡ result F s cands k f u
-  unfolding candidatesCall
+  ended : {g : Grade} {items : ℕ} → candidatesCall F s cands t k f u .answer ≡ Counts g items → candidatesCall F s cands t k f u ≡ resultBy cold F s cands k f u
+  unfolding candidatesBy
   ended e = usual.done-leaves Refuses _ _ _ _ same-refuses counts-apart (λ r z. counts-apart r (sym e ∙ z))
 
   -- The call is done exactly if every test passes, and then gives the grade and the number of records.
   pub done-when : (g : Grade) (items : ℕ) → (candidatesCall F s cands t k f u .answer ≡ Counts g items) ↔ DoneSays F s cands t k f u g items
   done-when g items = (
     λ e.
-        let w : result F s cands k f u .answer ≡ candidatesCall F s cands t k f u .answer = ap (λ (x : Left). x .answer) (sym (ended e)) in
-        let q : result F s cands k f u .answer ≡ Counts g items = w ∙ e in
+        let w : resultBy cold F s cands k f u .answer ≡ candidatesCall F s cands t k f u .answer = ap (λ (x : Left). x .answer) (sym (ended e)) in
+        let q : resultBy cold F s cands k f u .answer ≡ Counts g items = w ∙ e in
         let p = passed .0 (sym w) in
         let eg : g ≡ gradeOf F = cc in
         let ei : items ≡ length (allRecords F s cands) = cc in

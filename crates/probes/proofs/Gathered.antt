@@ -18,8 +18,8 @@ use Rattle.field.specs.Field.{Field, variables}
 use Rattle.rows.proofs.Upto.{length-upTo, getD-upTo}
 use Rattle.probe.specs.Found.{Finding, nothing, value, constraint}
 use Rattle.probe.proofs.Found.{none-value, none-constraint, found-value}
-use Rattle.finding.specs.Finds.{added, wins, findingOf, finding, recordsTo, valuesAfter, recordsOf, valuesOf}
-use Rattle.probes.specs.Call.{allRecords, allValues}
+use Rattle.finding.specs.Finds.{added, wins, findingOf, finding, findingBy, recordsTo, valuesAfter, recordsOf, recordsFoundBy, valuesOf, valuesFoundBy}
+use Rattle.probes.specs.Call.{allRecords, allRecordsBy, allValues, allValuesBy}
 use Rattle.probes.specs.Rule.{FreeCandidates, Finds, FindsValue, LastGives, NoneGives}
 use Rattle.probes.proofs.Members.{at-in, in-at}
 use Rattle.probes.proofs.Excluded.{by-excludes, excluded-in}
@@ -57,7 +57,7 @@ constraint-value : {c : Constraint} {w : ℕ} {A : Type 0} → constraint c ≡ 
 constraint-value e = let z : _≡_ {A = ℕ} 0 1 = cc in absurd (omega arith)
 
 value-small : (F : Field) (s : List ℕ) (i j : ℕ) {w : ℕ} → finding F s i j ≡ value w → w < 2
-unfolding finding findingOf
+unfolding findingBy findingOf
 value-small F s i j {w} e = found-value i j _ _ w e .1 .1
 
 -- ---- the findings of one candidate
@@ -111,7 +111,7 @@ module _ (F : Field) (s cands : List ℕ) where
   -- ---- all candidates
 
   found-in : (count : ℕ) → count ≤ length cands → {x : Record} → List·Memᴰ x (recordsOf F s cands count) → Recorded F s cands x
-  unfolding recordsOf
+  unfolding recordsFoundBy
   found-in zero h m = absurd (List·Memᴰ·not-nil m)
   found-in (suc k) h m =
       ⊎-elim
@@ -128,7 +128,7 @@ module _ (F : Field) (s cands : List ℕ) where
       (in-to (finding F s (getD cands k 0)) (recordsOf F s cands k) (variables F) m)
 
   in-found : (count t : ℕ) → t < count → {x : Record} → SaysBelow (finding F s (getD cands t 0)) (variables F) x → List·Memᴰ x (recordsOf F s cands count)
-  unfolding recordsOf
+  unfolding recordsFoundBy
   in-found zero t h y = absurd (omega arith)
   in-found (suc k) t h {x} y = go (below-or-at h) (λ b. in-found k t b y)
     where
@@ -147,7 +147,7 @@ module _ (F : Field) (s cands : List ℕ) where
 
   -- A pair is forbidden by the list exactly if the executable rule finds a constraint that forbids it,
   pub list-finds : (i j : ℕ) (p : Pair) → Bans (allRecords F s cands) i j p ↔ Finds F s cands i j p
-  unfolding allRecords
+  unfolding allRecordsBy
   list-finds i j p =
       let all = merged-bans (recordsOf F s cands (length cands)) in (
         λ f.
@@ -171,12 +171,12 @@ module _ (F : Field) (s cands : List ℕ) where
 
   -- it is in rising order, one record for one pair,
   pub list-rising : Rising (allRecords F s cands)
-  unfolding allRecords
+  unfolding allRecordsBy
   list-rising = merged-rising (recordsOf F s cands (length cands))
 
   -- and each of its sets has one to four pairs.
   pub list-proper : AllProper (allRecords F s cands)
-  unfolding allRecords
+  unfolding allRecordsBy
   list-proper = merged-proper (recordsOf F s cands (length cands)) found-proper
 
   -- On every field the list is the one list of which all three hold.
@@ -205,22 +205,22 @@ module _ (F : Field) (s cands : List ℕ) where
   -- ---- the values
 
   values-long : (k : ℕ) → length (valuesOf F s cands k) ≡ variables F
-  unfolding valuesOf valuesAfter
+  unfolding valuesFoundBy valuesAfter
   values-long zero = length-replicate (variables F) 2
   values-long (suc k) = length-upTo (λ j. wins (finding F s (getD cands k 0) j) (getD (valuesOf F s cands k) j 0)) (length (valuesOf F s cands k)) ∙ values-long k
 
   -- "A value list holds" one value for each variable.
   pub all-values-long : length (allValues F s cands) ≡ variables F
-  unfolding allValues
+  unfolding allValuesBy
   all-values-long = values-long (length cands)
 
   module _ (j : ℕ) (below : j < variables F) where
     first-value : getD (valuesOf F s cands zero) j 0 ≡ 2
-    unfolding valuesOf
+    unfolding valuesFoundBy
     first-value = getD-replicate (variables F) j 2 0 below
 
     next-value : (k : ℕ) → getD (valuesOf F s cands (suc k)) j 0 ≡ wins (finding F s (getD cands k 0) j) (getD (valuesOf F s cands k) j 0)
-    unfolding valuesOf valuesAfter
+    unfolding valuesFoundBy valuesAfter
     next-value k = getD-upTo (λ j. wins (finding F s (getD cands k 0) j) (getD (valuesOf F s cands k) j 0)) (length (valuesOf F s cands k)) j 0 (omega (arith, values-long k))
 
     abbrev Gives : ℕ → ℕ → Type 0
@@ -240,12 +240,12 @@ module _ (F : Field) (s cands : List ℕ) where
 
     -- On every field a value stands at j exactly if the last candidate that gives j a value gives it,
     pub value-finds : (w : ℕ) → w < 2 → (getD (allValues F s cands) j 0 ≡ w) ↔ LastGives Gives cands (length cands) w
-    unfolding allValues
+    unfolding allValuesBy
     value-finds w small = stands-value (values-stand (length cands)) (λ i v v′ e e′. same-value (sym e ∙ e′)) small
 
     -- and 2 exactly if none gives it any.
     pub none-finds : (getD (allValues F s cands) j 0 ≡ 2) ↔ NoneGives Gives cands (length cands)
-    unfolding allValues
+    unfolding allValuesBy
     none-finds = stands-none (values-stand (length cands))
 
     -- "without the start values"
@@ -254,7 +254,7 @@ module _ (F : Field) (s cands : List ℕ) where
 
     -- Nothing else stands there.
     pub value-or-none : getD (allValues F s cands) j 0 ≤ 2
-    unfolding allValues
+    unfolding allValuesBy
     value-or-none = stands-small (values-stand (length cands))
 
 -- ---- other candidates

@@ -11,6 +11,8 @@ pub mod Gathered
 pub mod Exact
 pub mod Candidates
 pub mod Limited
+pub mod Single
+pub mod Routes
 pub mod Calls
 pub mod FullCall
 pub mod LimitedCall

@@ -17,7 +17,7 @@ use Rattle.field.specs.Tests.{readyTests}
 use Rattle.calls.specs.Call.{run}
 use Rattle.ranking.specs.Ranking.{massOf, ahead, insert, ordered, ranks}
 use Rattle.ranking.proofs.Ordered.{Every, every-from, ordered-every, ordered-length}
-use Rattle.probes.specs.Call.{allRecords, fits, candidatesCall}
+use Rattle.probes.specs.Call.{allRecords, fits, fitsBy, candidatesCall}
 use Rattle.probes.specs.Says.{SameButValues}
 use Rattle.probes.specs.Standing.{settled}
 use Rattle.probes.proofs.Members.{at-in, every-in}
@@ -64,7 +64,7 @@ module _ (F : Field) (s : List ℕ) where
 -- calls that find the same records agree but for the probe values
 settled-same : (b : Bool) (F : Field) (s cands other t k : List ℕ) (f : List Float) (u : List ℕ) → fits F s other t k ≡ b → allRecords F s cands ≡ allRecords F s other
     → SameButValues (settled F s cands t k f u) (settled F s other t k f u)
-unfolding run fits
+unfolding run fitsBy
 settled-same true F s cands other t k f u w e = rw (e, w) (record { answers = refl; lists = refl; both-floats = refl; both-words = refl })
 settled-same false F s cands other t k f u w e = rw (e, w) (record { answers = refl; lists = refl; both-floats = refl; both-words = refl })
 

@@ -16,12 +16,12 @@ use Rattle.field.specs.Field.{Field, variables}
 use Rattle.rows.specs.Stored.{upTo}
 use Rattle.rows.proofs.Upto.{length-upTo, getD-upTo}
 use Rattle.probe.specs.Found.{found}
-use Rattle.finding.specs.Finds.{wins, findingOf, finding, valuesAfter, valuesOf}
+use Rattle.finding.specs.Finds.{wins, findingOf, finding, findingBy, valuesAfter, valuesOf, valuesFoundBy}
 use Rattle.twin.specs.Twin.{firstAt, valuesAt}
 use Rattle.twin.proofs.Framed.{remembers-front}
 use Rattle.walking.specs.Walk.{candidatesAt, Walkable, Walked, holds, full}
 use Rattle.walking.proofs.Turned.{values-long}
-use Rattle.probes.specs.Call.{allRecords, allValues}
+use Rattle.probes.specs.Call.{allRecords, allRecordsBy, allValues, allValuesBy}
 use Rattle.probes.specs.Standing.{Noned, Bytes, Standing}
 
 clash : {A : Type 0} → _≡_ {A = ℕ} 0 1 → A
@@ -62,7 +62,7 @@ twos (suc n) zero = omega arith
 twos (suc n) (suc j) = twos n j
 
 pub values-small : (F : Field) (s cands : List ℕ) (k j : ℕ) → j < variables F → getD (valuesOf F s cands k) j 0 ≤ 2
-unfolding valuesOf valuesAfter finding findingOf
+unfolding valuesFoundBy valuesAfter findingBy findingOf
 values-small F s cands zero j h = twos (variables F) j
 values-small F s cands (suc k) j h =
     let old = valuesOf F s cands k in
@@ -105,17 +105,17 @@ pub record AllHeld (F : Field) (s cands list₀ : List ℕ) (held : ℕ) (list u
 
 module _ (F : Field) (s cands list₀ list u : List ℕ) where
   pub all-held : {r : Merged} {held : ℕ} → Walked F s cands list₀ r list u → r ≡ Holds held → AllHeld F s cands list₀ held list u
-  unfolding allRecords allValues
+  unfolding allRecordsBy allValuesBy
   all-held (holds fits list values) e = record { count = cc; fits = fits; list-is = list; values-are = values }
   all-held (full more) e = clash (cc)
 
   pub none-held : {r : Merged} → Walked F s cands list₀ r list u → r ≡ Full → room list₀ < length (allRecords F s cands)
-  unfolding allRecords
+  unfolding allRecordsBy
   none-held (holds fits list values) e = clash (cc)
   none-held (full more) e = more
 
   pub held-bytes : {held n : ℕ} → AllHeld F s cands list₀ held list u → n ≡ variables F → valuesAt F + variables F ≤ length u → Bytes (valuesAt F) n u
-  unfolding allValues
+  unfolding allValuesBy
   held-bytes A e h = record {
     room = omega (arith, h, e);
     small = λ j l.

@@ -16,7 +16,7 @@ use Rattle.run.specs.Run.{closure}
 use Rattle.probe.specs.Call.{newAt}
 use Rattle.probe.specs.Found.{Finding, nothing, value, constraint, found}
 use Rattle.probe.proofs.Found.{none-constraint}
-use Rattle.finding.specs.Finds.{givesAt, findingOf, finding}
+use Rattle.finding.specs.Finds.{givesAt, findingOf, finding, findingBy}
 use Rattle.probes.specs.Rule.{Tabled}
 
 -- ---- the executable table is document 01's
@@ -61,15 +61,15 @@ abbrev pub left : Field → List ℕ → ℕ → ℕ → ℕ → ℕ
 left F s i v j = getD (closure F (set s i v)) j 0
 
 pub found-of : (F : Field) (s : List ℕ) (i j : ℕ) → i ≢ j → getD s j 0 ≡ 2 → finding F s i j ≡ found i j (left F s i 0 j) (left F s i 1 j)
-unfolding finding findingOf givesAt newAt
+unfolding findingBy findingOf givesAt newAt
 found-of F s i j other free = rw (ne-eqb i j other, eq-eqb (getD s j 0) 2 free)
 
 none-own : (F : Field) (s : List ℕ) (i j : ℕ) → i ≡ j → finding F s i j ≡ nothing
-unfolding finding findingOf givesAt found
+unfolding findingBy findingOf givesAt found
 none-own F s i j e = rw (eq-eqb i j e)
 
 none-start : (F : Field) (s : List ℕ) (i j : ℕ) → getD s j 0 ≢ 2 → finding F s i j ≡ nothing
-unfolding finding findingOf givesAt newAt found
+unfolding findingBy findingOf givesAt newAt found
 none-start F s i j n = go (eqb i j)
   where
     go : (b : Bool) → found i j (cond b 2 (newAt (getD s j 0) (left F s i 0 j))) (cond b 2 (newAt (getD s j 0) (left F s i 1 j))) ≡ nothing

@@ -1,4 +1,4 @@
--- What the calls `probe` and `probe_limited` answer and leave, as one function of what they are given, for every input. Assumes nothing.
+-- What the probes of many candidates answer and leave, by either route, as one function of what they are given, for every input. Assumes nothing.
 use Prim.Native.Nat.{ℕ}
 use mathlib.Core.Bool.{Bool, _&&_}
 use mathlib.Core.List.{List, [], _∷_, _++_}
@@ -21,17 +21,24 @@ use Rattle.field.specs.Grade.{gradeOf}
 use Rattle.calls.specs.Call as any
 use Rattle.calls.specs.Call.{Stage, stage, called, usual}
 use Rattle.ranking.specs.Ranking.{ranks}
-use Rattle.finding.specs.Finds.{recordsOf, valuesOf}
+use Rattle.probe.specs.Call.{Route, cold}
+use Rattle.finding.specs.Finds.{recordsFoundBy, valuesFoundBy}
 
 -- ---- what the candidates find
 
 -- "lists are merged by pair", and rise by it
-unfoldable pub allRecords : Field → List ℕ → List ℕ → List Record
-allRecords F s cands = mergedList (recordsOf F s cands (length cands))
+unfoldable pub allRecordsBy : Route → Field → List ℕ → List ℕ → List Record
+allRecordsBy R F s cands = mergedList (recordsFoundBy R F s cands (length cands))
+
+abbrev pub allRecords : Field → List ℕ → List ℕ → List Record
+allRecords = allRecordsBy cold
 
 -- "where two candidates give one variable a value, the later one wins"
-unfoldable pub allValues : Field → List ℕ → List ℕ → List ℕ
-allValues F s cands = valuesOf F s cands (length cands)
+unfoldable pub allValuesBy : Route → Field → List ℕ → List ℕ → List ℕ
+allValuesBy R F s cands = valuesFoundBy R F s cands (length cands)
+
+abbrev pub allValues : Field → List ℕ → List ℕ → List ℕ
+allValues = allValuesBy cold
 
 -- ---- the call
 
@@ -53,30 +60,45 @@ abbrev pub left : Counted → List ℕ → List ℕ → List Float → List ℕ 
 left r t k f u = any.left r (lent t k f u)
 
 -- "9 is given exactly if a full answer has more items than its list has room for, or the probe value list is not n long"
-unfoldable pub fits : Field → List ℕ → List ℕ → List ℕ → List ℕ → Bool
-fits F s cands t k = eqb (length t) (variables F) && leb (length (allRecords F s cands)) (room k)
+unfoldable pub fitsBy : Route → Field → List ℕ → List ℕ → List ℕ → List ℕ → Bool
+fitsBy R F s cands t k = eqb (length t) (variables F) && leb (length (allRecordsBy R F s cands)) (room k)
+
+abbrev pub fits : Field → List ℕ → List ℕ → List ℕ → List ℕ → Bool
+fits = fitsBy cold
 
 -- tests 1 to 6 and 8, then 9
 unfoldable pub candidatesTable : Field → List ℕ → List ℕ → List ℕ → List ℕ → ℕ → ℕ → List Test
 candidatesTable F s cands t k floats words = readyTests F s floats words ++ test Room (fits F s cands t k) ∷ []
 
 -- "then each answer list is all zeros"
-abbrev pub later : Field → List ℕ → List ℕ → List ℕ → List ℕ → List Float → List ℕ → List (Stage Lent)
-later F s cands t k f u = stage Room (fits F s cands t k) (lent (cleared 0 t) (cleared 0 k) (cleared zero64 f) (cleared 0 u)) ∷ []
+abbrev pub laterBy : Route → Field → List ℕ → List ℕ → List ℕ → List ℕ → List Float → List ℕ → List (Stage Lent)
+laterBy R F s cands t k f u = stage Room (fitsBy R F s cands t k) (lent (cleared 0 t) (cleared 0 k) (cleared zero64 f) (cleared 0 u)) ∷ []
 
 -- "On success, elements past an answer list's last item are unchanged"; "After passing 8, scratch ends as all zeros"
-abbrev pub result : Field → List ℕ → List ℕ → List ℕ → List Float → List ℕ → Left
-result F s cands k f u =
-    left (Counts (gradeOf F) (length (allRecords F s cands))) (allValues F s cands) (filled (allRecords F s cands) k) (cleared zero64 f) (cleared 0 u)
+abbrev pub resultBy : Route → Field → List ℕ → List ℕ → List ℕ → List Float → List ℕ → Left
+resultBy R F s cands k f u =
+    left (Counts (gradeOf F) (length (allRecordsBy R F s cands))) (allValuesBy R F s cands) (filled (allRecordsBy R F s cands) k) (cleared zero64 f) (cleared 0 u)
 
 -- the call over any list of candidates
-unfoldable pub candidatesCall : Field → List ℕ → List ℕ → List ℕ → List ℕ → List Float → List ℕ → Left
-candidatesCall F s cands t k f u = called (usual Refuses (lent t k f u) (readyTests F s (length f) (length u)) (later F s cands t k f u) (result F s cands k f u))
+unfoldable pub candidatesBy : Route → Field → List ℕ → List ℕ → List ℕ → List ℕ → List Float → List ℕ → Left
+candidatesBy R F s cands t k f u =
+    called (usual Refuses (lent t k f u) (readyTests F s (length f) (length u)) (laterBy R F s cands t k f u) (resultBy R F s cands k f u))
 
--- `probe`: every free variable
-unfoldable pub probeCall : Field → List ℕ → List ℕ → List ℕ → List Float → List ℕ → Left
-probeCall F s t k f u = candidatesCall F s (freeTo s (variables F)) t k f u
+abbrev pub candidatesCall : Field → List ℕ → List ℕ → List ℕ → List ℕ → List Float → List ℕ → Left
+candidatesCall = candidatesBy cold
 
--- `probe_limited`: up to the limit; "Candidates of the limited call go by falling edge mass of |q| over entries with both ends free, then rising index"
-unfoldable pub probeLimitedCall : Field → List ℕ → ℕ → List ℕ → List ℕ → List Float → List ℕ → Left
-probeLimitedCall F s limit t k f u = candidatesCall F s (take limit (ranks F s)) t k f u
+-- every free variable
+unfoldable pub probeBy : Route → Field → List ℕ → List ℕ → List ℕ → List Float → List ℕ → Left
+probeBy R F s t k f u = candidatesBy R F s (freeTo s (variables F)) t k f u
+
+-- the calls `probe` and `cold_probe`
+abbrev pub probeCall : Field → List ℕ → List ℕ → List ℕ → List Float → List ℕ → Left
+probeCall = probeBy cold
+
+-- up to the limit; "Candidates of the limited call go by falling edge mass of |q| over entries with both ends free, then rising index"
+unfoldable pub probeLimitedBy : Route → Field → List ℕ → ℕ → List ℕ → List ℕ → List Float → List ℕ → Left
+probeLimitedBy R F s limit t k f u = candidatesBy R F s (take limit (ranks F s)) t k f u
+
+-- the calls `probe_limited` and `cold_probe_limited`
+abbrev pub probeLimitedCall : Field → List ℕ → ℕ → List ℕ → List ℕ → List Float → List ℕ → Left
+probeLimitedCall = probeLimitedBy cold

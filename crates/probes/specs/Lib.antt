@@ -1,4 +1,5 @@
 pub mod Call
+pub mod Route
 pub mod Standing
 pub mod Rule
 pub mod Says

@@ -9,10 +9,11 @@ use Rattle.field.specs.declared.Counted.the-variants.{Refuses}
 use Rattle.field.specs.Field.{Field, variables}
 use Rattle.calls.specs.Call.{run}
 use Rattle.probing.specs.declared.Known.{Known}
+use Rattle.probe.specs.Call.{cold}
 use Rattle.probing.specs.Remembered.{Remembers}
 use Rattle.walking.specs.Walk.{candidatesAt, gatherAt}
 use Rattle.ranking.specs.Ranking.{ranks}
-use Rattle.probes.specs.Call.{Left, later, result}
+use Rattle.probes.specs.Call.{Left, laterBy, resultBy}
 
 -- 2 stands in the j words from `at` on, and what is in front of them is as it was
 pub record Noned (at j : ℕ) (u₀ u : List ℕ) : Type 0 where
@@ -44,4 +45,4 @@ pub record Chosen (F : Field) (s : List ℕ) (limit : ℕ) (f f′ : List Float)
 
 -- what is settled past test 8
 abbrev pub settled : Field → List ℕ → List ℕ → List ℕ → List ℕ → List Float → List ℕ → Left
-settled F s cands t k f u = run Refuses (later F s cands t k f u) (result F s cands k f u)
+settled F s cands t k f u = run Refuses (laterBy cold F s cands t k f u) (resultBy cold F s cands k f u)

@@ -1,14 +1,18 @@
-// The public calls over all candidates: the full probe and the limited one.
-mod choosing;
-mod settling;
+// The public calls over remembered rows: the single probe, the full one and the limited one.
+pub mod choosing;
+pub mod settling;
 pub mod values;
 
 use crate::choosing::choose;
 use crate::settling::no_room;
 use crate::settling::settle;
+use field::Answer;
 use field::Checked;
 use field::Counted;
+use field::Refusal;
+use probe::testing::ready_to_probe;
 use probe::values::copy;
+use probe::values::keep_new;
 use probing::Known;
 use ranking::listing::list_free;
 ghost use mathlib.Core.Path.{_≡_};
@@ -19,6 +23,7 @@ ghost use Rattle.field.specs.Field.{lent, given, variables};
 ghost use Rattle.field.specs.Tests.{Ready};
 ghost use Rattle.probing.specs.Remembered.{Remembers};
 ghost use Rattle.ranking.specs.Ranking.{ranks};
+ghost use Rattle.probe.specs.Call as one;
 ghost use Rattle.probes.specs.Call.{left, probeCall, probeLimitedCall};
 ghost use Rattle.probes.specs.Standing.{settled};
 
@@ -42,6 +47,40 @@ fn prepare(
     copy(start, values);
     places::build(u, rows, cols, c.len());
     workspace::remembering::remember(c, rows, cols, q, start, values, f, u, grade)
+}
+
+// What the probe of a variable at a value finds goes into the values; a refusal before 9 changes nothing.
+pub fn probe_one(
+    c: &[f64],
+    rows: &[u16],
+    cols: &[u16],
+    q: &[f64],
+    start: &[u8],
+    variable: usize,
+    value: u8,
+    values: &mut [u8],
+    f: &mut [f64],
+    u: &mut [u32],
+) -> Answer
+    ensures { λ r. ⌜ one.left r (after values) (after f) (after u) ≡ one.probeOneCall (given c rows cols q) (before start) variable value (before values) (before f) (before u) ⌝ }
+{
+    let checked = ready_to_probe(c, rows, cols, q, start, variable, value, f.len(), u.len());
+    if let Checked::Failed(refusal) = checked {
+        return Answer::Refused(refusal);
+    }
+    if values.len() != c.len() {
+        scratch::clear_bytes(values);
+        scratch::clear_floats(f);
+        scratch::clear_words(u);
+        return Answer::Refused(Refusal::Room);
+    }
+    let known = prepare(c, rows, cols, q, start, values, f, u);
+    let grade = known.grade;
+    probing::probe(c, rows, cols, q, values, f, u, known, variable, value);
+    keep_new(start, values);
+    scratch::clear_floats(f);
+    scratch::clear_words(u);
+    Answer::Done(grade)
 }
 
 // The free variables are the candidates.

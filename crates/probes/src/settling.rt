@@ -30,7 +30,7 @@ pub fn no_room(values: &mut [u8], constraints: &mut [u16], f: &mut [f64], u: &mu
 }
 
 // The probe values go from the words into the values, and the scratches are cleared.
-fn hand_over(values: &mut [u8], f: &mut [f64], u: &mut [u32], at: usize)
+pub fn hand_over(values: &mut [u8], f: &mut [f64], u: &mut [u32], at: usize)
     requires { ⌜ Bytes at (length (now values)) (now u) ⌝ }
     ensures { λ _. ⌜ after values ≡ region at (length (before values)) (before u) ⌝ }
     ensures { λ _. ⌜ after f ≡ cleared zero64 (before f) ⌝ }

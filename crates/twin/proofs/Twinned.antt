@@ -21,7 +21,7 @@ use Rattle.probing.proofs.Probing.{probed-below}
 use Rattle.workspace.specs.Restored.{Touched}
 use Rattle.workspace.proofs.Theorems.{start-with, probe-values, probe-restores, restored-floats, restored-remembers}
 use Rattle.probe.specs.Found.{nothing}
-use Rattle.finding.specs.Finds.{wins, givesAt, findingOf, finding, recordsTo}
+use Rattle.finding.specs.Finds.{wins, givesAt, findingOf, finding, findingBy, recordsTo}
 use Rattle.finding.specs.Emit.{layTo, Layable, bench, findingIn, emitTo, chosenTo, Emittable}
 use Rattle.finding.proofs.Entered.{gathering-same}
 use Rattle.finding.specs.Enters.{Enters}
@@ -36,7 +36,7 @@ use Rattle.twin.proofs.Framed.{remembers-front, touched-front, probe-be
 use Rattle.twin.proofs.Halfway.{queue-few}
 
 finding-is : (F : Field) (s : List ℕ) (i j : ℕ) {w : List ℕ} → w ≡ closure F (set s i 1) → findingOf s i (closure F (set s i 0)) w j ≡ finding F s i j
-unfolding finding
+unfolding findingBy
 finding-is F s i j e = rw e
 
 module _ {F : Field} {s : List ℕ} {f : List Float} {u : List ℕ} {known : Known} {i k end : ℕ} (H : Halfway F s f u known i k) (N : EndFor F u end) where

@@ -1,4 +1,4 @@
--- One candidate more, a flush, and the end of the walk. Assumes nothing.
+-- One candidate more, a flush, and the end of the walk, whatever works the probes. Assumes nothing.
 use Prim.Native.Nat.{ℕ, zero, suc, _+_, _-_, _<_, _≤_}
 use mathlib.Core.Path.{_≡_, refl, sym, ap, _∙_}
 use mathlib.Core.Bool.{Bool, true, false, cond}
@@ -8,10 +8,8 @@ use native.Mathlib.Nat.{le-refl, add-zero, add-suc}
 use native.Mathlib.Omega.{arith}
 use borrow.Author.Tests.{leb-true}
 use lib.Dec.{leb}
-use lib.Ieee.{Float}
 use lib.ListN.{length, getD, take, replicate}
-use lib.Seq.{ext-getD, take-take}
-use Rattle.probing.specs.declared.Known.{Known}
+use lib.Seq.{ext-getD}
 use Rattle.scratch.specs.Region.{region}
 use Rattle.scratch.proofs.Region.{length-region, region-at}
 use Rattle.meaning.specs.Records.{Record, AllProper}
@@ -30,11 +28,10 @@ use Rattle.found.proofs.Holding.{stays-full, words-left}
 use Rattle.field.specs.Field.{Field, variables}
 use Rattle.rows.proofs.Upto.{length-upTo, getD-upTo}
 use Rattle.places.proofs.Slices.{front-getD}
-use Rattle.finding.specs.Finds.{wins, finding, valuesAfter, recordsOf, valuesOf}
+use Rattle.finding.specs.Finds.{wins, finding, valuesAfter, recordsOf, recordsFoundBy, valuesOf, valuesFoundBy}
 use Rattle.finding.proofs.Entering.{to-more}
-use Rattle.twin.specs.Twin.{firstAt, valuesAt, Twinnable, Twinned}
-use Rattle.twin.proofs.Framed.{remembers-front}
-use Rattle.walking.specs.Walk.{candidatesAt, gatherAt, roomed, endAfter, heldOf, Walkable, Stands, Walks, Walked, holds, full}
+use Rattle.twin.specs.Twin.{valuesAt}
+use Rattle.walking.specs.Walk.{candidatesAt, gatherAt, roomed, endAfter, heldOf, Stays, Begins, Adds, Stands, Walks, Walked, holds, full}
 
 -- ---- the model
 
@@ -49,46 +46,45 @@ getD-replicate (suc n) x (suc j) h = getD-replicate n x j (omega arith)
 
 module _ (F : Field) (s cands : List ℕ) where
   pub values-long : (k : ℕ) → length (valuesOf F s cands k) ≡ variables F
-  unfolding valuesOf valuesAfter
+  unfolding valuesFoundBy valuesAfter
   values-long zero = length-replicate (variables F) 2
   values-long (suc k) = length-upTo _ (length (valuesOf F s cands k)) ∙ values-long k
 
   value-next : (k j : ℕ) → j < variables F → getD (valuesOf F s cands (suc k)) j 0 ≡ wins (finding F s (getD cands k 0) j) (getD (valuesOf F s cands k) j 0)
-  unfolding valuesOf valuesAfter
+  unfolding valuesFoundBy valuesAfter
   value-next k j h = getD-upTo (λ j. wins (finding F s (getD cands k 0) j) (getD (valuesOf F s cands k) j 0)) (length (valuesOf F s cands k)) j 0 (omega (arith, values-long k))
 
 -- what was found stays found
 found-more : (F : Field) (s cands : List ℕ) (k d : ℕ) (x : Record) → List·Memᴰ x (recordsOf F s cands k) → List·Memᴰ x (recordsOf F s cands (k + d))
-unfolding recordsOf
+unfolding recordsFoundBy
 found-more F s cands k zero x m = rw (add-zero k) m
 found-more F s cands k (suc d) x m =
     rw (add-suc k d) (to-more (finding F s (getD cands (k + d) 0)) (recordsOf F s cands (k + d)) (variables F) x (found-more F s cands k d x m))
 
 -- ---- the start
 
-module _ {F : Field} {s : List ℕ} {f : List Float} {u : List ℕ} {known : Known} {count : ℕ} (W : Walkable F s f u known count) where
-  pub stands-start : Stands F s f known (region (candidatesAt F) count u) 0 u
-  unfolding valuesOf
+module _ {F : Field} {s : List ℕ} {P : List ℕ → Type 0} {u : List ℕ} {count : ℕ} (B : Begins F s P u count) where
+  pub stands-start : Stands F s P (region (candidatesAt F) count u) 0 u
+  unfolding valuesFoundBy
   stands-start =
       let cands = region (candidatesAt F) count u in
-      let long : length cands ≡ count = length-region (candidatesAt F) count u (omega (arith, W .within, W .space)) in record {
-        remembers = W .remembers;
-        few = W .few;
-        space = W .space;
-        first = W .first;
-        values = λ j h. W .none j h ∙ sym (getD-replicate (variables F) 2 j h);
+      let long : length cands ≡ count = length-region (candidatesAt F) count u (omega (arith, B .within, B .space)) in record {
+        stand = B .stand;
+        few = B .few;
+        space = B .space;
+        values = λ j h. B .none j h ∙ sym (getD-replicate (variables F) 2 j h);
         listed = λ h l. sym (region-at (candidatesAt F) count u h 0 (omega (arith, l, long)));
-        within = omega (arith, W .within, long);
-        free = λ h l. rw (region-at (candidatesAt F) count u h 0 (omega (arith, l, long))) (W .free h (omega (arith, l, long)));
+        within = omega (arith, B .within, long);
+        free = λ h l. rw (region-at (candidatesAt F) count u h 0 (omega (arith, l, long))) (B .free h (omega (arith, l, long)));
       }
 
-  pub walks-start : (list : List ℕ) → Walks F s f known (region (candidatesAt F) count u) 0 list list 0 u (gatherAt F)
-  unfolding recordsOf
-  walks-start list = record { stands = stands-start; gathers = gathering-start (gatherAt F) list u (omega (arith, W .space)) }
+  pub walks-start : (list : List ℕ) → Walks F s P (region (candidatesAt F) count u) 0 list list 0 u (gatherAt F)
+  unfolding recordsFoundBy
+  walks-start list = record { stands = stands-start; gathers = gathering-start (gatherAt F) list u (omega (arith, B .space)) }
 
 -- ---- one candidate more
 
-module _ {F : Field} {s : List ℕ} {f : List Float} {known : Known} {cands : List ℕ} {k : ℕ} {u : List ℕ} (W : Stands F s f known cands k u) where
+module _ {F : Field} {s : List ℕ} {P : List ℕ → Type 0} {cands : List ℕ} {k : ℕ} {u : List ℕ} (W : Stands F s P cands k u) where
   -- the end: the probe values
   pub stands-values : region (valuesAt F) (variables F) u ≡ valuesOf F s cands k
   stands-values =
@@ -100,49 +96,46 @@ module _ {F : Field} {s : List ℕ} {f : List Float} {known : Known} {cands : Li
     is-candidate : i ≡ getD cands k 0
     is-candidate = here ∙ W .listed k more
 
-    pub stands-twinnable : Twinnable F s f u known i
-    stands-twinnable = record { remembers = W .remembers; few = W .few; free = rw is-candidate (W .free k more); first = W .first; room = omega (arith, W .space) }
+    pub candidate-free : getD s i 0 ≡ 2
+    candidate-free = rw is-candidate (W .free k more)
 
-    module _ {end r : ℕ} {u′ : List ℕ} (T : Twinned F s f known i u end u′ r) where
-      pub stands-twin : Stands F s f known cands (k + 1) u′
-      stands-twin = rw (add-one k) record {
-        remembers = T .remembers;
+    module _ {end r : ℕ} {u′ : List ℕ} (A : Adds F s i u end u′ r) (stand : P u′) where
+      pub stands-more : Stands F s P cands (k + 1) u′
+      stands-more = rw (add-one k) record {
+        stand = stand;
         few = W .few;
-        space = omega (arith, W .space, T .long);
-        first = T .first;
+        space = omega (arith, W .space, A .long);
         values = λ j h.
-            T .values j h
+            A .values j h
             ∙ ap (wins (finding F s i j)) (W .values j h)
             ∙ ap (λ (z : ℕ). wins (finding F s z j) (getD (valuesOf F s cands k) j 0)) is-candidate
             ∙ sym (value-next F s cands k j h);
-        listed = λ h l. T .between h (omega (arith, W .within)) ∙ W .listed h l;
+        listed = λ h l. A .between h (omega (arith, W .within)) ∙ W .listed h l;
         within = W .within;
         free = W .free;
       }
 
-      pub gathers-twin : {list₀ list : List ℕ} {held : ℕ} → Gathering (recordsOf F s cands k) (gatherAt F) end held list₀ list u
+      pub gathers-more : {list₀ list : List ℕ} {held : ℕ} → Gathering (recordsOf F s cands k) (gatherAt F) end held list₀ list u
           → Gathering (recordsOf F s cands (k + 1)) (gatherAt F) r held list₀ list u′
-      unfolding recordsOf
-      gathers-twin G = rw (add-one k, ← is-candidate) (T .gathers (le-refl (gatherAt F)) G)
+      unfolding recordsFoundBy
+      gathers-more G = rw (add-one k, ← is-candidate) (A .gathers G)
 
-module _ {F : Field} {s : List ℕ} {f : List Float} {known : Known} {cands : List ℕ} {k : ℕ} {list₀ list : List ℕ} {held : ℕ} {u : List ℕ} {end : ℕ}
-    (W : Walks F s f known cands k list₀ list held u end) where
-  pub walks-twin : {i : ℕ} → i ≡ getD u (candidatesAt F + k) 0 → k < length cands → {u′ : List ℕ} {r : ℕ} → Twinned F s f known i u end u′ r
-      → Walks F s f known cands (k + 1) list₀ list held u′ r
-  walks-twin here more T = record { stands = stands-twin (W .stands) here more T; gathers = gathers-twin (W .stands) here more T (W .gathers) }
+module _ {F : Field} {s : List ℕ} {P : List ℕ → Type 0} {cands : List ℕ} {k : ℕ} {list₀ list : List ℕ} {held : ℕ} {u : List ℕ} {end : ℕ}
+    (stays : Stays F P) (W : Walks F s P cands k list₀ list held u end) where
+  pub walks-more : {i : ℕ} → i ≡ getD u (candidatesAt F + k) 0 → k < length cands → {u′ : List ℕ} {r : ℕ} → Adds F s i u end u′ r → P u′
+      → Walks F s P cands (k + 1) list₀ list held u′ r
+  walks-more here more A stand = record { stands = stands-more (W .stands) here more A stand; gathers = gathers-more (W .stands) here more A stand (W .gathers) }
 
   -- ---- a flush
 
   walks-front : {list′ u′ : List ℕ} {held′ end′ : ℕ} → take (gatherAt F) u′ ≡ take (gatherAt F) u → length u′ ≡ length u
-      → Gathering (recordsOf F s cands k) (gatherAt F) end′ held′ list₀ list′ u′ → Walks F s f known cands k list₀ list′ held′ u′ end′
+      → Gathering (recordsOf F s cands k) (gatherAt F) end′ held′ list₀ list′ u′ → Walks F s P cands k list₀ list′ held′ u′ end′
   walks-front {u′ = u′} front long G =
-      let S = W .stands in
-      let cut : (w : List ℕ) → take (firstAt F) (take (gatherAt F) w) ≡ take (firstAt F) w = λ w. take-take (firstAt F) (gatherAt F) w (omega arith) in record {
+      let S = W .stands in record {
         stands = record {
-          remembers = remembers-front F u u′ (sym (cut u′) ∙ ap (take (firstAt F)) front ∙ cut u) long (S .remembers);
+          stand = stays u u′ front long (S .stand);
           few = S .few;
           space = omega (arith, S .space, long);
-          first = λ j h. front-getD (gatherAt F) u′ u front (firstAt F + j) (omega arith) ∙ S .first j h;
           values = λ j h. front-getD (gatherAt F) u′ u front (valuesAt F + j) (omega arith) ∙ S .values j h;
           listed = λ h l. front-getD (gatherAt F) u′ u front (candidatesAt F + h) (omega (arith, S .within)) ∙ S .listed h l;
           within = S .within;
@@ -164,7 +157,7 @@ module _ {F : Field} {s : List ℕ} {f : List Float} {known : Known} {cands : Li
     flushed-words : x .words ≡ distinctAt (gatherAt F) end u
     flushed-words = words-left (W .gathers .holding) (W .gathers .keys) (rw (W .gathers .count) at e)
 
-    pub walks-flush : {m : ℕ} → x .answer ≡ Holds m → Walks F s f known cands k list₀ (x .list) m (x .words) (gatherAt F)
+    pub walks-flush : {m : ℕ} → x .answer ≡ Holds m → Walks F s P cands k list₀ (x .list) m (x .words) (gatherAt F)
     walks-flush a =
         let K = W .gathers .keys in
         walks-front (ap (take (gatherAt F)) flushed-words ∙ distinct-front (gatherAt F) end u (omega (arith, K .order, K .room)))
@@ -180,11 +173,11 @@ module _ {F : Field} {s : List ℕ} {f : List Float} {known : Known} {cands : Li
     unfolding roomed
     roomed-by b q = rw q at e
 
-    pub roomed-walks : {m : ℕ} → x .answer ≡ Holds m → Walks F s f known cands k list₀ (x .list) (heldOf (x .answer)) (x .words) (endAfter (length u) (gatherAt F) end (variables F))
+    pub roomed-walks : {m : ℕ} → x .answer ≡ Holds m → Walks F s P cands k list₀ (x .list) (heldOf (x .answer)) (x .words) (endAfter (length u) (gatherAt F) end (variables F))
     unfolding endAfter heldOf
     roomed-walks {m} a = go (leb (variables F) (length u - end)) refl
       where
-        go : (b : Bool) → leb (variables F) (length u - end) ≡ b → Walks F s f known cands k list₀ (x .list) (heldOf (x .answer)) (x .words) (cond b end (gatherAt F))
+        go : (b : Bool) → leb (variables F) (length u - end) ≡ b → Walks F s P cands k list₀ (x .list) (heldOf (x .answer)) (x .words) (cond b end (gatherAt F))
         go true q = rw (roomed-by true q) W
         go false q = rw a (walks-flush (roomed-by false q) a)
 
@@ -208,14 +201,14 @@ module _ {F : Field} {s : List ℕ} {f : List Float} {known : Known} {cands : Li
 
 -- ---- the end
 
-module _ {F : Field} {s : List ℕ} {f : List Float} {known : Known} {cands list₀ list : List ℕ} {held : ℕ} {u : List ℕ} {end : ℕ}
-    (W : Walks F s f known cands (length cands) list₀ list held u end) {x : Left} (e : x ≡ flushed list held u (gatherAt F) end) where
+module _ {F : Field} {s : List ℕ} {P : List ℕ → Type 0} {cands list₀ list : List ℕ} {held : ℕ} {u : List ℕ} {end : ℕ}
+    (stays : Stays F P) (W : Walks F s P cands (length cands) list₀ list held u end) {x : Left} (e : x ≡ flushed list held u (gatherAt F) end) where
   pub walks-done : Walked F s cands list₀ (x .answer) (x .list) (x .words)
   walks-done = go (x .answer) refl
     where
       go : (a : Merged) → x .answer ≡ a → Walked F s cands list₀ a (x .list) (x .words)
       go (Holds m) q =
-          let Z = walks-flush W e q in
+          let Z = walks-flush stays W e q in
           let H = gathering-done (Z .gathers) in
           rw (gathering-count (Z .gathers)) (holds (H .fits) (H .is) (stands-values (Z .stands)))
-      go Full q = full (walks-full W e (le-refl (length cands)) q)
+      go Full q = full (walks-full stays W e (le-refl (length cands)) q)

@@ -16,7 +16,14 @@ ghost use Rattle.places.specs.Places.{Adjacent};
 ghost use Rattle.walking.specs.Walk.{candidatesAt, roomed, endAfter, heldOf, Walkable, Valued, Walked};
 
 // The numbers are flushed where fewer than n places are left behind them.
-fn make_room(list: &mut [u16], held: usize, u: &mut [u32], lo: usize, hi: usize, n: usize) -> Merged
+pub fn make_room(
+    list: &mut [u16],
+    held: usize,
+    u: &mut [u32],
+    lo: usize,
+    hi: usize,
+    n: usize,
+) -> Merged
     requires { ⌜ Held held (now list) ⌝ }
     requires { ⌜ Keys lo hi (now u) ⌝ }
     ensures { λ r. ⌜ left r (after list) (after u) ≡ roomed (before list) held (before u) lo hi n ⌝ }
@@ -28,7 +35,7 @@ fn make_room(list: &mut [u16], held: usize, u: &mut [u32], lo: usize, hi: usize,
 }
 
 // Where they end then.
-fn end_after(long: usize, lo: usize, hi: usize, n: usize) -> usize
+pub fn end_after(long: usize, lo: usize, hi: usize, n: usize) -> usize
     requires { ⌜ hi ≤ long ⌝ }
     ensures { λ r. ⌜ r ≡ endAfter long lo hi n ⌝ }
 {
@@ -39,7 +46,7 @@ fn end_after(long: usize, lo: usize, hi: usize, n: usize) -> usize
 }
 
 // How many records are held.
-fn held_of(merged: Merged) -> usize
+pub fn held_of(merged: Merged) -> usize
     ensures { λ r. ⌜ r ≡ heldOf merged ⌝ }
 {
     match merged {

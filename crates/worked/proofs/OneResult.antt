@@ -55,6 +55,16 @@ module _ (F : Field) (s : List ℕ) (f : List Float) (u : List ℕ) where
   pub probe-one-one : (i v : ℕ) (values : List ℕ) → One (probe.probeOneCall F s i v values f u)
   probe-one-one i v values = one
 
+  -- by either route, as by any other
+  pub probe-one-by : (R : probe.Route) (i v : ℕ) (values : List ℕ) → One (probe.probeOneBy R F s i v values f u)
+  probe-one-by R i v values = one
+
+  pub probe-by : (R : probe.Route) (values list : List ℕ) → One (probes.probeBy R F s values list f u)
+  probe-by R values list = one
+
+  pub probe-limited-by : (R : probe.Route) (limit : ℕ) (values list : List ℕ) → One (probes.probeLimitedBy R F s limit values list f u)
+  probe-limited-by R limit values list = one
+
   pub probe-one : (values list : List ℕ) → One (probes.probeCall F s values list f u)
   probe-one values list = one
 

@@ -22,6 +22,7 @@ use Rattle.rows.specs.Model as rows
 use Rattle.rows.specs.Stored.{upTo}
 use Rattle.places.specs.Places.{places, placesFrom, keep, otherEnd}
 use Rattle.run.specs.Run as run
+use Rattle.probing.specs.Remembered as remembered
 use Rattle.parts.specs.Walk as walk
 use Rattle.masks.specs.Masks as masks
 use Rattle.enumeration.specs.Terms as terms
@@ -65,13 +66,14 @@ use Rattle.worked.specs.Cases.{cases, given, numbers, expected}
 pub worked : map given cases ≡ map expected cases
 unfolding given expected numbers
     called staged keeping values.valuesBy
-    probe.probeOneCall probe.probeOne probe.newOnly probe.newAt probe.probeTests probe.mayProbe
-    probes.probeCall probes.probeLimitedCall probes.candidatesCall probes.fits probes.allValues probes.allRecords
+    probe.probeOneBy probe.givenBy probe.newOnly probe.newAt probe.probeTests probe.mayProbe
+    probes.probeBy probes.probeLimitedBy probes.candidatesBy probes.fitsBy probes.allValuesBy probes.allRecordsBy
     pairs.pairsCall anchors.anchorsCall sub-problem.subProblemCall sub-problem.finished mend.mendCall mend.mendTests mend.sumTests mend.fits
     propagation.propagateCall literals.propagationTests literals.constraintsFit literals.allFit
     readyTests standardTests openTests looseTests shapeTests fewVariables listsMatch inOrder isFine firstFrom wrongAt faultOf offDiagonal weightsFinite startFits floatsFit wordsFit
     endsBelow allRise allFinite bytesSmall allBelow gradeOf isExact unitOf firstOf serves allWeigh weighs wholeIn plus minus magnitude
     run.closure run.closureRun run.propagate run.work run.serve run.serveAll run.serveAt run.moveRow run.scanTo run.scanAt run.judged run.settle run.force run.flatTo
+    remembered.probeRun remembered.renewed remembered.moves remembered.moveAll remembered.moveAt remembered.fresh remembered.freshAll remembered.freshAt remembered.freshRow remembered.remembered
     upTo places placesFrom keep otherEnd rows.rowOf rows.rowTo rows.atEntry rows.atEnd addTerm
     small.smallParts small.solvedParts small.solvedPart
     walk.components walk.partsTo walk.partAt walk.walk walk.turns walk.turnOn walk.serve walk.visitAll walk.visitAt walk.visit walk.push walk.opened
@@ -81,7 +83,7 @@ unfolding given expected numbers
     effect.untouched effect.hasNoEffect working.fixAt working.fixTo working.withNoEffect working.preprocess
     rounds.laidAt rounds.laidOver rounds.probeValues rounds.round rounds.rounds rounds.heavy frees freeTo
     ranking.massAtEnd ranking.massAtEntry ranking.massTo ranking.massOf ranking.ahead ranking.insert ranking.ordered ranking.ranks
-    found finds.added finds.wins finds.givesAt finds.findingOf finds.finding finds.recordsTo finds.valuesAfter finds.recordsOf finds.valuesOf
+    found finds.added finds.wins finds.givesAt finds.findingOf finds.findingBy finds.recordsTo finds.valuesAfter finds.recordsFoundBy finds.valuesFoundBy
     rising.before rising.insert rising.mergedList records.pairsIn records.rulesOf flat.flat flat.filled flat.records over
     margins.atEnd margins.overEnds margins.mergedWeight margins.widen margins.neighbour margins.boundsTo margins.boundsOf margins.signOf margins.signsOf
     margins.sumKinds margins.diffKinds margins.pairSigns margins.pairKinds

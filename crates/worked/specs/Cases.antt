@@ -25,6 +25,7 @@ use Rattle.preprocess.specs.Call as preprocess
 use Rattle.heavy.specs.Call as heavy
 use Rattle.probe.specs.Call as probe
 use Rattle.probes.specs.Call as probes
+use Rattle.probes.specs.Route.{fast}
 use Rattle.pairs.specs.declared.Paired.the-variants as paired
 use Rattle.pairs.specs.Call as pairs
 use Rattle.anchors.specs.Call as anchors
@@ -45,7 +46,7 @@ use Rattle.allow.specs.declared.Allowed.the-variants as allowed
 use Rattle.allow.specs.declared.Allowed.the-variants.{Yes, No}
 use Rattle.allow.specs.Call as allow
 use Rattle.worked.specs.Fields.{nought, half, sixteenth, limit, above-limit, minus-half, minus-one, two, minus-two, three, minus-three, four, minus-four, minus-five, six, minus-six, seven, heavy-rate, one, least, minus-nought, huge, minus-huge}
-use Rattle.worked.specs.Fields.{alone, joined, apart, opposed, swallowing, unbalanced, two-parts, overflowing, on-diagonal, with-zero, parted, popped, one-term, two-pairs, three-pairs, four-pairs, linked, at-tolerance, placed, cancelling, both-ways, waiting, in-chain, crossed, on-both-diagonals, edited, listed, whole-limit, past-whole, five}
+use Rattle.worked.specs.Fields.{alone, joined, apart, opposed, swallowing, unbalanced, two-parts, overflowing, on-diagonal, with-zero, parted, popped, one-term, two-pairs, three-pairs, four-pairs, linked, at-tolerance, placed, cancelling, feared, staying, both-ways, waiting, in-chain, crossed, on-both-diagonals, edited, listed, whole-limit, past-whole, five}
 
 -- a call, the field with its grade, the start values, what else it is given, and what it answers
 pub data Case : Type 0 where
@@ -56,6 +57,8 @@ pub data Case : Type 0 where
   rounds : Field → Grade → List ℕ → List ℕ → Case
   -- the probed variable and value, and the values found
   probes-one : Field → Grade → List ℕ → ℕ → ℕ → List ℕ → Case
+  -- the same by the fast route's own definition
+  probes-fast : Field → Grade → List ℕ → ℕ → ℕ → List ℕ → Case
   -- the values and the records found
   probes-all : Field → Grade → List ℕ → List ℕ → List ℕ → Case
   -- the limit of candidates besides
@@ -260,6 +263,15 @@ cases =
     ∷ overflows (listed 2 (1 ∷ 1 ∷ 1 ∷ []) (0 ∷ 0 ∷ 0 ∷ []) (huge ∷ huge ∷ minus-huge ∷ []))
     ∷ mends (listed 2 (9 ∷ 9 ∷ []) (9 ∷ 9 ∷ []) (huge ∷ huge ∷ [])) Exact (listed 2 [] [] []) (0 ∷ 0 ∷ 65535 ∷ 1 ∷ 0 ∷ 65535 ∷ [])
     ∷ lacks-report (listed 2 (0 ∷ 1 ∷ []) (1 ∷ 0 ∷ []) (one ∷ two ∷ [])) (7 ∷ 7 ∷ 7 ∷ 9 ∷ [])
+    -- C-14: both routes force x0, whose row is made afresh; both keep a rounding in row 0, whose term the run itself takes out; both probes of case i
+    ∷ probes-one feared Inexact (2 ∷ 2 ∷ []) 1 0 (0 ∷ 0 ∷ [])
+    ∷ probes-fast feared Inexact (2 ∷ 2 ∷ []) 1 0 (0 ∷ 0 ∷ [])
+    ∷ probes-one feared Inexact (2 ∷ 2 ∷ []) 1 1 (1 ∷ 1 ∷ [])
+    ∷ probes-fast feared Inexact (2 ∷ 2 ∷ []) 1 1 (1 ∷ 1 ∷ [])
+    ∷ probes-one staying Inexact (2 ∷ 2 ∷ 2 ∷ []) 2 0 (2 ∷ 0 ∷ 0 ∷ [])
+    ∷ probes-fast staying Inexact (2 ∷ 2 ∷ 2 ∷ []) 2 0 (2 ∷ 0 ∷ 0 ∷ [])
+    ∷ probes-fast (joined (minus-one ∷ minus-one ∷ []) four) Exact (2 ∷ 2 ∷ []) 0 0 (0 ∷ 1 ∷ [])
+    ∷ probes-fast (joined (minus-one ∷ minus-one ∷ []) four) Exact (2 ∷ 2 ∷ []) 0 1 (1 ∷ 0 ∷ [])
     -- C-20, "Equal and ExactlyOne on one pair", in two records or in one; ExactlyOne alone
     ∷ allows 2 both (No 0) (2 ∷ 2 ∷ []) (4 ∷ 4 ∷ 4 ∷ 4 ∷ [])
     ∷ allows 2 (0 ∷ 1 ∷ 15 ∷ []) (No 0) (2 ∷ 2 ∷ []) (4 ∷ 4 ∷ 4 ∷ 4 ∷ [])
@@ -359,6 +371,7 @@ given (completes F g s t) = in-start (components.componentsCall F s (floats F) (
 given (preprocesses F g s t) = in-start (preprocess.preprocessCall F s (floats F) (words F))
 given (rounds F g s t) = in-start (heavy.heavyCall F s (floats F) (words F))
 given (probes-one F g s i v t) = in-found (probe.probeOneCall F s i v (replicate (length t) 7) (floats F) (words F))
+given (probes-fast F g s i v t) = in-found (probe.probeOneBy fast F s i v (replicate (length t) 7) (floats F) (words F))
 given (probes-all F g s t k) = in-both (probes.probeCall F s (replicate (length t) 7) (lent k) (floats F) (words F))
 given (probes-some F g s limit t k) = in-both (probes.probeLimitedCall F s limit (replicate (length t) 7) (lent k) (floats F) (words F))
 given (compares F g s k items examined) = in-pairs (pairs.pairsCall F s 250000 (lent k) (floats F) (words F))
@@ -386,6 +399,7 @@ expected (completes F g s t) = in-start (values.left (Done g) t (cleared zero64 
 expected (preprocesses F g s t) = in-start (values.left (Done g) t (cleared zero64 (floats F)) (cleared 0 (words F)))
 expected (rounds F g s t) = in-start (values.left (Done g) t (cleared zero64 (floats F)) (cleared 0 (words F)))
 expected (probes-one F g s i v t) = in-found (probe.left (Done g) t (cleared zero64 (floats F)) (cleared 0 (words F)))
+expected (probes-fast F g s i v t) = in-found (probe.left (Done g) t (cleared zero64 (floats F)) (cleared 0 (words F)))
 expected (probes-all F g s t k) = in-both (probes.left (Counts g (room k)) t (front k) (cleared zero64 (floats F)) (cleared 0 (words F)))
 expected (probes-some F g s limit t k) = in-both (probes.left (Counts g (room k)) t (front k) (cleared zero64 (floats F)) (cleared 0 (words F)))
 expected (compares F g s k items examined) = in-pairs (pairs.left (paired.Done g items examined) (front k) (cleared zero64 (floats F)) (cleared 0 (words F)))

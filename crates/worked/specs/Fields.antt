@@ -207,6 +207,14 @@ placed n rows cols = fieldOf (replicate n nought) rows cols (replicate (length r
 abbrev pub cancelling : Field
 cancelling = fieldOf (one ∷ fin false 1 (pos 61) ∷ []) (1 ∷ 0 ∷ []) (0 ∷ 1 ∷ []) (fin false 1 (pos 61) ∷ fin true 1 (pos 61) ∷ [])
 
+-- c=(1,0), (0,1) -2^61: taken out of the remembered lower bound 1 - 2^60, which is -2^60, the term would leave 0
+abbrev pub feared : Field
+feared = joined (one ∷ nought ∷ []) (fin true 1 (pos 61))
+
+-- c=(1,2^61,0), (0,1) -2^61, (1,2) -2^63: with variable 2 at 0 the run forces variable 1 to 0, and its term, taken out of row 0, leaves 0 in place of 1
+abbrev pub staying : Field
+staying = fieldOf (one ∷ fin false 1 (pos 61) ∷ nought ∷ []) (0 ∷ 1 ∷ []) (1 ∷ 2 ∷ []) (fin true 1 (pos 61) ∷ fin true 1 (pos 63) ∷ [])
+
 -- c=(-5,-1), (1,0) 4, (0,1) 1: the run forces variable 1 at the first of the two entries that join it to 0
 abbrev pub both-ways : Field
 both-ways = fieldOf (minus-five ∷ minus-one ∷ []) (1 ∷ 0 ∷ []) (0 ∷ 1 ∷ []) (four ∷ one ∷ [])

@@ -5,7 +5,7 @@ use mathlib.Core.List.{List, [], _∷_}
 use lib.Dec.{ltb}
 use lib.Ieee.{binary64, fits}
 use Rattle.field.specs.Field.{Field}
-use Rattle.worked.specs.Cases.{Case, closes, completes, preprocesses, rounds, probes-one, probes-all, probes-some, compares, anchors-at, propagates, argues, refuses, explains, explains-none, reduces, lacks-room, keeps, keeps-none, mends, overflows, lacks-report, allows, lacks-places}
+use Rattle.worked.specs.Cases.{Case, closes, completes, preprocesses, rounds, probes-one, probes-fast, probes-all, probes-some, compares, anchors-at, propagates, argues, refuses, explains, explains-none, reduces, lacks-room, keeps, keeps-none, mends, overflows, lacks-report, allows, lacks-places}
 use Rattle.kept.specs.Operations.{Operation, pin, release}
 
 -- every element passes
@@ -31,6 +31,7 @@ held (completes F g s t) = heldField F && heldBytes s
 held (preprocesses F g s t) = heldField F && heldBytes s
 held (rounds F g s t) = heldField F && heldBytes s
 held (probes-one F g s i v t) = heldField F && heldBytes s && ltb i 65536 && ltb v 256
+held (probes-fast F g s i v t) = heldField F && heldBytes s && ltb i 65536 && ltb v 256
 held (probes-all F g s t k) = heldField F && heldBytes s
 held (probes-some F g s limit t k) = heldField F && heldBytes s
 held (compares F g s k items examined) = heldField F && heldBytes s

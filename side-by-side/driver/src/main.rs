@@ -105,8 +105,11 @@ fn work(case: &Case, qubo: &Qubo, given: FixedVarMap, done: &mut Done) {
             found.retain(|i, _| !given.contains_key(i));
             done.found = Some(list_of(n, &found));
         }
-        Call::Probe => probed_all(done, n, variable_reduction::probe(qubo, &given, true)),
-        Call::LimitedProbe => {
+        // The text has no cold form of these two: the port's is held to the fast one.
+        Call::Probe | Call::ColdFull => {
+            probed_all(done, n, variable_reduction::probe(qubo, &given, true));
+        }
+        Call::LimitedProbe | Call::ColdLimited => {
             let limit = usize::try_from(case.limit).unwrap_or(usize::MAX);
             let answer = variable_reduction::probe_limited(qubo, &given, true, limit);
             probed_all(done, n, answer);

@@ -21,11 +21,13 @@ pub enum Call {
     Mend,
     Reason,
     Keep,
-    Allow = 20,
+    ColdFull,
+    ColdLimited,
+    Allow,
 }
 
 /// The calls with their names, in the order of their codes.
-pub const CALLS: [(Call, &str); 18] = [
+pub const CALLS: [(Call, &str); 20] = [
     (Call::Closure, "closure"),
     (Call::Components, "components"),
     (Call::Preprocess, "preprocess"),
@@ -43,6 +45,8 @@ pub const CALLS: [(Call, &str); 18] = [
     (Call::Mend, "mend"),
     (Call::Reason, "reason"),
     (Call::Keep, "keep"),
+    (Call::ColdFull, "cold-full"),
+    (Call::ColdLimited, "cold-limited"),
     (Call::Allow, "allow"),
 ];
 
@@ -103,14 +107,24 @@ impl Call {
         matches!(self, Self::SingleProbe | Self::ColdProbe)
     }
 
+    /// Probes many variables, each at both values.
+    pub fn probes_many(self) -> bool {
+        self.takes_candidates() || matches!(self, Self::Probe | Self::ColdFull)
+    }
+
+    /// Takes a limit of candidates.
+    pub fn takes_candidates(self) -> bool {
+        matches!(self, Self::LimitedProbe | Self::ColdLimited)
+    }
+
     /// Answers in a list of values, one a variable.
     pub fn finds_values(self) -> bool {
-        self.probes_one() || matches!(self, Self::Probe | Self::LimitedProbe | Self::Keep)
+        self.probes_one() || self.probes_many() || self == Self::Keep
     }
 
     /// Answers in a list of constraints.
     pub fn finds_constraints(self) -> bool {
-        matches!(self, Self::Probe | Self::LimitedProbe | Self::Pairs)
+        self.probes_many() || self == Self::Pairs
     }
 
     /// Answers in a list of changes, which is lent where others have a list of constraints.

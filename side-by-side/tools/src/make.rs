@@ -153,8 +153,7 @@ pub fn scale(random: &mut Random, case: &mut Case) {
 }
 
 fn size(random: &mut Random, call: Call, small: bool) -> usize {
-    use Call::{Heavy, LimitedProbe, Pairs, Probe};
-    let slow = matches!(call, Heavy | LimitedProbe | Pairs | Probe);
+    let slow = call.probes_many() || matches!(call, Call::Heavy | Call::Pairs);
     let n = match random.below(10_000) {
         0..=299 => random.below(2),
         300..=6_499 => 2 + random.below(11),
@@ -311,7 +310,7 @@ pub fn arguments(random: &mut Random, case: &mut Case) {
     if call == Call::Reason {
         case.variable = asked(random, case) as u64;
     }
-    if call == Call::LimitedProbe {
+    if call.takes_candidates() {
         let any = random.below(n + 2) as u64;
         case.limit = random.pick(&[0, 1, 2, 3, any, any, any, n as u64, u64::MAX]);
     }

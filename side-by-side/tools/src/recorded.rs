@@ -163,7 +163,7 @@ pub fn ample(case: &mut Case) {
         (case.found_room, case.variable_room) = (n, 2 * n);
     }
     (case.floats, case.words) = case.least_scratch();
-    case.limit = if matches!(call, Call::Pairs | Call::LimitedProbe) {
+    case.limit = if call.takes_candidates() || call == Call::Pairs {
         1_000
     } else {
         0
@@ -178,7 +178,7 @@ pub fn ample(case: &mut Case) {
 /// Seeds of small random cases on which a near miss answers otherwise: pairs merged, forcing at a bound of 0, no queue or a
 /// last-in one, rows worked out afresh or summed in another order, ties to the highest mask, sorted bits, stored zeros passed over,
 /// one round of the heavy call, the first value kept, a bound equal to the tolerance, rounded sums of anchors.
-const SHARP: [(Call, &[u64]); 11] = [
+const SHARP: [(Call, &[u64]); 13] = [
     (
         Call::Closure,
         &[
@@ -203,13 +203,10 @@ const SHARP: [(Call, &[u64]); 11] = [
     ),
     (Call::SingleProbe, &SHARP_PROBES),
     (Call::ColdProbe, &SHARP_PROBES),
-    (
-        Call::Probe,
-        &[
-            3, 19, 31, 37, 59, 65, 70, 90, 95, 205, 412, 1453, 12208, 14388,
-        ],
-    ),
-    (Call::LimitedProbe, &[3, 4, 7, 42, 90, 12208, 14388, 25893]),
+    (Call::Probe, &SHARP_FULL),
+    (Call::LimitedProbe, &SHARP_LIMITED),
+    (Call::ColdFull, &SHARP_FULL),
+    (Call::ColdLimited, &SHARP_LIMITED),
     (
         Call::Pairs,
         &[
@@ -229,13 +226,19 @@ const SHARP_PROBES: [u64; 16] = [
     121, 246, 247, 495, 518, 1022, 1149, 1605, 1710, 3401, 4523, 11830, 12000, 33095, 39789, 47042,
 ];
 
+const SHARP_FULL: [u64; 14] = [
+    3, 19, 31, 37, 59, 65, 70, 90, 95, 205, 412, 1453, 12208, 14388,
+];
+
+const SHARP_LIMITED: [u64; 8] = [3, 4, 7, 42, 90, 12208, 14388, 25893];
+
 /// The least number of recorded cases, however few the calls.
 const LEAST: usize = 2_100;
 
 /// Every recorded case of the given calls, in the order of the codes; what came with document 02 stands last, so that the others keep their places.
 pub fn recorded(calls: &[Call]) -> Vec<Case> {
     let mut cases = Vec::new();
-    let last = [Call::SubProblem, Call::Keep, Call::Mend, Call::Allow];
+    let last = [Call::SubProblem, Call::Keep, Call::Mend, Call::Allow, Call::ColdFull, Call::ColdLimited];
     let asked = |call: &Call| calls.contains(call) && !last.contains(call);
     let earlier: Vec<Call> = CALLS.iter().map(|row| row.0).filter(asked).collect();
     for &call in &earlier {
@@ -270,6 +273,7 @@ pub fn recorded(calls: &[Call]) -> Vec<Case> {
     if calls.contains(&Call::Allow) {
         allowing(&mut cases);
     }
+    probing_cold(calls, &mut cases);
     cases
 }
 
@@ -410,6 +414,40 @@ fn allowing(cases: &mut Vec<Case>) {
     cases.push(allow_case(1_024, &[]));
     cases.push(allow_case(1_025, &[]));
     small(call, 250, cases);
+}
+
+/// Document 02's C-14: a rounding that stays on both routes, since the term of a variable that the probe forces is taken out of a row.
+pub const STAYS: Worked = (
+    "stays",
+    &[1.0, TWO_61, 0.0],
+    &[(0, 1, -TWO_61), (1, 2, -4.0 * TWO_61)],
+    &[2, 2, 2],
+);
+
+/// The cold probes of many candidates, and by every probe the rounding that stays.
+fn probing_cold(calls: &[Call], cases: &mut Vec<Case>) {
+    for &call in calls {
+        if call.probes_one() {
+            for value in 0..2 {
+                let mut case = worked_case(call, &STAYS);
+                (case.variable, case.value) = (2, value);
+                cases.push(case);
+            }
+        }
+        if call.probes_many() {
+            cases.push(worked_case(call, &STAYS));
+        }
+    }
+    for call in [Call::ColdFull, Call::ColdLimited] {
+        if calls.contains(&call) {
+            worked(call, cases);
+            refusals(call, cases);
+            limits(call, cases);
+            sharp(call, cases);
+            small(call, 100, cases);
+            faults(call, cases);
+        }
+    }
 }
 
 /// The cases of the smaller problem.

@@ -2,7 +2,7 @@
 use lib.ListN.{length}
 use Rattle.meaning.specs.Free.{freeTo}
 use Rattle.field.specs.Field.{fieldOf}
-use Rattle.probes.specs.Call.{probeCall}
+use Rattle.probes.specs.Call.{probeBy}
 use Rattle.probes.proofs.Answers.{ready-of, refused-call, room-call, settled-call}
 use borrow.Author.Needs.{needs}
 use Rattle.probes.proofs.probe.Statement.{statement}
@@ -15,7 +15,7 @@ enum-known-checked : tie.Need-enum-known-checked
 enum-known-checked c = search needs
 
 returns : tie.Need-returns
-unfolding probeCall
+unfolding probeBy
 returns c =
     let a = c .before .before .before .before .before .before .before .before .before .before .before .before .before .args in
     let F = fieldOf (a .c .now) (a .rows .now) (a .cols .now) (a .q .now) in
@@ -41,7 +41,7 @@ same-length-4 : tie.Need-same-length-4
 same-length-4 c = c .before .before .before .before .before .before .before .before .no-room .kept .1 .1 .1 .0
 
 returns-2 : tie.Need-returns-2
-unfolding probeCall
+unfolding probeBy
 returns-2 c =
     let at-no-room = c .before .before .before .before .before .before .before .before in
     let at-if1 = at-no-room .before .before .before .before .before in
@@ -76,7 +76,7 @@ same-length-8 : tie.Need-same-length-8
 same-length-8 c = c .before .before .before .before .before .before .before .before .probe-all .kept .1 .1 .1 .1 .1 .1 .1 .1 .0
 
 returns-3 : tie.Need-returns-3
-unfolding probeCall
+unfolding probeBy
 returns-3 c =
     let at-probe-all = c .before .before .before .before .before .before .before .before in
     let at-enum-told = at-probe-all .before .before .before .before .before .before in

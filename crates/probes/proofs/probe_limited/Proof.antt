@@ -2,7 +2,7 @@
 use lib.ListN.{length, take}
 use Rattle.field.specs.Field.{fieldOf}
 use Rattle.ranking.specs.Ranking.{ranks}
-use Rattle.probes.specs.Call.{probeLimitedCall}
+use Rattle.probes.specs.Call.{probeLimitedBy}
 use Rattle.probes.proofs.Answers.{ready-of, refused-call, room-call, settled-call}
 use borrow.Author.Needs.{needs}
 use Rattle.probes.proofs.probe_limited.Statement.{statement}
@@ -15,7 +15,7 @@ enum-known-checked : tie.Need-enum-known-checked
 enum-known-checked c = search needs
 
 returns : tie.Need-returns
-unfolding probeLimitedCall
+unfolding probeLimitedBy
 returns c =
     let at-checked = c .before in
     let at-ready = at-checked .before .before in
@@ -44,7 +44,7 @@ same-length-4 : tie.Need-same-length-4
 same-length-4 c = c .before .before .before .before .before .before .before .before .no-room .kept .1 .1 .1 .0
 
 returns-2 : tie.Need-returns-2
-unfolding probeLimitedCall
+unfolding probeLimitedBy
 returns-2 c =
     let at-no-room = c .before .before .before .before .before .before .before .before in
     let at-if1 = at-no-room .before .before .before .before .before in
@@ -79,7 +79,7 @@ same-length-8 : tie.Need-same-length-8
 same-length-8 c = c .before .before .before .before .before .before .before .before .probe-some .kept .1 .1 .1 .1 .1 .1 .1 .1 .1 .0
 
 returns-3 : tie.Need-returns-3
-unfolding probeLimitedCall
+unfolding probeLimitedBy
 returns-3 c =
     let at-probe-some = c .before .before .before .before .before .before .before .before in
     let at-enum-told = at-probe-some .before .before .before .before .before .before in

@@ -3,7 +3,7 @@ use Prim.Native.Nat.{_-_}
 use mathlib.Core.Path.{sym, ap, _∙_}
 use lib.ListN.{length}
 use Rattle.field.specs.Field.{fieldOf}
-use Rattle.walking.proofs.Going.{less-next, fits-next, Walking, walking-start, walking-end, walking-asks, walking-list, walking-done, walking-full, walking-twin, walking-turn}
+use Rattle.walking.proofs.Going.{less-next, fits-next, going-end, going-asks, going-list, Walking, walking-start, walking-done, walking-full, walking-twin, walking-turn}
 use borrow.Author.Needs.{needs}
 use Rattle.walking.proofs.walk.Statement.{statement}
 use Rattle.walking.proofs.walk.Tie as tie
@@ -45,10 +45,10 @@ loop-holds : tie.Need-loop-holds Inv-loop μ-loop
 loop-holds c = walking-start (c .before .before .before .before .before .before .before .before .before .pre .0) (c .before .before .before .before .before .before .before .before .before .pre .1) _
 
 end-after-requires : tie.Need-end-after-requires Inv-loop μ-loop
-end-after-requires c κs = walking-end (c .before .loop .inv)
+end-after-requires c κs = going-end (c .before .loop .inv .going)
 
 make-room-requires : tie.Need-make-room-requires Inv-loop μ-loop
-make-room-requires c κs = walking-asks (c .before .before .before .before .loop .inv)
+make-room-requires c κs = going-asks (c .before .before .before .before .loop .inv .going)
 
 enum-told : tie.Need-enum-told Inv-loop μ-loop
 enum-told c = search needs
@@ -62,13 +62,13 @@ same-length c =
     (c .before .before .before .before .before .before .before .before .before .before .before .before .before .before .before .before .before .before .before .before .before .pre .1))
 
 same-length-2 : tie.Need-same-length-2 Inv-loop μ-loop
-same-length-2 c = c .before .before .before .before .before .before .make-room .kept .0 ∙ walking-list (c .before .before .before .before .before .before .before .before .before .before .before .loop .inv)
+same-length-2 c = c .before .before .before .before .before .before .make-room .kept .0 ∙ going-list (c .before .before .before .before .before .before .before .before .before .before .before .loop .inv .going)
 
 same-length-3 : tie.Need-same-length-3 Inv-loop μ-loop
 same-length-3 c = ap length (c .before .before .before .before .before .before .before .before .before .before .before .loop .inv .floats)
 
 same-length-4 : tie.Need-same-length-4 Inv-loop μ-loop
-same-length-4 c = c .before .before .before .before .before .before .make-room .kept .1 .1 .0 ∙ c .before .before .before .before .before .before .before .before .before .before .before .loop .inv .words-long
+same-length-4 c = c .before .before .before .before .before .before .make-room .kept .1 .1 .0 ∙ c .before .before .before .before .before .before .before .before .before .before .before .loop .inv .going .words-long
 
 returns : tie.Need-returns Inv-loop μ-loop
 returns c = (
@@ -134,7 +134,7 @@ loop-again c =
     (c .before .before .before .before .before .before .twin .ensures .1 .1)
 
 flush-requires : tie.Need-flush-requires Inv-loop μ-loop
-flush-requires c κs = walking-asks (c .before .before .before .loop .inv)
+flush-requires c κs = going-asks (c .before .before .before .loop .inv .going)
 
 same-length-5 : tie.Need-same-length-5 Inv-loop μ-loop
 same-length-5 c =
@@ -145,13 +145,13 @@ same-length-5 c =
     (c .before .before .before .before .before .before .before .before .before .before .before .before .before .before .before .before .before .before .pre .1))
 
 same-length-6 : tie.Need-same-length-6 Inv-loop μ-loop
-same-length-6 c = c .before .before .before .before .flush .kept .0 ∙ walking-list (c .before .before .before .before .before .before .before .before .loop .inv)
+same-length-6 c = c .before .before .before .before .flush .kept .0 ∙ going-list (c .before .before .before .before .before .before .before .before .loop .inv .going)
 
 same-length-7 : tie.Need-same-length-7 Inv-loop μ-loop
 same-length-7 c = ap length (c .before .before .before .before .before .before .before .before .loop .inv .floats)
 
 same-length-8 : tie.Need-same-length-8 Inv-loop μ-loop
-same-length-8 c = c .before .before .before .before .flush .kept .1 .1 .0 ∙ c .before .before .before .before .before .before .before .before .loop .inv .words-long
+same-length-8 c = c .before .before .before .before .flush .kept .1 .1 .0 ∙ c .before .before .before .before .before .before .before .before .loop .inv .going .words-long
 
 returns-2 : tie.Need-returns-2 Inv-loop μ-loop
 returns-2 c = (

@@ -91,7 +91,7 @@ same-length-3 c = c .before .loop .inv .words-long
 returns : tie.Need-returns Inv-loop μ-loop
 returns c =
     let inv = c .before .loop .inv in
-    (inv .same, (valuing-done inv (c .loop-test .left), inv .stands .remembers .placed .adjacent))
+    (inv .same, (valuing-done inv (c .loop-test .left), inv .stands .stand .remembers .placed .adjacent))
 
 pub walk-values-spec : {M : Type 1} → statement M
 walk-values-spec =

@@ -120,11 +120,11 @@ fn field_call(case: &Case, line: &str) -> Checked {
             same("probe", &found, &probe)?;
             defined = 1;
         }
-        Call::Probe | Call::LimitedProbe if case.n() <= 40 => {
-            let candidates = if case.call == Call::Probe {
-                (0..case.n()).filter(|&i| case.start[i] == 2).collect()
-            } else {
+        call if call.probes_many() && case.n() <= 40 => {
+            let candidates = if call.takes_candidates() {
                 whole.candidates(&case.start, case.limit)
+            } else {
+                (0..case.n()).filter(|&i| case.start[i] == 2).collect()
             };
             let (all, given) = whole.probes(&case.start, &candidates);
             same("constraints", &constraints, &all)?;
@@ -191,7 +191,7 @@ fn field_call(case: &Case, line: &str) -> Checked {
                 "a best completion breaks a value",
             )?;
         }
-        Call::Probe | Call::LimitedProbe | Call::Pairs => {
+        Call::Probe | Call::LimitedProbe | Call::ColdFull | Call::ColdLimited | Call::Pairs => {
             let best = whole.best(&case.start);
             every(
                 &best,

@@ -5,14 +5,14 @@ use std::io::{self, BufWriter, Write};
 use stream::line::part;
 use stream::{Call, Case};
 use tools::recorded::{
-    allow_case, ample, kept_case, listed_case, reason_case, worked_case, Worked, ALLOWED, FLAT, KEPT, LISTED, REASONS,
+    allow_case, ample, kept_case, listed_case, reason_case, worked_case, Worked, ALLOWED, FLAT, KEPT, LISTED, REASONS, STAYS,
     SMALLER, WORKED,
 };
 
 /// A value's name, the call, and what stands in the answer: its first words, a part's name and content.
 type Expected = (&'static str, Call, &'static str, &'static str, &'static str);
 
-const EXPECTED: [Expected; 138] = [
+const EXPECTED: [Expected; 146] = [
     ("a", Call::Closure, "0 exact ", "values", ""),
     ("b", Call::Closure, "0 exact ", "values", "2"),
     ("b", Call::Preprocess, "0 exact ", "values", "0"),
@@ -93,6 +93,14 @@ const EXPECTED: [Expected; 138] = [
         "found",
         "00",
     ),
+    ("stays, x2 at 0", Call::ColdProbe, "0 inexact ", "found", "200"),
+    ("stays, x2 at 0", Call::SingleProbe, "0 inexact ", "found", "200"),
+    ("i, x0 at 0", Call::ColdProbe, "0 exact ", "found", "01"),
+    ("i, x0 at 0", Call::SingleProbe, "0 exact ", "found", "01"),
+    ("i, x0 at 1", Call::ColdProbe, "0 exact ", "found", "10"),
+    ("i, x0 at 1", Call::SingleProbe, "0 exact ", "found", "10"),
+    ("i", Call::ColdFull, "0 exact ", "constraints", "0,1,9"),
+    ("i", Call::ColdLimited, "0 exact ", "constraints", "0,1,9"),
     ("cold", Call::Closure, "0 inexact ", "values", "22"),
     ("both", Call::Closure, "0 exact ", "values", "22"),
     ("a", Call::Preprocess, "0 exact ", "values", ""),
@@ -392,6 +400,7 @@ fn worked_field(name: &str) -> &'static Worked {
         .iter()
         .chain(&FLAT)
         .chain(&REASONS)
+        .chain([&STAYS])
         .chain(&SMALLER)
         .find(|w| w.0 == name)
         .expect("a worked field")
@@ -443,10 +452,10 @@ fn case_of(&(name, call, ..): &Expected) -> Case {
         let listed = LISTED.iter().find(|listed| listed.0 == name);
         return listed_case(listed.expect("a worked list"));
     }
-    let field = name.split(", x1").next().unwrap_or(name);
+    let (field, probed) = name.rsplit_once(", x").unwrap_or((name, ""));
     let mut case = worked_case(call, worked_field(field));
     if call.probes_one() {
-        case.variable = 1;
+        case.variable = probed[..1].parse().expect("a probed variable");
         case.value = u64::from(name.ends_with('1'));
     }
     case

@@ -19,8 +19,8 @@ same-length-3 c = search needs
 returns : tie.Need-returns
 returns c = search needs
 
-probe-one-requires : tie.Need-probe-one-requires
-probe-one-requires c κs = search needs
+cold-probe-one-requires : tie.Need-cold-probe-one-requires
+cold-probe-one-requires c κs = search needs
 
 answered-requires : tie.Need-answered-requires
 answered-requires c κs = search needs
@@ -38,7 +38,7 @@ same-length-7 : tie.Need-same-length-7
 same-length-7 c = search needs
 
 returns-2 : tie.Need-returns-2
-returns-2 c = answered-few (c .before .before .before .before .before .before .before .probe-one .result) (c .answered .ensures)
+returns-2 c = answered-few (c .before .before .before .before .before .before .before .cold-probe-one .result) (c .answered .ensures)
 
 propagate-requires : tie.Need-propagate-requires
 propagate-requires c κs = search needs
@@ -85,7 +85,7 @@ make-spec =
     same-length-2
     same-length-3
     returns
-    probe-one-requires
+    cold-probe-one-requires
     answered-requires
     same-length-4
     same-length-5

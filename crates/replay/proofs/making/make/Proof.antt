@@ -46,8 +46,8 @@ same-length-8 c = search needs
 returns-2 : tie.Need-returns-2
 returns-2 c = search needs
 
-make-requires : tie.Need-make-requires
-make-requires c κs = search needs
+others-requires : tie.Need-others-requires
+others-requires c κs = search needs
 
 same-length-9 : tie.Need-same-length-9
 same-length-9 c = search needs
@@ -85,7 +85,7 @@ make-spec =
     same-length-7
     same-length-8
     returns-2
-    make-requires
+    others-requires
     same-length-9
     same-length-10
     same-length-11

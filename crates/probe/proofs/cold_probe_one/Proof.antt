@@ -1,13 +1,13 @@
--- `probe_one` tests, grades, works, leaves out the start values, and clears. Assumes nothing.
+-- `cold_probe_one` tests, grades, works, leaves out the start values, and clears. Assumes nothing.
 use mathlib.Core.Path.{refl, sym, ap, _∙_}
 use native.Mathlib.Omega.{arith}
 use lib.ListN.{length}
 use Rattle.field.proofs.Means.{sound-loose}
-use Rattle.probe.specs.Call.{newOnly, probeOne}
+use Rattle.probe.specs.Call.{newOnly, givenBy}
 use Rattle.probe.proofs.Laws.{probe-passes, refused-call, room-call, done-call}
 use borrow.Author.Needs.{needs}
-use Rattle.probe.proofs.probe_one.Statement.{statement}
-use Rattle.probe.proofs.probe_one.Tie as tie
+use Rattle.probe.proofs.cold_probe_one.Statement.{statement}
+use Rattle.probe.proofs.cold_probe_one.Tie as tie
 
 ready-to-probe-requires : tie.Need-ready-to-probe-requires
 ready-to-probe-requires c κs = search needs
@@ -84,7 +84,7 @@ same-length-6 : tie.Need-same-length-6
 same-length-6 c = search needs
 
 returns-3 : tie.Need-returns-3
-unfolding probeOne
+unfolding givenBy
 returns-3 c =
     let at-clear-words2 = c .before .before in
     let at-clear-floats2 = at-clear-words2 .before .before .before .before in
@@ -101,8 +101,8 @@ returns-3 c =
     (at-clear-floats2 .clear-floats2 .ensures) (worked .kept .1 .1 .1 .1 .1 .1 .1 .1 .0) (at-clear-words2 .clear-words2 .ensures) (worked .kept .1 .1 .1 .1 .1 .1 .1 .1 .1 .0)
     (at-if1 .if1 .left) (at-graded .graded .ensures) (at-keep-new .keep-new .ensures ∙ ap (newOnly _) (worked .ensures))
 
-pub probe-one-spec : {M : Type 1} → statement M
-probe-one-spec =
+pub cold-probe-one-spec : {M : Type 1} → statement M
+cold-probe-one-spec =
     tie.close
     (tie.spec
     ready-to-probe-requires

@@ -1,0 +1,5 @@
+pub mod Probed
+pub mod Passed
+pub mod Both
+pub mod Walked
+pub mod Demands
