@@ -5,6 +5,7 @@ pub mod fields;
 pub mod make;
 pub mod random;
 pub mod recorded;
+pub mod together;
 pub mod whole;
 
 /// The calls in a list of names with commas between them; all of them where it is empty or missing.

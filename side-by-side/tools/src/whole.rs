@@ -2,6 +2,22 @@
 
 use stream::{table, Case};
 
+/// Whether an assignment has every value that is not 2.
+pub fn agrees(x: usize, values: &[u8]) -> bool {
+    values
+        .iter()
+        .enumerate()
+        .all(|(i, &v)| v == 2 || (x >> i) & 1 == usize::from(v))
+}
+
+/// Whether an assignment has no pair of values that a record forbids.
+pub fn meets(x: usize, constraints: &[(usize, usize, usize)]) -> bool {
+    constraints.iter().all(|&(i, j, set)| {
+        let pair = 2 * ((x >> i) & 1) + ((x >> j) & 1);
+        set >> pair & 1 == 0
+    })
+}
+
 /// An exact field: its unit, and in units 2c, and the entries with q.
 pub struct Whole {
     pub unit: f64,

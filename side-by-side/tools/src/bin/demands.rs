@@ -6,7 +6,8 @@ use std::fs::File;
 use std::io::{self, BufRead, BufReader};
 use stream::line::part;
 use stream::{table, Call, Case, MOST_PAIRS};
-use tools::whole::Whole;
+use tools::together::Together;
+use tools::whole::{agrees, meets, Whole};
 
 /// The greatest number of variables whose completions are gone through.
 const MOST: usize = 12;
@@ -22,6 +23,7 @@ fn main() -> io::Result<()> {
     let mut cases = BufReader::with_capacity(1 << 20, File::open(cases)?);
     let mut answers = BufReader::with_capacity(1 << 20, File::open(answers)?).lines();
     let mut counts: BTreeMap<Call, (u64, u64)> = BTreeMap::new();
+    let mut choices = Choices::default();
     let mut number = 0;
     while let Some(case) = Case::read(&mut cases)? {
         number += 1;
@@ -44,7 +46,8 @@ fn main() -> io::Result<()> {
             Call::Allow => allow(&case, &line).map(|done| (0, done)),
             _ => field_call(&case, &line),
         };
-        match checked {
+        let chosen = choices.next(&case, &line);
+        match checked.and_then(|done| chosen.map(|()| done)) {
             Ok((defined, demanded)) => {
                 count.0 += defined;
                 count.1 += demanded;
@@ -56,7 +59,58 @@ fn main() -> io::Result<()> {
     for (call, (defined, demanded)) in counts {
         println!("{}: {defined}; {demanded}", call.name());
     }
+    choices.end().unwrap_or_else(|what| {
+        println!("the last anchors: {what}");
+        std::process::exit(1)
+    });
+    choices.print();
     Ok(())
+}
+
+/// The choices at the anchors of one field after another, with what other calls found from the same start values.
+#[derive(Default)]
+struct Choices {
+    at: Option<Together>,
+    /// By the number of anchors: fields, values and records that other calls found, and choices.
+    counts: BTreeMap<usize, (u64, usize, u64)>,
+}
+
+impl Choices {
+    fn next(&mut self, case: &Case, line: &str) -> Result<(), String> {
+        if case.n() > MOST || !line.starts_with("0 exact ") {
+            return Ok(());
+        }
+        if case.call == Call::Anchors {
+            self.end()?;
+            let best = Whole::of(case).best(&case.start);
+            self.at = Some(Together::new(case, variables(line), best));
+        } else if let Some(at) = self.at.as_mut().filter(|at| at.concerns(case)) {
+            let name = if case.call == Call::Closure { "values" } else { "found" };
+            at.found(&new_values(&digits(line, name), &case.start), &records(line))?;
+        }
+        Ok(())
+    }
+
+    fn end(&mut self) -> Result<(), String> {
+        if let Some(at) = self.at.take() {
+            let count = self.counts.entry(at.anchors.len()).or_default();
+            *count = (count.0 + 1, count.1 + at.others, count.2 + at.chosen()?);
+        }
+        Ok(())
+    }
+
+    fn print(&self) {
+        println!("anchors: fields; values and records found from the same start values; choices made at once");
+        for (anchors, (fields, others, choices)) in &self.counts {
+            println!("{anchors}: {fields}; {others}; {choices}");
+        }
+    }
+}
+
+/// The values that are not given.
+fn new_values(values: &[u8], start: &[u8]) -> Vec<u8> {
+    let pairs = values.iter().zip(start);
+    pairs.map(|(&v, &s)| if s == 2 { v } else { 2 }).collect()
 }
 
 fn fail(number: u64, case: &Case, line: &str, what: &str) -> ! {
@@ -415,20 +469,6 @@ fn allow(case: &Case, line: &str) -> Result<u64, String> {
     let given = line.starts_with("0 yes ").then(|| digits(line, "assignment"));
     same("assignment", &given, &least)?;
     Ok(1)
-}
-
-fn agrees(x: usize, values: &[u8]) -> bool {
-    values
-        .iter()
-        .enumerate()
-        .all(|(i, &v)| v == 2 || (x >> i) & 1 == usize::from(v))
-}
-
-fn meets(x: usize, constraints: &[(usize, usize, usize)]) -> bool {
-    constraints.iter().all(|&(i, j, set)| {
-        let pair = 2 * ((x >> i) & 1) + ((x >> j) & 1);
-        set >> pair & 1 == 0
-    })
 }
 
 fn every(all: &[usize], test: impl Fn(usize) -> bool, what: &str) -> Result<(), String> {
