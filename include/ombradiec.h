@@ -169,7 +169,12 @@ ombradiec_answer ombradiec_mend(const double *c, size_t c_len, uint16_t *rows, s
                                 double *f, size_t f_len, uint32_t *u, size_t u_len);
 
 /* Counts the anchors of the components of at least `least` variables, and puts them at the front of `list`; a diagonal is
- * allowed; on an exact field each anchor alone is 0 in some best completion and 1 in another. */
+ * allowed. On an exact field all listed anchors may be set at once, each to 0 or 1: some best completion has them, and
+ * obeys every value and record that closure, probe and probe_limited, also cold, and pairs find from the same start
+ * values. The values of components, preprocess and heavy are not among these (c=(-0.5,-0.5), (0,1) 2: they are 1,0, and
+ * with 0 at the anchor 0 the one best completion is 0,1): set anchors before, or run this call from the values that
+ * preprocess left. On an inexact field nothing of it is promised: on c=(-1,2^61,-2,-0.25,-0.5,-0.5), (0,1) -2^61, (0,2)
+ * 1, (0,3) 2, (4,5) 2 the anchor is 4, the closure gives x0 = 0, and every best completion has x0 = 1. */
 ombradiec_answer ombradiec_anchors(const double *c, size_t c_len, const uint16_t *rows, size_t rows_len,
                                    const uint16_t *cols, size_t cols_len, const double *q, size_t q_len,
                                    const uint8_t *start, size_t start_len, size_t least, uint16_t *list,

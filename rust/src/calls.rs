@@ -235,8 +235,14 @@ pub fn mend(field: &mut Field, scratch: &mut Scratch) -> Result<Vec<Change>, Ref
 }
 
 /// Puts one variable of each complement-symmetric component of at least `least` variables, none of which has a start value,
-/// at the front of `list`, and counts them. A diagonal is allowed. On an exact field each anchor alone is 0 in some best
-/// completion and 1 in another.
+/// at the front of `list`, and counts them. A diagonal is allowed.
+///
+/// On an exact field all listed anchors may be set at once, each to 0 or 1: some best completion has them, and obeys every
+/// value and record that [`closure`], [`probe`] and [`probe_limited`], also cold, and [`pairs`] find from the same start values. The values of
+/// [`components`], [`preprocess`] and [`heavy`] are not among these: on the field below they are 1,0, and with 0 at the anchor
+/// the one best completion is 0,1. Set anchors before, or run this call from the values that [`preprocess`] left. On an
+/// inexact field nothing of it is promised: on c=(-1,2^61,-2,-0.25,-0.5,-0.5), (0,1) -2^61, (0,2) 1, (0,3) 2, (4,5) 2 the
+/// anchor is 4, the closure gives x0 = 0, and every best completion has x0 = 1.
 ///
 /// ```
 /// use ombradiec::{anchors, Field, Scratch, Values};

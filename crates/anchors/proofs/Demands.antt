@@ -96,13 +96,14 @@ module _ (F : Field) (s : List ℕ) (least : ℕ) (list : List ℕ) (f : List Fl
     answered : Counts (gradeOf F) (length (anchorsOf F s least)) ≡ anchorsCall F s least list f u .answer
     answered = ap (λ (x : Left). x .answer) (sym done-leaves)
 
-    fit : Admitted F s (length f) (length u)
+    -- The arguments are as the tests ask, the grade and the count are told, and the first k of the list are the anchors.
+    pub fit : Admitted F s (length f) (length u)
     fit = done-when .0 (sym answered) .0
 
-    told : (gradeOf F ≡ g) × (length (anchorsOf F s least) ≡ k)
+    pub told : (gradeOf F ≡ g) × (length (anchorsOf F s least) ≡ k)
     told = same-count (answered ∙ e)
 
-    items : take k (anchorsCall F s least list f u .lent .list) ≡ anchorsOf F s least
+    pub items : take k (anchorsCall F s least list f u .lent .list) ≡ anchorsOf F s least
     items = ap (λ (x : Left). take k (x .lent .list)) done-leaves ∙ over-front (anchorsOf F s least) list (told .1)
 
     -- DEMAND 2. They are those that the rule gives: of the components, in the order of their lowest variables, each that is symmetric, without a start value and large enough

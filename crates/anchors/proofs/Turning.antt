@@ -52,18 +52,18 @@ module _ {u : ℕ} {F : Field} (S : Shaped F) (x : ExactIn u F) {s : List ℕ} (
   member-below : (i : ℕ) → has K i ≡ true → i < variables F
   member-below i h = omega (arith, open-below (opened true s) i (reaches-open (C .reached i h)), opened-long true s, st .long)
 
-  symmetric : {least : ℕ} → Turns F s least K → Symmetric (wholeOf u F) s (has K)
+  pub symmetric : {least : ℕ} → Turns F s least K → Symmetric (wholeOf u F) s (has K)
   symmetric t = record { free = t .free; inward = inward; balanced = λ i h. balanced-is S x i (member-below i h) .0 (t .symmetric i h) }
 
 -- ---- the part that an anchor leads
 
-record Owner (F : Field) (s : List ℕ) (least : ℕ) (Ks : List (List ℕ)) (a : ℕ) : Type 0 where
-  part : ℕ
-  below : part < length Ks
-  turns : Turns F s least (getD Ks part [])
-  leads : Leads F (getD Ks part []) a
+pub record Owner (F : Field) (s : List ℕ) (least : ℕ) (Ks : List (List ℕ)) (a : ℕ) : Type 0 where
+  pub part : ℕ
+  pub below : part < length Ks
+  pub turns : Turns F s least (getD Ks part [])
+  pub leads : Leads F (getD Ks part []) a
 
-owner : {F : Field} {s : List ℕ} {least : ℕ} {Ks : List (List ℕ)} {l : List ℕ} → AnchorsOf F s least Ks l → (j : ℕ) → j < length l → Owner F s least Ks (getD l j 0)
+pub owner : {F : Field} {s : List ℕ} {least : ℕ} {Ks : List (List ℕ)} {l : List ℕ} → AnchorsOf F s least Ks l → (j : ℕ) → j < length l → Owner F s least Ks (getD l j 0)
 owner no-part j h = absurd (omega arith)
 owner (anchored t d rest) zero h = record { part = 0; below = omega arith; turns = t; leads = d }
 owner (anchored t d rest) (suc j) h = let o = owner rest j (omega arith) in record { part = suc (o .part); below = omega (arith, o .below); turns = o .turns; leads = o .leads }

@@ -1,0 +1,3 @@
+pub mod Found
+pub mod Together
+pub mod Worked
