@@ -1,9 +1,11 @@
 -- The answer's text from what its parts promise: the parsed field, the call `closure`, and the writers. Assumes nothing.
 use Prim.Native.Nat.{ℕ, _+_, _*_, _<_, _≤_}
 use mathlib.Core.Path.{_≡_, refl, sym, ap, _∙_}
-use mathlib.Core.Bool.{Bool, true, false, cond}
+use mathlib.Core.Bool.{Bool, true, false, cond, _&&_}
 use mathlib.Core.List.{List, [], _∷_, _++_}
 use native.Mathlib.Omega.{arith}
+use borrow.Author.Tests.{eq-eqb, ne-eqb}
+use lib.Dec.{eqb}
 use lib.ListN.{length, take}
 use lib.Seq.{length-take-le}
 use lib.Ieee.{Float}
@@ -34,7 +36,7 @@ use Rattle.text.specs.Text.{refusedText, answerText}
 use Rattle.answering.specs.Answer.{checkedText, fieldText, toldText, outcomeText, answerBytes, Enough, Fits}
 use Rattle.records.specs.declared.parsing.Parsed.{Parsed}
 use Rattle.records.specs.declared.parsing.Parsed.the-variants.{Field as Found, Malformed}
-use Rattle.records.proofs.Front.{field-whole, field-fronts}
+use Rattle.records.proofs.Front.{field-whole, field-end, field-fronts}
 
 -- ---- a refusal's number
 
@@ -110,7 +112,7 @@ abbrev pub frontField : ℕ → ℕ → Told → Field
 frontField n m p = fieldOf (take n (p .linear)) (take m (p .rows)) (take m (p .cols)) (take m (p .quad))
 
 module _ {s : List ℕ} {p p′ : Told} {r : Parsed} (done : Parses s p r p′) where
-  pub found-counted : {n m : ℕ} → r ≡ Found n m → Counted n m p′
+  pub found-counted : {n m end : ℕ} → r ≡ Found n m end → Counted n m p′
   found-counted e = let at = field-fronts done e in record {
     few-variables = omega (arith, at .variables, at .within .few-variables);
     few-entries = omega (arith, at .entries, at .within .few-entries);
@@ -121,7 +123,7 @@ module _ {s : List ℕ} {p p′ : Told} {r : Parsed} (done : Parses s p r p′) 
     start = omega (arith, at .variables, ap length (at .start), at .within .start);
   }
 
-  pub front-fits : {n m : ℕ} (values : List ℕ) → r ≡ Found n m → 256 ≤ length values → Fits (frontField n m p′) (take n (p′ .start)) (length (take n values))
+  pub front-fits : {n m end : ℕ} (values : List ℕ) → r ≡ Found n m end → 256 ≤ length values → Fits (frontField n m p′) (take n (p′ .start)) (length (take n values))
   front-fits {n} {m} values e room = let counted = found-counted e in record {
     few-variables = omega (arith, counted .linear, counted .few-variables);
     few-entries = omega (arith, counted .quad, counted .few-entries);
@@ -129,16 +131,25 @@ module _ {s : List ℕ} {p p′ : Told} {r : Parsed} (done : Parses s p r p′) 
     values-long = omega (arith, counted .linear, length-take-le n values (omega (arith, counted .few-variables)));
   }
 
-  pub field-text : {n m : ℕ} → r ≡ Found n m → fieldText (frontField n m p′) (take n (p′ .start)) ≡ answerBytes s
+  pub field-text : {n m end : ℕ} → r ≡ Found n m end → length s ≤ end → fieldText (frontField n m p′) (take n (p′ .start)) ≡ answerBytes s
   unfolding answerBytes
-  field-text e =
+  field-text {end = end} e last =
       let at = field-fronts done e in
-      rw (at .linear, at .rows, at .cols, at .quad, at .start) (sym (ap outcomeText (field-whole done e)))
+      let all : end ≡ length s = omega (arith, field-end done e .reached) in
+      let text : outcomeText (length s) (parsed s) ≡ toldText (parsed s .told) =
+      ap (outcomeText (length s)) (field-whole done e) ∙ simp (eq-eqb end (length s) all) in
+      rw (at .linear, at .rows, at .cols, at .quad, at .start) (sym text)
+
+  pub longer-text : {n m end : ℕ} → r ≡ Found n m end → end < length s → refusedText 11 ≡ answerBytes s
+  unfolding answerBytes
+  longer-text {end = end} e more =
+      sym (ap (outcomeText (length s)) (field-whole done e) ∙ simp (ne-eqb end (length s) (λ z. omega (arith, z, more))))
 
   pub malformed-text : r ≡ Malformed → refusedText 11 ≡ answerBytes s
   unfolding answerBytes
   malformed-text e = by (parsed s .whole) (sym e ∙ done .answer)
     where
-      by : (b : Bool) → Malformed ≡ answerOf b (parsed s .told) → refusedText 11 ≡ cond b (toldText (parsed s .told)) (refusedText 11)
+      by : (b : Bool) → Malformed ≡ answerOf b (parsed s .told) (parsed s .end)
+          → refusedText 11 ≡ cond (b && eqb (parsed s .end) (length s)) (toldText (parsed s .told)) (refusedText 11)
       by true q = let z : _≡_ {A = ℕ} 0 1 = cc in absurd (omega arith)
       by false q = refl

@@ -1,17 +1,14 @@
 -- What the program answers, in plain words, and that the bytes that it reads decide it. Assumes nothing.
-use Prim.Native.Nat.{ℕ, zero, suc, _+_, _*_, _<_, _≤_}
+use Prim.Native.Nat.{ℕ, zero, suc, _/_, _<_, _≤_}
 use mathlib.Core.Path.{_≡_, refl, sym, ap, _∙_}
 use mathlib.Core.Logic.{_≢_, _⊎_, inl, inr, _↔_}
-use mathlib.Core.Bool.{Bool, true, false, cond, true≢false}
+use mathlib.Core.Bool.{Bool, true, false, cond, _&&_, true≢false}
 use mathlib.Core.List.{List, [], _∷_, _++_}
 use native.Mathlib.Omega.{arith}
-use borrow.Author.Tests.{ltb-true, ltb-false, lt-ltb}
+use borrow.Author.Tests.{ltb-true, ltb-false, lt-ltb, eq-eqb, eqb-true}
 use lib.Dec.{eqb, ltb}
-use lib.Ieee.{binary64, ofBits}
-use lib.ListN.{length, getD, set, take, length-append, length-set}
+use lib.ListN.{length, getD, set, take}
 use lib.Seq.{take-all, length-take-le}
-use Rattle.meaning.specs.Free.{frees}
-use Rattle.meaning.proofs.Free.{frees-set}
 use Rattle.field.specs.declared.Checked.{Checked}
 use Rattle.field.specs.declared.Checked.the-variants.{Passed, Failed}
 use Rattle.field.specs.declared.Grade.{Grade}
@@ -31,14 +28,13 @@ use Rattle.field.proofs.Exact.{exact-means}
 use Rattle.field.proofs.Table.{first-refuses}
 use Rattle.run.specs.Run.{closure}
 use Rattle.run.proofs.Theorems.{closure-is-closure}
-use Rattle.endian.specs.Bytes.{bytesOf}
-use Rattle.text.specs.Text.{decimal, refusedText, gradeLine, answerText}
-use Rattle.records.specs.Told.{Told, outcome, Outcome, parsed}
-use Rattle.records.specs.WellFormed.{Item, weight, entry, given, spell, spelled, tells, Fine, Tells, none, next, WellFormed}
-use Rattle.answering.specs.Answer.{checkedText, fieldText, fieldTold, toldText, outcomeText, answerBytes, Answered, ShowsClosure, longestInput}
+use Rattle.text.specs.Text.{digits, decimal, refusedText, gradeLine, answerText}
+use Rattle.records.specs.Told.{Told, outcome, parsed}
+use Rattle.records.specs.WellFormed.{Item, weight, entry, given, tells, Fine, Tells, none, next, WellFormed, longestInput}
+use Rattle.answering.specs.Answer.{checkedText, fieldText, fieldTold, toldText, outcomeText, answerBytes, Answered, ShowsClosure}
 use Rattle.records.proofs.Laid.{Within}
-use Rattle.records.proofs.Front.{parsed-within}
-use Rattle.records.proofs.Means.{parsed-means}
+use Rattle.records.proofs.Means.{whole-means}
+use Rattle.records.proofs.Longest.{told-within, longest-field}
 
 -- ---- the answer
 
@@ -57,13 +53,18 @@ module _ (s : List ℕ) (bytes : (i : ℕ) → getD s i 0 < 256) where
   pub answer-exactly : Answered s (answerBytes s)
   unfolding answerBytes
   answer-exactly = record {
-    told = λ u w. ap outcomeText (parsed-means s bytes u .1 w);
-    other = λ not-one. by not-one (parsed s .whole) refl;
+    told = λ u w. ap (outcomeText (length s)) (whole-means s bytes u .1 w) ∙ simp (eq-eqb (length s) (length s) refl);
+    other = λ not-one. by not-one (parsed s .whole) (eqb (parsed s .end) (length s)) refl refl;
   }
     where
-      by : ((u : Told) → WellFormed s u → ⊥) → (b : Bool) → parsed s .whole ≡ b → cond b (toldText (parsed s .told)) (refusedText 11) ≡ refusedText 11
-      by not-one true e = absurd (not-one (parsed s .told) (parsed-means s bytes (parsed s .told) .0 (ap (λ (b : Bool). outcome b (parsed s .told)) e)))
-      by not-one false e = refl
+      by : ((u : Told) → WellFormed s u → ⊥) → (b d : Bool) → parsed s .whole ≡ b → eqb (parsed s .end) (length s) ≡ d
+          → cond (b && d) (toldText (parsed s .told)) (refusedText 11) ≡ refusedText 11
+      by not-one true true e last =
+          let all = eqb-true (parsed s .end) (length s) last in
+          absurd (not-one (parsed s .told) (whole-means s bytes (parsed s .told) .0
+          (ap (λ (b : Bool). outcome b (parsed s .told) (parsed s .end)) e ∙ ap (outcome true (parsed s .told)) all)))
+      by not-one true false e last = refl
+      by not-one false d e last = refl
 
 -- ---- the closure over whole numbers
 
@@ -97,39 +98,10 @@ module _ (s : List ℕ) (bytes : (i : ℕ) → getD s i 0 < 256) (u : Told) (w :
 
 -- ---- the longest input
 
-frees-push : (s : List ℕ) → frees (s ++ 2 ∷ []) ≡ frees s + 1
-unfolding frees
-frees-push [] = refl
-frees-push (v ∷ s) = by (eqb v 2) (frees-push s)
-  where
-    by : (b : Bool) → frees (s ++ 2 ∷ []) ≡ frees s + 1 → cond b (suc (frees (s ++ 2 ∷ []))) (frees (s ++ 2 ∷ [])) ≡ cond b (suc (frees s)) (frees s) + 1
-    by true e = omega arith
-    by false e = e
-
--- 10 bytes for each weight, 14 for each entry and 5 for each value given
-abbrev bulk : Told → ℕ → ℕ
-bulk t left = 10 * length (t .linear) + 14 * length (t .quad) + 5 * length (t .start) + 5 * left
-
-item-size : (t : Told) (i : Item) → Fine t i → length (spell i) + bulk t (frees (tells i t .start)) ≡ bulk (tells i t) (frees (t .start))
-unfolding spell bytesOf tells Fine
-item-size t (weight bits) f =
-    omega (arith, length-append (t .start) (2 ∷ []), frees-push (t .start), length-append (t .linear) (ofBits binary64 bits ∷ []))
-item-size t (entry row col bits) f = omega (arith, length-append (t .quad) (ofBits binary64 bits ∷ []))
-item-size t (given v b) f = omega (arith, length-set (t .start) v b, frees-set (t .start) v b (f .2) (f .3))
-
-size : {t u : Told} {items : List Item} → Tells t items u → length (spelled items) + bulk t (frees (u .start)) ≡ 2 + bulk u (frees (t .start))
-unfolding spelled
-size none = omega arith
-size (next {t} {u} {i} {is} f rest) = omega (arith, size rest, item-size t i f, length-append (spell i) (spelled is))
-
 module _ (s : List ℕ) (bytes : (i : ℕ) → getD s i 0 < 256) where
-  told-within : (u : Told) → WellFormed s u → Within u
-  told-within u w = let told : parsed s .told ≡ u = ap (λ (o : Outcome). o .told) (parsed-means s bytes u .1 w) in rw told at (parsed-within s)
-
   -- 256 weights, 1,024 entries and 256 given values
   pub longest : (u : Told) → WellFormed s u → length s ≤ longestInput
-  unfolding frees
-  longest u w = let within = told-within u w in omega (arith, size (w .told), ap length (w .bytes), within .few-variables, within .few-entries, within .start)
+  longest u w = omega (arith, longest-field w)
 
   longer : longestInput < length s → answerBytes s ≡ refusedText 11
   longer long = answer-exactly s bytes .other (λ u w. omega (arith, longest u w))
@@ -183,7 +155,7 @@ unfolding standardTests shapeTests
 only-six s bytes u w first = by first
   where
     within : Within u
-    within = told-within s bytes u w
+    within = told-within w
 
     never : {A : Type 0} {b : Bool} → b ≡ true → b ≡ false → A
     never p q = absurd (true≢false (sym p ∙ q))
@@ -199,7 +171,7 @@ only-six s bytes u w first = by first
 
 -- the second byte after `refused ` tells 11 from any number of the table
 not-eleven : (k : Checked) (F : Field) (s : List ℕ) → checkedText k F s ≢ refusedText 11
-unfolding checkedText answerText gradeLine refusedText decimal
+unfolding checkedText answerText gradeLine refusedText decimal digits
 not-eleven Passed F s e = by (gradeOf F) (ap (λ (l : List ℕ). getD l 0 0) e)
   where
     by : (g : Grade) → getD (answerText g s (closure F s)) 0 0 ≡ 114 → ⊥
@@ -214,7 +186,7 @@ not-eleven (Failed r) F s e = by (numberOf r) (number-most r) (number-other r .1
         go true l = let below : n < 10 = ltb-true n 10 l in omega (arith, simp (lt-ltb n 10 below) at q)
         go false l =
             let above : 10 ≤ n = ltb-false n 10 l in
-            other (omega (arith, simp (l, lt-ltb n 100 (omega arith)) at q))
+            other (omega (arith, simp (l, lt-ltb (n / 10) 10 (omega arith)) at q))
 
 -- `refused 11` is printed exactly if the input is not well-formed
 pub eleven-exactly : (s : List ℕ) → ((i : ℕ) → getD s i 0 < 256) → (answerBytes s ≡ refusedText 11) ↔ ((u : Told) → WellFormed s u → ⊥)

@@ -14,7 +14,7 @@ use Rattle.run.specs.Run.{force, settle, judged, scanAt, scanTo, moveRow, serve
 use Rattle.endian.specs.Bytes.{valueOf, numberAt, floatAt}
 use Rattle.records.specs.Reading.{weightAt, entryAt, givenAt, markedAt, readAt}
 use Rattle.records.specs.Told.{taken, readFrom, parsed}
-use Rattle.text.specs.Text.{decimal, gradeLine, forcedLine, endLine, forced, forcedLines, answerText}
+use Rattle.text.specs.Text.{digits, decimal, gradeLine, forcedLine, endLine, forced, forcedLines, answerText}
 use Rattle.answering.specs.Answer.{checkedText, fieldText, answerBytes}
 use Rattle.answering.specs.CaseG.{input-g, output-g}
 
@@ -22,6 +22,6 @@ pub case-g : answerBytes input-g ≡ output-g
 unfolding answerBytes parsed readFrom taken readAt markedAt weightAt entryAt givenAt floatAt numberAt valueOf fieldText checkedText tested
     standardTests shapeTests fewVariables listsMatch inOrder offDiagonal weightsFinite startFits endsBelow allRise allFinite bytesSmall allBelow
     gradeOf isExact unitOf firstOf serves allWeigh weighs wholeIn plus minus closure closureRun propagate work serve serveAll serveAt moveRow scanTo scanAt judged settle
-    force upTo places placesFrom keep otherEnd rowOf rowTo atEntry atEnd addTerm add sub mul le lt eq ofInt ofBits decimal gradeLine forcedLine endLine
+    force upTo places placesFrom keep otherEnd rowOf rowTo atEntry atEnd addTerm add sub mul le lt eq ofInt ofBits digits decimal gradeLine forcedLine endLine
     forced forcedLines answerText
 case-g = refl

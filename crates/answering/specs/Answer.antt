@@ -1,8 +1,9 @@
 -- What the program answers to each input (document 01, "The record program"), as one function of its bytes. Assumes nothing.
 use Prim.Native.Nat.{ℕ, _≤_}
 use mathlib.Core.Path.{_≡_}
-use mathlib.Core.Bool.{cond}
+use mathlib.Core.Bool.{cond, _&&_}
 use mathlib.Core.List.{List}
+use lib.Dec.{eqb}
 use lib.ListN.{length}
 use Rattle.field.specs.declared.Checked.{Checked}
 use Rattle.field.specs.declared.Checked.the-variants.{Passed, Failed}
@@ -36,12 +37,12 @@ fieldTold t = fieldOf (t .linear) (t .rows) (t .cols) (t .quad)
 abbrev pub toldText : Told → List ℕ
 toldText t = fieldText (fieldTold t) (t .start)
 
--- an input that is not well-formed "prints `refused 11`"
-abbrev pub outcomeText : Outcome → List ℕ
-outcomeText o = cond (o .whole) (toldText (o .told)) (refusedText 11)
+-- an input that is not well-formed "prints `refused 11`": no field stands at its front, or bytes follow the ZZ
+abbrev pub outcomeText : ℕ → Outcome → List ℕ
+outcomeText size o = cond (o .whole && eqb (o .end) size) (toldText (o .told)) (refusedText 11)
 
 unfoldable pub answerBytes : List ℕ → List ℕ
-answerBytes s = outcomeText (parsed s)
+answerBytes s = outcomeText (length s) (parsed s)
 
 -- ---- the same in the words of the meaning
 
@@ -57,10 +58,6 @@ pub record ShowsClosure (F : Field) (start text : List ℕ) : Type 0 where
   pub unit-serves : Serves (unitOf F) F
   pub closes : (unit : ℕ) → Serves unit F → Closure (Forces (wholeOf unit F)) start values
   pub shown : text ≡ answerText Exact start values
-
--- the bytes of 256 weights, 1,024 entries, 256 given values and the end
-abbrev pub longestInput : ℕ
-longestInput = 18178
 
 -- ---- the memory that any input can need: 256 variables, 1,024 entries, and the longest text
 

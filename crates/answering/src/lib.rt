@@ -11,7 +11,8 @@ ghost use Rattle.scratch.specs.Lent.{before, after};
 ghost use Rattle.field.specs.Field.{lent, given};
 ghost use Rattle.text.specs.Text.{Written};
 ghost use Rattle.records.specs.Parsing.{listsOf, Room};
-ghost use Rattle.answering.specs.Answer.{Enough, Fits, fieldText, answerBytes, longestInput};
+ghost use Rattle.records.specs.WellFormed.{longestInput};
+ghost use Rattle.answering.specs.Answer.{Enough, Fits, fieldText, answerBytes};
 
 // The closure works on a copy: the start values say which variables were given.
 fn answer_field(
@@ -37,7 +38,7 @@ fn answer_field(
     }
 }
 
-// The field lies at the front of the lists, with room for the largest.
+// The field lies at the front of the lists, with room for the largest; no byte may follow its ZZ.
 fn answer_in(
     bytes: &[u8],
     c: &mut [f64],
@@ -60,17 +61,23 @@ fn answer_in(
         Parsed::Field {
             variables: n,
             entries: m,
-        } => answer_field(
-            &c[..n],
-            &rows[..m],
-            &cols[..m],
-            &q[..m],
-            &start[..n],
-            &mut values[..n],
-            f,
-            u,
-            out,
-        ),
+            end,
+        } => {
+            if end < bytes.len() {
+                return write_refused(11, out);
+            }
+            answer_field(
+                &c[..n],
+                &rows[..m],
+                &cols[..m],
+                &q[..m],
+                &start[..n],
+                &mut values[..n],
+                f,
+                u,
+                out,
+            )
+        }
         Parsed::Malformed => write_refused(11, out),
     }
 }

@@ -11,7 +11,7 @@ use lib.Ieee.{Float}
 use Rattle.scratch.specs.Over.{over}
 use Rattle.scratch.proofs.Over.{length-over, over-at, over-set, over-push}
 use Rattle.meaning.specs.Free.{isFree}
-use Rattle.records.specs.Told.{Told, withWeight, withEntry, withGiven, mayDeclare, mayEnter, mayGive, Turned, more, ended, taken}
+use Rattle.records.specs.Told.{Told, withWeight, withEntry, withGiven, mayDeclare, mayEnter, mayGive, Turned, more, ended, fault, taken}
 use Rattle.records.specs.Parsing.{answerOf, listsOf, laid, Room, tally, stored, goOn, Noted, noted, note}
 use Rattle.records.specs.declared.Record.{Record}
 use Rattle.records.specs.declared.Record.the-variants.{Weight, Entry, Given, End, Malformed}
@@ -56,14 +56,14 @@ and-left false b e = e
 
 abbrev pub laidTurn : Told → Turned → Noted
 laidTurn p (more t at) = noted (On (tally at (length (t .linear)) (length (t .quad)))) (laid t p)
-laidTurn p (ended b t) = noted (Stop (answerOf b t)) (laid t p)
+laidTurn p (ended b t end) = noted (Stop (answerOf b t end)) (laid t p)
 
 module _ (t p : Told) (w : Within t) (r : Room p) where
   weight-laid : (x : Float) (at : ℕ) (b : Bool) → mayDeclare (length (t .linear)) ≡ b
       → noted (goOn b (tally at (length (t .linear) + 1) (length (t .quad))))
       (listsOf (stored b (length (t .linear)) x (over (t .linear) (p .linear))) (over (t .rows) (p .rows)) (over (t .cols) (p .cols)) (over (t .quad) (p .quad))
       (stored b (length (t .linear)) 2 (over (t .start) (p .start))))
-      ≡ laidTurn p (cond b (more (withWeight x t) at) (ended false t))
+      ≡ laidTurn p (cond b (more (withWeight x t) at) (fault t))
   weight-laid x at true e =
       let n = length (t .linear) in
       let room : n < 256 = ltb-true n 256 e in
@@ -75,7 +75,7 @@ module _ (t p : Told) (w : Within t) (r : Room p) where
       → noted (goOn b (tally at (length (t .linear)) (length (t .quad) + 1)))
       (listsOf (over (t .linear) (p .linear)) (stored b (length (t .quad)) row (over (t .rows) (p .rows))) (stored b (length (t .quad)) col (over (t .cols) (p .cols)))
       (stored b (length (t .quad)) x (over (t .quad) (p .quad))) (over (t .start) (p .start)))
-      ≡ laidTurn p (cond b (more (withEntry row col x t) at) (ended false t))
+      ≡ laidTurn p (cond b (more (withEntry row col x t) at) (fault t))
   entry-laid row col x at true e =
       let m = length (t .quad) in
       let room : m < 1024 = ltb-true m 1024 e in
@@ -101,20 +101,16 @@ module _ (t p : Told) (w : Within t) (r : Room p) where
   given-laid : (v b at : ℕ) (d : Bool) → mayGive v b (length (t .linear)) (t .start) ≡ d
       → noted (goOn d (tally at (length (t .linear)) (length (t .quad))))
       (listsOf (over (t .linear) (p .linear)) (over (t .rows) (p .rows)) (over (t .cols) (p .cols)) (over (t .quad) (p .quad)) (stored d v b (over (t .start) (p .start))))
-      ≡ laidTurn p (cond d (more (withGiven v b t) at) (ended false t))
+      ≡ laidTurn p (cond d (more (withGiven v b t) at) (fault t))
   given-laid v b at true e =
       let in-range : v < length (t .linear) = ltb-true v (length (t .linear)) (and-left _ _ e) in
       rw (over-set (t .start) (p .start) v b (omega arith))
   given-laid v b at false e = refl
 
-  answer-laid : (b : Bool) → cond b (answerOf true t) (answerOf false t) ≡ answerOf b t
-  answer-laid true = refl
-  answer-laid false = refl
-
-  pub laid-step : (size at : ℕ) (found : Record) → note size found (tally at (length (t .linear)) (length (t .quad))) (laid t p) ≡ laidTurn p (taken size found t)
+  pub laid-step : (at : ℕ) (found : Record) → note found (tally at (length (t .linear)) (length (t .quad))) (laid t p) ≡ laidTurn p (taken found t)
   unfolding note taken
-  laid-step size at (Weight x next) = weight-laid x (next .at) _ refl
-  laid-step size at (Entry row col x next) = entry-laid row col x (next .at) _ refl
-  laid-step size at (Given v b next) = rw (may-give-laid v b) (given-laid v b (next .at) _ refl)
-  laid-step size at (End next) = rw (answer-laid (eqb (next .at) size))
-  laid-step size at Malformed = refl
+  laid-step at (Weight x next) = weight-laid x (next .at) _ refl
+  laid-step at (Entry row col x next) = entry-laid row col x (next .at) _ refl
+  laid-step at (Given v b next) = rw (may-give-laid v b) (given-laid v b (next .at) _ refl)
+  laid-step at (End next) = refl
+  laid-step at Malformed = refl

@@ -10,7 +10,7 @@ use lib.Ieee.{Float}
 use Rattle.endian.specs.Bytes.{numberAt, floatAt}
 use Rattle.scratch.specs.Over.{over}
 use Rattle.records.specs.Reading.{readAt}
-use Rattle.records.specs.Told.{Told, nothing, withWeight, withEntry, withGiven, mayDeclare, mayEnter, mayGive, Turned, more, ended, taken, Outcome, outcome, following, readFrom, parsed}
+use Rattle.records.specs.Told.{Told, nothing, withWeight, withEntry, withGiven, mayDeclare, mayEnter, mayGive, Turned, more, ended, fault, taken, Outcome, outcome, following, readFrom, parsed}
 use Rattle.records.specs.Parsing.{answerOf, listsOf, laid, Room, Parses, tally, Noted, noted, note}
 use Rattle.records.specs.declared.Record.{Record}
 use Rattle.records.specs.declared.parsing.Parsed.{Parsed}
@@ -29,7 +29,7 @@ pub record Forward (s : List ℕ) (at : ℕ) (t : Told) (at′ : ℕ) : Type 0 w
   pub within : Within t
 
 module _ (t₁ t : Told) (at : ℕ) {t′ : Told} {at′ : ℕ} where
-  went-on : (b : Bool) → cond b (more t₁ at) (ended false t) ≡ more t′ at′ → (b ≡ true) × (t₁ ≡ t′) × (at ≡ at′)
+  went-on : (b : Bool) → cond b (more t₁ at) (fault t) ≡ more t′ at′ → (b ≡ true) × (t₁ ≡ t′) × (at ≡ at′)
   went-on true e = (refl, cc, cc)
   went-on false e = let z : _≡_ {A = ℕ} 0 1 = cc in absurd (omega arith)
 
@@ -67,7 +67,7 @@ module _ (s : List ℕ) (at : ℕ) {t : Told} (w : Within t) where
   moved : {t₁ t′ : Told} {at₁ at′ : ℕ} → at < at₁ → at₁ ≤ length s → Within t₁ → t₁ ≡ t′ → at₁ ≡ at′ → Forward s at t′ at′
   moved l r v et ea = record { later = omega arith; reached = omega arith; within = rw et at v }
 
-  pub forward : {found : Record} {t′ : Told} {at′ : ℕ} → Standing s at found → taken (length s) found t ≡ more t′ at′ → Forward s at t′ at′
+  pub forward : {found : Record} {t′ : Told} {at′ : ℕ} → Standing s at found → taken found t ≡ more t′ at′ → Forward s at t′ at′
   unfolding taken
   forward (weight h m) e =
       let x = floatAt s (at + 2) in
@@ -126,16 +126,16 @@ module _ {s : List ℕ} {p₀ p : Told} {t : Tally} (now : Reads s p₀ p t) whe
   pub reads-few : t .variables ≤ 256
   reads-few = rw (ap (λ (a : Tally). a .variables) (now .counts)) (now .within .few-variables)
 
-  module _ {found : Record} {r : Turn} {p′ : Told} (f : found ≡ readAt s (t .at)) (n : noted r p′ ≡ note (length s) found t p) where
-    step : noted r p′ ≡ laidTurn p₀ (taken (length s) (readAt s (t .at)) (now .told))
+  module _ {found : Record} {r : Turn} {p′ : Told} (f : found ≡ readAt s (t .at)) (n : noted r p′ ≡ note found t p) where
+    step : noted r p′ ≡ laidTurn p₀ (taken (readAt s (t .at)) (now .told))
     step =
         n
-        ∙ ap (λ (x : Record). note (length s) x t p) f
-        ∙ ap (λ (a : Tally). note (length s) (readAt s (t .at)) a p) (now .counts)
-        ∙ ap (note (length s) (readAt s (t .at)) (tally (t .at) (length (now .told .linear)) (length (now .told .quad)))) (now .lists)
-        ∙ laid-step (now .told) p₀ (now .within) (now .room) (length s) (t .at) (readAt s (t .at))
+        ∙ ap (λ (x : Record). note x t p) f
+        ∙ ap (λ (a : Tally). note (readAt s (t .at)) a p) (now .counts)
+        ∙ ap (note (readAt s (t .at)) (tally (t .at) (length (now .told .linear)) (length (now .told .quad)))) (now .lists)
+        ∙ laid-step (now .told) p₀ (now .within) (now .room) (t .at) (readAt s (t .at))
 
-    read-more : (j : ℕ) → now .k ≡ suc j → {u : Turned} → taken (length s) (readAt s (t .at)) (now .told) ≡ u → following (readFrom j s) u ≡ parsed s
+    read-more : (j : ℕ) → now .k ≡ suc j → {u : Turned} → taken (readAt s (t .at)) (now .told) ≡ u → following (readFrom j s) u ≡ parsed s
     unfolding readFrom
     read-more j e {u} q =
         ap (following (readFrom j s)) (sym q) ∙ ap (λ (i : ℕ). readFrom i s (t .at) (now .told)) (sym e) ∙ now .same
@@ -151,19 +151,19 @@ module _ {s : List ℕ} {p₀ p : Told} {t : Tally} (now : Reads s p₀ p t) whe
     record On-ward (next : Tally) : Type 0 where
       told′ : Told
       at′ : ℕ
-      is : taken (length s) (readAt s (t .at)) (now .told) ≡ more told′ at′
+      is : taken (readAt s (t .at)) (now .told) ≡ more told′ at′
       counts′ : next ≡ tally at′ (length (told′ .linear)) (length (told′ .quad))
       lists′ : p′ ≡ laid told′ p₀
 
     onward : {next : Tally} → r ≡ On next → On-ward next
-    onward {next} on = go (taken (length s) (readAt s (t .at)) (now .told)) refl step
+    onward {next} on = go (taken (readAt s (t .at)) (now .told)) refl step
       where
-        go : (u : Turned) → taken (length s) (readAt s (t .at)) (now .told) ≡ u → noted r p′ ≡ laidTurn p₀ u → On-ward next
+        go : (u : Turned) → taken (readAt s (t .at)) (now .told) ≡ u → noted r p′ ≡ laidTurn p₀ u → On-ward next
         go (more t₁ at₁) e q =
             let both : On next ≡ On (tally at₁ (length (t₁ .linear)) (length (t₁ .quad))) = sym on ∙ ap (λ (m : Noted). m .turn) q in
             record { told′ = t₁; at′ = at₁; is = e; counts′ = cc; lists′ = ap (λ (m : Noted). m .lists) q }
-        go (ended b t₁) e q =
-            let both : On next ≡ Stop (answerOf b t₁) = sym on ∙ ap (λ (m : Noted). m .turn) q in
+        go (ended b t₁ e₁) e q =
+            let both : On next ≡ Stop (answerOf b t₁ e₁) = sym on ∙ ap (λ (m : Noted). m .turn) q in
             let z : _≡_ {A = ℕ} 0 1 = cc in absurd (omega arith)
 
     pub reads-turn : {next : Tally} → r ≡ On next → Reads s p₀ p′ next
@@ -192,19 +192,19 @@ module _ {s : List ℕ} {p₀ p : Told} {t : Tally} (now : Reads s p₀ p t) whe
         omega (arith, ahead .later, ahead .reached, at-next)
 
     pub reads-done : {answer : Parsed} → r ≡ Stop answer → Parses s p₀ answer p′
-    reads-done {answer} stop = go (taken (length s) (readAt s (t .at)) (now .told)) refl step
+    reads-done {answer} stop = go (taken (readAt s (t .at)) (now .told)) refl step
       where
-        go : (u : Turned) → taken (length s) (readAt s (t .at)) (now .told) ≡ u → noted r p′ ≡ laidTurn p₀ u → Parses s p₀ answer p′
+        go : (u : Turned) → taken (readAt s (t .at)) (now .told) ≡ u → noted r p′ ≡ laidTurn p₀ u → Parses s p₀ answer p′
         go (more t₁ at₁) e q =
             let both : Stop answer ≡ On (tally at₁ (length (t₁ .linear)) (length (t₁ .quad))) = sym stop ∙ ap (λ (m : Noted). m .turn) q in
             let z : _≡_ {A = ℕ} 0 1 = cc in
             absurd (omega arith)
-        go (ended b t₁) e q =
-            let both : Stop answer ≡ Stop (answerOf b t₁) = sym stop ∙ ap (λ (m : Noted). m .turn) q in
+        go (ended b t₁ e₁) e q =
+            let both : Stop answer ≡ Stop (answerOf b t₁ e₁) = sym stop ∙ ap (λ (m : Noted). m .turn) q in
             let left = some-left in
-            let all : outcome b t₁ ≡ parsed s = read-more (left .0) (left .1) e in
-            let said : answer ≡ answerOf b t₁ = cc in
+            let all : outcome b t₁ e₁ ≡ parsed s = read-more (left .0) (left .1) e in
+            let said : answer ≡ answerOf b t₁ e₁ = cc in
             record {
-              answer = said ∙ ap (λ (o : Outcome). answerOf (o .whole) (o .told)) all;
+              answer = said ∙ ap (λ (o : Outcome). answerOf (o .whole) (o .told) (o .end)) all;
               lists = ap (λ (m : Noted). m .lists) q ∙ ap (λ (o : Outcome). laid (o .told) p₀) all;
             }

@@ -17,12 +17,12 @@ use Rattle.records.specs.declared.parsing.Tally.{Tally}
 use Rattle.records.specs.declared.parsing.Turn.{Turn}
 use Rattle.records.specs.declared.parsing.Turn.the-variants.{Stop}
 
-module _ (size : ℕ) (t : Tally) (c : List Float) (rows cols : List ℕ) (q : List Float) (start : List ℕ) {found : Record} {next : Cursor} where
+module _ (t : Tally) (c : List Float) (rows cols : List ℕ) (q : List Float) (start : List ℕ) {found : Record} {next : Cursor} where
   pub note-weight : {r : Turn} {x : Float} {c′ : List Float} {start′ : List ℕ} → found ≡ Weight x next
       → r ≡ goOn (mayDeclare (t .variables)) (tally (next .at) (t .variables + 1) (t .entries))
       → c′ ≡ stored (mayDeclare (t .variables)) (t .variables) x c
       → start′ ≡ stored (mayDeclare (t .variables)) (t .variables) 2 start
-      → noted r (listsOf c′ rows cols q start′) ≡ note size found t (listsOf c rows cols q start)
+      → noted r (listsOf c′ rows cols q start′) ≡ note found t (listsOf c rows cols q start)
   unfolding note
   note-weight e er ec es = rw (e, er, ec, es)
 
@@ -31,26 +31,21 @@ module _ (size : ℕ) (t : Tally) (c : List Float) (rows cols : List ℕ) (q : L
       → rows′ ≡ stored (mayEnter (t .entries)) (t .entries) row rows
       → cols′ ≡ stored (mayEnter (t .entries)) (t .entries) col cols
       → q′ ≡ stored (mayEnter (t .entries)) (t .entries) x q
-      → noted r (listsOf c rows′ cols′ q′ start) ≡ note size found t (listsOf c rows cols q start)
+      → noted r (listsOf c rows′ cols′ q′ start) ≡ note found t (listsOf c rows cols q start)
   unfolding note
   note-entry e er erows ecols eq = rw (e, er, erows, ecols, eq)
 
   pub note-given : {r : Turn} {v b : ℕ} {start′ : List ℕ} → found ≡ Given v b next
       → r ≡ goOn (mayGive v b (t .variables) start) (tally (next .at) (t .variables) (t .entries))
       → start′ ≡ stored (mayGive v b (t .variables) start) v b start
-      → noted r (listsOf c rows cols q start′) ≡ note size found t (listsOf c rows cols q start)
+      → noted r (listsOf c rows cols q start′) ≡ note found t (listsOf c rows cols q start)
   unfolding note
   note-given e er es = rw (e, er, es)
 
-  pub note-whole : found ≡ End next → next .at ≡ size
-      → noted (Stop (Field (t .variables) (t .entries))) (listsOf c rows cols q start) ≡ note size found t (listsOf c rows cols q start)
+  pub note-end : found ≡ End next
+      → noted (Stop (Field (t .variables) (t .entries) (next .at))) (listsOf c rows cols q start) ≡ note found t (listsOf c rows cols q start)
   unfolding note
-  note-whole e h = rw e (simp (eq-eqb (next .at) size h))
-
-  pub note-longer : found ≡ End next → (next .at ≡ size → ⊥)
-      → noted (Stop Refused) (listsOf c rows cols q start) ≡ note size found t (listsOf c rows cols q start)
-  unfolding note
-  note-longer e h = rw e (simp (ne-eqb (next .at) size h))
+  note-end e = rw e
 
 -- ---- an FX that is refused
 
@@ -67,6 +62,6 @@ module _ (v b n : ℕ) (start : List ℕ) where
   pub may-give : v < n → getD start v 0 ≡ 2 → b ≤ 1 → mayGive v b n start ≡ true
   may-give h k l = let yes : b < 2 = omega arith in simp (lt-ltb v n h, eq-eqb (getD start v 0) 2 k, lt-ltb b 2 yes)
 
-pub note-malformed : (size : ℕ) (t : Tally) {found : Record} {p : Told} → found ≡ Malformed → noted (Stop Refused) p ≡ note size found t p
+pub note-malformed : (t : Tally) {found : Record} {p : Told} → found ≡ Malformed → noted (Stop Refused) p ≡ note found t p
 unfolding note
-note-malformed size t e = rw e
+note-malformed t e = rw e

@@ -3,7 +3,6 @@ use Prim.Native.Nat.{ℕ, _+_, _≤_}
 use mathlib.Core.Path.{_≡_}
 use mathlib.Core.Bool.{Bool, true, false, cond}
 use mathlib.Core.List.{List}
-use lib.Dec.{eqb}
 use lib.ListN.{length, set}
 use lib.Ieee.{Float}
 use Rattle.scratch.specs.Over.{over}
@@ -18,9 +17,9 @@ use Rattle.records.specs.declared.parsing.Turn.the-variants.{On, Stop}
 
 -- ---- the call
 
-abbrev pub answerOf : Bool → Told → Parsed
-answerOf true t = Field (length (t .linear)) (length (t .quad))
-answerOf false t = Refused
+abbrev pub answerOf : Bool → Told → ℕ → Parsed
+answerOf true t end = Field (length (t .linear)) (length (t .quad)) end
+answerOf false t end = Refused
 
 -- five lists
 abbrev pub listsOf : List Float → List ℕ → List ℕ → List Float → List ℕ → Told
@@ -41,7 +40,7 @@ pub record Room (p : Told) : Type 0 where
 
 -- the answer, and the lists afterwards: on a fault they hold what the records before it told
 pub record Parses (s : List ℕ) (p : Told) (r : Parsed) (p′ : Told) : Type 0 where
-  pub answer : r ≡ answerOf (parsed s .whole) (parsed s .told)
+  pub answer : r ≡ answerOf (parsed s .whole) (parsed s .told) (parsed s .end)
   pub lists : p′ ≡ laid (parsed s .told) p
 
 -- ---- a step
@@ -63,17 +62,17 @@ pub record Noted : Type 0 where
 abbrev pub noted : Turn → Told → Noted
 noted r p = record { turn = r; lists = p }
 
-unfoldable pub note : ℕ → Record → Tally → Told → Noted
-note size (Weight x next) t p =
+unfoldable pub note : Record → Tally → Told → Noted
+note (Weight x next) t p =
     let b = mayDeclare (t .variables) in
     noted (goOn b (tally (next .at) (t .variables + 1) (t .entries)))
     (listsOf (stored b (t .variables) x (p .linear)) (p .rows) (p .cols) (p .quad) (stored b (t .variables) 2 (p .start)))
-note size (Entry row col x next) t p =
+note (Entry row col x next) t p =
     let b = mayEnter (t .entries) in
     noted (goOn b (tally (next .at) (t .variables) (t .entries + 1)))
     (listsOf (p .linear) (stored b (t .entries) row (p .rows)) (stored b (t .entries) col (p .cols)) (stored b (t .entries) x (p .quad)) (p .start))
-note size (Given v value next) t p =
+note (Given v value next) t p =
     let b = mayGive v value (t .variables) (p .start) in
     noted (goOn b (tally (next .at) (t .variables) (t .entries))) (listsOf (p .linear) (p .rows) (p .cols) (p .quad) (stored b v value (p .start)))
-note size (End next) t p = noted (Stop (cond (eqb (next .at) size) (Field (t .variables) (t .entries)) Refused)) p
-note size Malformed t p = noted (Stop Refused) p
+note (End next) t p = noted (Stop (Field (t .variables) (t .entries) (next .at))) p
+note Malformed t p = noted (Stop Refused) p

@@ -1,8 +1,8 @@
 -- What records tell, one after another (document 01, "The record program"). Assumes nothing.
 use Prim.Native.Nat.{ℕ, zero, suc}
-use mathlib.Core.Bool.{Bool, false, _&&_, cond}
+use mathlib.Core.Bool.{Bool, true, false, _&&_, cond}
 use mathlib.Core.List.{List, [], _∷_, _++_}
-use lib.Dec.{ltb, eqb}
+use lib.Dec.{ltb}
 use lib.ListN.{length, set}
 use lib.Ieee.{Float}
 use Rattle.meaning.specs.Free.{isFree}
@@ -42,34 +42,39 @@ mayEnter entries = ltb entries 1024
 abbrev pub mayGive : ℕ → ℕ → ℕ → List ℕ → Bool
 mayGive v b variables start = ltb v variables && (isFree start v && ltb b 2)
 
--- after a record: what is told so far and where the next one stands, or the end, well-formed or not
-pub data Turned : Type 0 where
-  more : Told → ℕ → Turned
-  ended : Bool → Told → Turned
-
-unfoldable pub taken : ℕ → Record → Told → Turned
-taken size (Weight x next) t = cond (mayDeclare (length (t .linear))) (more (withWeight x t) (next .at)) (ended false t)
-taken size (Entry row col x next) t = cond (mayEnter (length (t .quad))) (more (withEntry row col x t) (next .at)) (ended false t)
-taken size (Given v b next) t = cond (mayGive v b (length (t .linear)) (t .start)) (more (withGiven v b t) (next .at)) (ended false t)
-taken size (End next) t = ended (eqb (next .at) size) t
-taken size Malformed t = ended false t
-
--- whether the input is well-formed, and what it told up to its end or to the first fault
+-- whether a field was read up to its ZZ, the index behind that, and what was told; at the first fault what was told before it, and the index 0
 pub record Outcome : Type 0 where
   pub whole : Bool
   pub told : Told
+  pub end : ℕ
 
-abbrev pub outcome : Bool → Told → Outcome
-outcome b t = record { whole = b; told = t }
+abbrev pub outcome : Bool → Told → ℕ → Outcome
+outcome b t end = record { whole = b; told = t; end = end }
+
+-- after a record: what is told so far and where the next one stands, or what was read
+pub data Turned : Type 0 where
+  more : Told → ℕ → Turned
+  ended : Bool → Told → ℕ → Turned
+
+abbrev pub fault : Told → Turned
+fault t = ended false t 0
+
+unfoldable pub taken : Record → Told → Turned
+taken (Weight x next) t = cond (mayDeclare (length (t .linear))) (more (withWeight x t) (next .at)) (fault t)
+taken (Entry row col x next) t = cond (mayEnter (length (t .quad))) (more (withEntry row col x t) (next .at)) (fault t)
+taken (Given v b next) t = cond (mayGive v b (length (t .linear)) (t .start)) (more (withGiven v b t) (next .at)) (fault t)
+taken (End next) t = ended true t (next .at)
+taken Malformed t = fault t
 
 abbrev pub following : (ℕ → Told → Outcome) → Turned → Outcome
 following read (more t at) = read at t
-following read (ended b t) = outcome b t
+following read (ended b t end) = outcome b t end
 
 -- reading on from an index, k records at most; each has two bytes at least, so as many as there are bytes are enough
 unfoldable pub readFrom : ℕ → List ℕ → ℕ → Told → Outcome
-readFrom zero s at t = outcome false t
-readFrom (suc k) s at t = following (readFrom k s) (taken (length s) (readAt s at) t)
+readFrom zero s at t = outcome false t 0
+readFrom (suc k) s at t = following (readFrom k s) (taken (readAt s at) t)
 
+-- the field at the front of the input, up to the first ZZ
 unfoldable pub parsed : List ℕ → Outcome
 parsed s = readFrom (suc (length s)) s 0 nothing

@@ -40,11 +40,16 @@ pub data Tells : Told → List Item → Told → Type 0 where
   none : {t : Told} → Tells t [] t
   next : {t u : Told} {i : Item} {is : List Item} → Fine t i → Tells (tells i t) is u → Tells t (i ∷ is) u
 
--- s spells items that lead from t to u
-pub record Spells (s : List ℕ) (t u : Told) : Type 0 where
+-- s spells items that lead from t to u, and rest stands behind their ZZ
+pub record Spells (s : List ℕ) (t u : Told) (rest : List ℕ) : Type 0 where
   pub items : List Item
-  pub bytes : s ≡ spelled items
+  pub bytes : s ≡ spelled items ++ rest
   pub told : Tells t items u
 
+-- the bytes of 256 weights, 1,024 entries, 256 given values and the end
+abbrev pub longestInput : ℕ
+longestInput = 18178
+
+-- a field that tells u is all of s
 abbrev pub WellFormed : List ℕ → Told → Type 0
-WellFormed s u = Spells s nothing u
+WellFormed s u = Spells s nothing u []

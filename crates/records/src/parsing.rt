@@ -1,4 +1,4 @@
-// The field that a whole input tells.
+// The field at the front of an input, up to its ZZ.
 use crate::Cursor;
 use crate::Record;
 ghost use mathlib.Core.Path.{_≡_};
@@ -8,9 +8,13 @@ ghost use Rattle.scratch.specs.Lent.{before, after};
 ghost use Rattle.records.specs.Told.{mayDeclare, mayEnter, mayGive};
 ghost use Rattle.records.specs.Parsing.{listsOf, Room, Parses, tally, stored, goOn, noted, note as noteOf};
 
-// What an input is: a field, with so many linear weights and entries, or malformed.
+// What stands at the front of an input: a field, with so many linear weights and entries and the index behind its ZZ, or what is malformed.
 pub enum Parsed {
-    Field { variables: usize, entries: usize },
+    Field {
+        variables: usize,
+        entries: usize,
+        end: usize,
+    },
     Malformed,
 }
 
@@ -106,10 +110,9 @@ fn give(variable: u16, value: u8, next: Cursor, t: Tally, start: &mut [u8]) -> T
     })
 }
 
-// One record's part in the lists; `size` is the length of the input.
+// One record's part in the lists.
 fn note(
     found: Record,
-    size: usize,
     t: Tally,
     c: &mut [f64],
     rows: &mut [u16],
@@ -120,22 +123,17 @@ fn note(
     requires { ⌜ Room (listsOf (now c) (now rows) (now cols) (now q) (now start)) ⌝ }
     requires { ⌜ t .variables ≤ 256 ⌝ }
     ensures { λ r. ⌜ noted r (listsOf (after c) (after rows) (after cols) (after q) (after start))
-        ≡ noteOf size found t (listsOf (before c) (before rows) (before cols) (before q) (before start)) ⌝ }
+        ≡ noteOf found t (listsOf (before c) (before rows) (before cols) (before q) (before start)) ⌝ }
 {
     match found {
         Record::Weight(x, next) => declare(x, next, t, c, start),
         Record::Entry(row, col, x, next) => enter(row, col, x, next, t, rows, cols, q),
         Record::Given(variable, value, next) => give(variable, value, next, t, start),
-        Record::End(next) => {
-            if next.at == size {
-                Turn::Stop(Parsed::Field {
-                    variables: t.variables,
-                    entries: t.entries,
-                })
-            } else {
-                Turn::Stop(Parsed::Malformed)
-            }
-        }
+        Record::End(next) => Turn::Stop(Parsed::Field {
+            variables: t.variables,
+            entries: t.entries,
+            end: next.at,
+        }),
         Record::Malformed => Turn::Stop(Parsed::Malformed),
     }
 }
@@ -160,7 +158,7 @@ pub fn parse(
     };
     loop {
         let found = Cursor { at: t.at }.read(bytes);
-        let turn = note(found, bytes.len(), t, c, rows, cols, q, start);
+        let turn = note(found, t, c, rows, cols, q, start);
         match turn {
             Turn::On(next) => {
                 t = next;

@@ -1,17 +1,19 @@
 -- Texts written one behind another are one text, and the pieces of an answer make its text. Assumes nothing.
-use Prim.Native.Nat.{ℕ, zero, suc, _+_, _*_, _/_, _%_, _<_, _≤_}
+use Prim.Native.Nat.{ℕ, zero, suc, _+_, _*_, _/_, _%_, _^_, _<_, _≤_}
 use mathlib.Core.Path.{_≡_, refl, sym, ap, _∙_}
 use mathlib.Core.Bool.{Bool, true, false, cond}
 use mathlib.Core.List.{List, [], _∷_, _++_, append-assoc, append-nil}
+use native.Mathlib.Nat.{pow-succ'}
 use native.Mathlib.Numerals.{add-one}
 use native.Mathlib.Omega.{arith}
 use borrow.Author.Tests.{lt-ltb, le-ltb, eq-eqb, ne-eqb}
+use lib.Dec.{ltb}
 use lib.ListN.{length, getD, set, take, drop, length-append, drop-of-length-le}
 use lib.Seq.{sets, length-sets, length-take-le, take-suc, take-length}
 use Rattle.field.specs.declared.Grade.{Grade}
 use Rattle.scratch.specs.Over.{over}
 use Rattle.scratch.proofs.Over.{sets-then, over-sets}
-use Rattle.text.specs.Text.{decimal, gradeLine, forcedLine, endLine, answerText, isForced, forcedAt, forced, forcedLines, Wrote, Shows, Written}
+use Rattle.text.specs.Text.{digit, digits, decimal, gradeLine, forcedLine, endLine, answerText, isForced, forcedAt, forced, forcedLines, Wrote, Shows, Written}
 
 -- ---- texts
 
@@ -91,22 +93,50 @@ module _ {text o₀ : List ℕ} {at : ℕ} {o : List ℕ} {i : ℕ} where
 
 -- ---- numbers
 
+-- a digit more than are needed changes nothing
+digits-enough : (k n : ℕ) → n < 10 ^ suc k → digits (suc k) n ≡ digits (suc (suc k)) n
+unfolding digits
+digits-enough zero n h = let one : n < 10 = omega arith in simp (lt-ltb n 10 one)
+digits-enough (suc k) n h =
+    let fewer : n / 10 < 10 ^ suc k = omega (arith, pow-succ' 10 (suc k)) in
+    ap (λ (l : List ℕ). cond (ltb n 10) (digit n ∷ []) (l ++ digit (n % 10) ∷ [])) (digits-enough k (n / 10) fewer)
+
+digits-short : (j k n : ℕ) → n < 10 ^ suc k → length (digits j n) ≤ suc k
+unfolding digits
+digits-short zero k n h = omega arith
+digits-short (suc j) zero n h = let one : n < 10 = omega arith in simp (lt-ltb n 10 one) (omega arith)
+digits-short (suc j) (suc k) n h = go (ltb n 10) (digits-short j k (n / 10) (omega (arith, pow-succ' 10 (suc k))))
+  where
+    go : (b : Bool) → length (digits j (n / 10)) ≤ suc k → length (cond b (digit n ∷ []) (digits j (n / 10) ++ digit (n % 10) ∷ [])) ≤ suc (suc k)
+    go true l = omega arith
+    go false l = omega (arith, length-append (digits j (n / 10)) (digit (n % 10) ∷ []))
+
+-- a number below 10^(k + 1) has k + 1 digits at most
+pub decimal-short : (k n : ℕ) → n < 10 ^ suc k → length (decimal n) ≤ suc k
+unfolding decimal
+decimal-short = digits-short 20
+
+pub decimal-one : (n : ℕ) → n < 10 → decimal n ≡ digit n ∷ []
+unfolding decimal digits
+decimal-one n h = simp (lt-ltb n 10 h)
+
+pub decimal-more : (n : ℕ) → 10 ≤ n → n < 2 ^ 64 → decimal n ≡ decimal (n / 10) ++ digit (n % 10) ∷ []
+unfolding decimal digits
+decimal-more n h few =
+    let fewer : n / 10 < 10 ^ 19 = omega arith in
+    simp (le-ltb n 10 h) (ap (λ (l : List ℕ). l ++ digit (n % 10) ∷ []) (digits-enough 18 (n / 10) fewer))
+
 module _ {n at r : ℕ} {o₀ o : List ℕ} where
   pub number-one : {d : ℕ} → n < 10 → d ≡ 48 + n → Wrote (d ∷ []) o₀ at o r → Wrote (decimal n) o₀ at o r
-  unfolding decimal
-  number-one h e w = simp (lt-ltb n 10 h) (rw e at w)
+  number-one h e w = rw (decimal-one n h) (rw e at w)
 
-  pub number-two : {d₁ d₂ m : ℕ} {o₁ : List ℕ} → 10 ≤ n → n < 100 → d₁ ≡ 48 + n / 10 → d₂ ≡ 48 + n % 10
-      → Wrote (d₁ ∷ []) o₀ at o₁ m → Wrote (d₂ ∷ []) o₁ m o r → Wrote (decimal n) o₀ at o r
-  unfolding decimal
-  number-two h k e₁ e₂ w₁ w₂ = simp (le-ltb n 10 h, lt-ltb n 100 k) (rw (e₁, e₂) at (wrote-then w₁ w₂))
+  pub number-more : {d m : ℕ} {o₁ : List ℕ} → 10 ≤ n → n < 2 ^ 64 → d ≡ 48 + n % 10 → Wrote (decimal (n / 10)) o₀ at o₁ m → Wrote (d ∷ []) o₁ m o r
+      → Wrote (decimal n) o₀ at o r
+  number-more h few e first last = rw (decimal-more n h few) (wrote-then first (rw e at last))
 
-  pub number-three : {d₁ d₂ d₃ m₁ m₂ : ℕ} {o₁ o₂ : List ℕ} → 100 ≤ n → d₁ ≡ 48 + n / 100 → d₂ ≡ 48 + n / 10 % 10 → d₃ ≡ 48 + n % 10
-      → Wrote (d₁ ∷ []) o₀ at o₁ m₁ → Wrote (d₂ ∷ []) o₁ m₁ o₂ m₂ → Wrote (d₃ ∷ []) o₂ m₂ o r → Wrote (decimal n) o₀ at o r
-  unfolding decimal
-  number-three h e₁ e₂ e₃ w₁ w₂ w₃ =
-      let above : 10 ≤ n = omega arith in
-      simp (le-ltb n 10 above, le-ltb n 100 h) (rw (e₁, e₂, e₃) at (wrote-then w₁ (wrote-then w₂ w₃)))
+-- the room for all digits has that for all but the last
+pub number-room : (n : ℕ) → 10 ≤ n → n < 2 ^ 64 → length (decimal n) ≡ length (decimal (n / 10)) + 1
+number-room n h few = ap length (decimal-more n h few) ∙ length-append (decimal (n / 10)) (digit (n % 10) ∷ [])
 
 -- ---- the line of one variable
 

@@ -14,11 +14,14 @@ use Rattle.scratch.specs.Over.{over}
 abbrev pub digit : ℕ → ℕ
 digit n = 48 + n
 
--- a number below 1,000, with no zero before it
+-- the digits of a number that has k at most, with no zero before them
+unfoldable pub digits : ℕ → ℕ → List ℕ
+digits zero n = []
+digits (suc k) n = cond (ltb n 10) (digit n ∷ []) (digits k (n / 10) ++ digit (n % 10) ∷ [])
+
+-- a number below 10^20
 unfoldable pub decimal : ℕ → List ℕ
-decimal n =
-    cond (ltb n 10) (digit n ∷ [])
-    (cond (ltb n 100) (digit (n / 10) ∷ digit (n % 10) ∷ []) (digit (n / 100) ∷ digit (n / 10 % 10) ∷ digit (n % 10) ∷ []))
+decimal n = digits 20 n
 
 -- a space, and the end of a line
 abbrev pub space : List ℕ

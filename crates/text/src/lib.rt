@@ -27,11 +27,23 @@ pub fn put_bytes(out: &mut [u8], at: usize, text: &[u8]) -> usize
     at + i
 }
 
-fn digit(n: usize) -> u8
+fn digit(n: u64) -> u8
     requires { ⌜ n < 10 ⌝ }
     ensures { λ r. ⌜ r ≡ 48 + n ⌝ }
 {
     48 + (n as u8)
+}
+
+// The digits of a number, the highest first.
+pub fn put_decimal(out: &mut [u8], at: usize, n: u64) -> usize
+    requires { ⌜ at + length (decimal n) ≤ length (now out) ⌝ }
+    ensures { λ r. ⌜ Wrote (decimal n) (before out) at (after out) r ⌝ }
+{
+    if n < 10 {
+        return put(out, at, digit(n));
+    }
+    let last = put_decimal(out, at, n / 10);
+    put(out, last, digit(n % 10))
 }
 
 fn put_number(out: &mut [u8], at: usize, n: usize) -> usize
@@ -40,16 +52,7 @@ fn put_number(out: &mut [u8], at: usize, n: usize) -> usize
     ensures { λ r. ⌜ Wrote (decimal n) (before out) at (after out) r ⌝ }
     ensures { λ r. ⌜ r ≤ at + 3 ⌝ }
 {
-    if n < 10 {
-        return put(out, at, digit(n));
-    }
-    if n < 100 {
-        let tens = put(out, at, digit(n / 10));
-        return put(out, tens, digit(n % 10));
-    }
-    let hundreds = put(out, at, digit(n / 100));
-    let tens = put(out, hundreds, digit(n / 10 % 10));
-    put(out, tens, digit(n % 10))
+    put_decimal(out, at, n as u64)
 }
 
 fn put_grade(out: &mut [u8], at: usize, grade: Grade) -> usize

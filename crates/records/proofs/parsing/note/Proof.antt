@@ -1,5 +1,5 @@
 -- `note` goes by the record that was found. Assumes nothing.
-use Rattle.records.proofs.Notes.{note-weight, note-entry, note-given, note-whole, note-longer, note-malformed}
+use Rattle.records.proofs.Notes.{note-weight, note-entry, note-given, note-end, note-malformed}
 use borrow.Author.Needs.{needs}
 use Rattle.records.proofs.parsing.note.Statement.{statement}
 use Rattle.records.proofs.parsing.note.Tie as tie
@@ -38,7 +38,7 @@ returns : tie.Need-returns
 returns c =
     let at-declare = c .before .before .before .before in
     let at-found = at-declare .before .before .before .before in
-    note-weight _ _ _ _ _ _ _ (at-found .found .given .1) (at-declare .declare .ensures .0) (at-declare .declare .ensures .1 .0)
+    note-weight _ _ _ _ _ _ (at-found .found .given .1) (at-declare .declare .ensures .0) (at-declare .declare .ensures .1 .0)
     (at-declare .declare .ensures .1 .1)
 
 same-length-3 : tie.Need-same-length-3
@@ -54,23 +54,20 @@ returns-2 : tie.Need-returns-2
 returns-2 c =
     let at-enter = c .before .before .before .before .before .before in
     let at-found2 = at-enter .before .before .before .before .before in
-    note-entry _ _ _ _ _ _ _ (at-found2 .found2 .given .1) (at-enter .enter .ensures .0) (at-enter .enter .ensures .1 .0)
+    note-entry _ _ _ _ _ _ (at-found2 .found2 .given .1) (at-enter .enter .ensures .0) (at-enter .enter .ensures .1 .0)
     (at-enter .enter .ensures .1 .1 .0) (at-enter .enter .ensures .1 .1 .1)
 
 same-length-6 : tie.Need-same-length-6
 same-length-6 c = search needs
 
 returns-3 : tie.Need-returns-3
-returns-3 c = note-given _ _ _ _ _ _ _ (c .before .before .before .before .before .found3 .given .1) (c .before .before .give .ensures .0) (c .before .before .give .ensures .1)
+returns-3 c = note-given _ _ _ _ _ _ (c .before .before .before .before .before .found3 .given .1) (c .before .before .give .ensures .0) (c .before .before .give .ensures .1)
 
 returns-4 : tie.Need-returns-4
-returns-4 c = note-whole _ _ _ _ _ _ _ (c .before .before .before .found4 .given .1) (c .if1 .taken)
+returns-4 c = note-end _ _ _ _ _ _ (c .before .found4 .given .1)
 
 returns-5 : tie.Need-returns-5
-returns-5 c = note-longer _ _ _ _ _ _ _ (c .before .before .before .found4 .given .1) (c .if1 .left)
-
-returns-6 : tie.Need-returns-6
-returns-6 c = note-malformed _ _ (c .enum-told .given .1)
+returns-5 c = note-malformed _ (c .enum-told .given .1)
 
 pub note-spec : {M : Type 1} → statement M
 note-spec =
@@ -94,5 +91,4 @@ note-spec =
     same-length-6
     returns-3
     returns-4
-    returns-5
-    returns-6)
+    returns-5)
