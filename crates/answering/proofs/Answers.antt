@@ -61,16 +61,15 @@ scratch-fits F s {f} {u} floats words = go (tested (standardTests F s)) refl
     go Passed e = sym (group-ok (standardTests F s) eighth e passes) ∙ sym e
     go (Failed r) e = sym (group-no (standardTests F s) eighth e) ∙ sym e
 
-module _ (f : List Float) (u : List ℕ) {F : Field} {s v v′ : List ℕ} {f′ : List Float} {u′ : List ℕ} {k out : ℕ} {a : Answer}
-    (fits : Fits F s k) (enough : Enough (length f) (length u) out) (same : v ≡ s) (call : left a v′ f′ u′ ≡ closureCall F v f u) where
+-- what the closure's call says, of the start values in a copy and with scratch as long as the table asks
+module _ (F : Field) (f : List Float) (u : List ℕ) {s v v′ : List ℕ} {f′ : List Float} {u′ : List ℕ} {a : Answer}
+    (floats : 8 * variables F + 4 * entries F + 16 ≤ length f) (words : 16 * variables F + 8 * entries F + 16 ≤ length u)
+    (same : v ≡ s) (call : left a v′ f′ u′ ≡ closureCall F v f u) where
   decided : left a v′ f′ u′ ≡ closureCall F s f u
   decided = call ∙ ap (λ (l : List ℕ). closureCall F l f u) same
 
   ready : tested (readyTests F s (length f) (length u)) ≡ tested (standardTests F s)
-  ready =
-      let floats : 8 * variables F + 4 * entries F + 16 ≤ length f = omega (arith, fits .few-variables, fits .few-entries, enough .floats) in
-      let words : 16 * variables F + 8 * entries F + 16 ≤ length u = omega (arith, fits .few-variables, fits .few-entries, enough .words) in
-      scratch-fits F s floats words
+  ready = scratch-fits F s floats words
 
   -- what is left, where the tests pass and where one fails
   done-left : tested (readyTests F s (length f) (length u)) ≡ Passed → left a v′ f′ u′ ≡ left (Counts (gradeOf F) (flat F s)) (closure F s) (cleared zero64 f) (cleared 0 u)
@@ -79,21 +78,35 @@ module _ (f : List Float) (u : List ℕ) {F : Field} {s v v′ : List ℕ} {f′
   refused-left : {r : Refusal} → tested (readyTests F s (length f) (length u)) ≡ Failed r → left a v′ f′ u′ ≡ left (Refuses r) s f u
   refused-left p = decided ∙ sym (refused-call (counts flat) closure F s f u refl p)
 
+  pub done-is : {g : Grade} {n : ℕ} → a ≡ Counts g n → (tested (standardTests F s) ≡ Passed) × (g ≡ gradeOf F) × (v′ ≡ closure F s)
+  done-is {g} e = by (tested (standardTests F s)) ready
+    where
+      by : (k : Checked) → tested (readyTests F s (length f) (length u)) ≡ k → (k ≡ Passed) × (g ≡ gradeOf F) × (v′ ≡ closure F s)
+      by Passed p = (refl, cc (ap (λ (l : Left). l .answer) (done-left p)), ap (λ (l : Left). l .lent .values) (done-left p))
+      by (Failed r) p = let z : _≡_ {A = ℕ} 0 1 = cc (ap (λ (l : Left). l .answer) (refused-left p)) in absurd (omega arith)
+
+  pub refused-is : {r : Refusal} → a ≡ Refuses r → tested (standardTests F s) ≡ Failed r
+  refused-is {r} e = by (tested (standardTests F s)) ready
+    where
+      by : (k : Checked) → tested (readyTests F s (length f) (length u)) ≡ k → k ≡ Failed r
+      by Passed p = let z : _≡_ {A = ℕ} 0 1 = cc (ap (λ (l : Left). l .answer) (done-left p)) in absurd (omega arith)
+      by (Failed t) p = let z : r ≡ t = cc (ap (λ (l : Left). l .answer) (refused-left p)) in ap Failed (sym z)
+
+module _ (f : List Float) (u : List ℕ) {F : Field} {s v v′ : List ℕ} {f′ : List Float} {u′ : List ℕ} {k out : ℕ} {a : Answer}
+    (fits : Fits F s k) (enough : Enough (length f) (length u) out) (same : v ≡ s) (call : left a v′ f′ u′ ≡ closureCall F v f u) where
+  floats : 8 * variables F + 4 * entries F + 16 ≤ length f
+  floats = omega (arith, fits .few-variables, fits .few-entries, enough .floats)
+
+  words : 16 * variables F + 8 * entries F + 16 ≤ length u
+  words = omega (arith, fits .few-variables, fits .few-entries, enough .words)
+
   pub done-text : {g : Grade} {n : ℕ} → a ≡ Counts g n → answerText g s v′ ≡ fieldText F s
   unfolding fieldText checkedText
-  done-text {g} e = by (tested (standardTests F s)) ready
-    where
-      by : (k : Checked) → tested (readyTests F s (length f) (length u)) ≡ k → answerText g s v′ ≡ checkedText k F s
-      by Passed p = cc (ap (λ (l : Left). l .answer) (done-left p), ap (λ (l : Left). l .lent .values) (done-left p))
-      by (Failed r) p = let z : _≡_ {A = ℕ} 0 1 = cc (ap (λ (l : Left). l .answer) (refused-left p)) in absurd (omega arith)
+  done-text e = let is = done-is F f u floats words same call e in rw (is .0) (rw (is .1, is .2))
 
   pub refused-text : {r : Refusal} → a ≡ Refuses r → refusedText (numberOf r) ≡ fieldText F s
   unfolding fieldText checkedText
-  refused-text {r} e = by (tested (standardTests F s)) ready
-    where
-      by : (k : Checked) → tested (readyTests F s (length f) (length u)) ≡ k → refusedText (numberOf r) ≡ checkedText k F s
-      by Passed p = let z : _≡_ {A = ℕ} 0 1 = cc (ap (λ (l : Left). l .answer) (done-left p)) in absurd (omega arith)
-      by (Failed t) p = let z : r ≡ t = cc (ap (λ (l : Left). l .answer) (refused-left p)) in ap (λ (x : Refusal). refusedText (numberOf x)) z
+  refused-text e = rw (refused-is F f u floats words same call e)
 
 -- ---- the input's text
 

@@ -29,9 +29,9 @@ use Rattle.field.proofs.Table.{first-refuses}
 use Rattle.run.specs.Run.{closure}
 use Rattle.run.proofs.Theorems.{closure-is-closure}
 use Rattle.text.specs.Text.{digits, decimal, refusedText, gradeLine, answerText}
-use Rattle.records.specs.Told.{Told, outcome, parsed}
+use Rattle.records.specs.Told.{Told, fieldTold, outcome, parsed}
 use Rattle.records.specs.WellFormed.{Item, weight, entry, given, tells, Fine, Tells, none, next, WellFormed, longestInput}
-use Rattle.answering.specs.Answer.{checkedText, fieldText, fieldTold, toldText, outcomeText, answerBytes, Answered, ShowsClosure}
+use Rattle.answering.specs.Answer.{checkedText, fieldText, toldText, outcomeText, answerBytes, Answered, ShowsClosure}
 use Rattle.records.proofs.Laid.{Within}
 use Rattle.records.proofs.Means.{whole-means}
 use Rattle.records.proofs.Longest.{told-within, longest-field}

@@ -9,7 +9,7 @@ use Rattle.field.specs.declared.Checked.{Checked}
 use Rattle.field.specs.declared.Checked.the-variants.{Passed, Failed}
 use Rattle.field.specs.declared.Grade.the-variants.{Exact}
 use Rattle.field.specs.Answers.{numberOf}
-use Rattle.field.specs.Field.{Field, fieldOf, variables, entries}
+use Rattle.field.specs.Field.{Field, variables, entries}
 use Rattle.field.specs.Grade.{gradeOf, unitOf, Serves}
 use Rattle.field.specs.Reading.{wholeOf}
 use Rattle.field.specs.Table.{tested}
@@ -18,7 +18,7 @@ use Rattle.meaning.specs.Gradient.{Forces}
 use Rattle.meaning.specs.Steps.{Closure}
 use Rattle.run.specs.Run.{closure}
 use Rattle.text.specs.Text.{refusedText, answerText}
-use Rattle.records.specs.Told.{Told, Outcome, parsed}
+use Rattle.records.specs.Told.{Told, fieldTold, Outcome, parsed}
 use Rattle.records.specs.WellFormed.{WellFormed}
 
 -- "any other refusal `refused` and its number. Otherwise it runs the closure", prints the grade first, and shows what was forced
@@ -30,10 +30,7 @@ checkedText (Failed r) F s = refusedText (numberOf r)
 unfoldable pub fieldText : Field → List ℕ → List ℕ
 fieldText F s = checkedText (tested (standardTests F s)) F s
 
--- the field that is told, and the text for it and its start values
-abbrev pub fieldTold : Told → Field
-fieldTold t = fieldOf (t .linear) (t .rows) (t .cols) (t .quad)
-
+-- the text for the field that is told and its start values
 abbrev pub toldText : Told → List ℕ
 toldText t = fieldText (fieldTold t) (t .start)
 

@@ -6,6 +6,7 @@ use lib.Dec.{ltb}
 use lib.ListN.{length, set}
 use lib.Ieee.{Float}
 use Rattle.meaning.specs.Free.{isFree}
+use Rattle.field.specs.Field.{Field, fieldOf}
 use Rattle.records.specs.Reading.{readAt}
 use Rattle.records.specs.declared.Record.{Record}
 use Rattle.records.specs.declared.Record.the-variants.{Weight, Entry, Given, End, Malformed}
@@ -17,6 +18,9 @@ pub record Told : Type 0 where
   pub cols : List ℕ
   pub quad : List Float
   pub start : List ℕ
+
+abbrev pub fieldTold : Told → Field
+fieldTold t = fieldOf (t .linear) (t .rows) (t .cols) (t .quad)
 
 abbrev pub nothing : Told
 nothing = record { linear = []; rows = []; cols = []; quad = []; start = [] }
