@@ -110,12 +110,49 @@ holds 'an empty input' 0 "$malformed" on empty tools/run presolve
 holds 'the input of crates/presolve' 0 "$(cat crates/presolve/stdout)
 " tools/run presolve <crates/presolve/stdin
 
+# ---- the tally
+shipped() {
+    cmp "$room/inputs" crates/tally_cases/stdin && cmp "$room/answers" crates/tally_cases/stdout &&
+        cmp "$room/input" crates/presolve_tally/stdin && cmp "$room/answer" crates/presolve_tally/stdout
+}
+{ cat "$room/small" "$room/small" "$room/diagonal" "$room/longest"; } >"$room/fleet"
+fleet='3 3 0 1 256 0 0 2 0 0
+'
+holds 'a tally' 0 "$fleet" on fleet tools/run presolve tally
+holds 'a tally of none' 0 '0 0 0 0 0 0 0 0 -
+' on empty tools/run presolve tally
+holds 'a tally of more than the buffer holds' 0 '40 40 0 0 10240 0 0 0 -
+' sh -c 'i=0; while [ $i -lt 40 ]; do cat "$1/longest"; i=$((i + 1)); done | tools/run presolve tally' - "$room"
+holds 'a tally that ends at a malformed record' 0 'refused 11
+1 1 0 1 0 0 0 1 0 0
+' on after tools/run presolve tally
+holds 'any other argument is as none' 0 "$nothing_forced" on small tools/run presolve fields
+holds 'a longer one too' 0 "$nothing_forced" on small tools/run presolve tallying
+holds 'and an empty one' 0 "$nothing_forced" on small tools/run presolve ''
+if command -v python3 >/dev/null; then
+    holds 'the cases of tools/tally_cases are written' 0 '' python3 tools/tally_cases "$room/inputs" "$room/answers" "$room/input" "$room/answer"
+    holds 'those that are shipped are these' 0 '' shipped
+    what='a tally is the sum over the fields alone, for every cut'
+    if python3 tools/test_tally.py 1 12 40 >"$room/sums" 2>&1; then pass "$what"; else cat "$room/sums"; fail "$what"; fi
+else
+    echo "There is no python3 here: the cases of tools/tally_cases, and the sum over the fields alone, are passed over."
+fi
+
 # ---- presolve.sh
 usage=$(./presolve.sh --help)
 holds 'the usage' 0 "$usage
 " ./presolve.sh -h
 holds 'too many arguments' 2 '' ./presolve.sh "$room/small" "$room/small"
 says 'too many arguments show the usage' 'usage: presolve.sh [RECORDS]'
+holds 'a tally of files' 0 "$fleet" ./presolve.sh --tally "$room/small" "$room/small" "$room/diagonal" "$room/longest"
+holds 'a tally of a malformed file' 1 'refused 11
+1 1 0 1 0 0 0 1 0 0
+' ./presolve.sh --tally "$room/after" "$room/small"
+says 'which is told in words' 'the input is not well-formed'
+holds 'a tally of standard input between two files' 0 '3 3 0 0 0 0 0 2 0 0
+' on small ./presolve.sh --tally "$room/ends" - "$room/small"
+holds 'a tally of no file' 2 '' ./presolve.sh --tally
+holds 'a tally of a file that is not there' 2 '' ./presolve.sh --tally "$room/none"
 holds 'an unknown option' 2 '' ./presolve.sh --all
 holds 'no such file' 2 '' ./presolve.sh "$room/none"
 says 'no such file is told by its name' "there is no file $room/none"
