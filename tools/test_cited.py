@@ -18,10 +18,10 @@ PAGE = """# Promises
 
 All theorems in `crates/a/proofs/Demands.antt`, unless another file is named.
 
-| sentence | shown by |
-|---|---|
-| It counts | `Counts`, `crates/a/specs/Call.antt`; T `counted`; T `paired`, `crates/a/proofs/Pairs.antt`; C `count`, `crates/a/src/lib.rt` |
-| A wrong one | `crates/a/must-fail/wrong.edit` |
+| rule | sentence | shown by |
+|---|---|---|
+| 1.1, 1.2 | It counts | `Counts`, `crates/a/specs/Call.antt`; T `counted`; T `paired`, `crates/a/proofs/Pairs.antt`; C `count`, `crates/a/src/lib.rt` |
+| 2.1 | A wrong one | `crates/a/must-fail/wrong.edit`, as `crates/NAME/must-fail/LABEL.edit` |
 
 ## Another
 
@@ -32,8 +32,11 @@ All theorems in `crates/a/proofs/Demands.antt`, unless another file is named.
 
 FILES = {
     "docs/PROMISES.md": PAGE,
+    "docs/RULES.md": "# Rules\n\n- **1.1** It counts.\n- **1.2** To one, by rule 1.1.\n\n## 2. Wrong\n\n- **2.1** None.\n",
+    "docs/USING.md": "See rules 1.1 to 2.1, and 7.7 is a number.\n",
+    "docs/GUIDE.md": "The table.\n",
     "README.md": "Shown by `paired`, `crates/a/proofs/Pairs.antt`.\n",
-    "crates/a/specs/Call.antt": "pub record Counts (n : ℕ) : Type 0 where\n  pub is : n ≡ 1\n",
+    "crates/a/specs/Call.antt": "-- rule 1.1\npub record Counts (n : ℕ) : Type 0 where\n  pub is : n ≡ 1\n",
     "crates/a/src/lib.rt": "ghost use Rattle.a.specs.Call.{Counts};\npub fn count() {}\n",
     "crates/a/must-fail/wrong.edit": "file: src/lib.rt\n",
     "crates/a/proofs/Laws.antt": "abbrev pub Helper : ℕ → Type 0\nHelper n = Counts n\n",
@@ -62,6 +65,7 @@ def faults(changes=()):
         for page in cited.PAGES:
             check.page(page)
         check.specs()
+        check.rules()
         return check.faults
 
 
@@ -102,6 +106,21 @@ class Cited(unittest.TestCase):
 
     def test_contract_on_proofs(self):
         self.names("crates/a/src/lib.rt: `Helper` is defined in Rattle.a.proofs.Laws", ("crates/a/src/lib.rt", "pub fn", "ghost use Rattle.a.proofs.Laws.{Helper};\npub fn"))
+
+    def test_rule_in_a_page(self):
+        self.names("docs/USING.md:1: rule 2.2: there is no such rule", ("docs/USING.md", "to 2.1", "and 2.2"))
+
+    def test_rule_in_a_comment(self):
+        self.names("crates/a/specs/Call.antt:1: rule 1.3: there is no such rule", ("crates/a/specs/Call.antt", "rule 1.1", "rule 1.3"))
+
+    def test_rule_in_a_row(self):
+        self.names("docs/PROMISES.md:10: rule 3.1: there is no such rule", ("docs/PROMISES.md", "| 2.1 |", "| 2.1, 3.1 |"))
+
+    def test_rule_not_shown(self):
+        self.names("docs/RULES.md: 1.2: docs/PROMISES.md does not say what shows it", ("docs/PROMISES.md", "1.1, 1.2", "1.1"))
+
+    def test_rule_out_of_order(self):
+        self.names("docs/RULES.md:8: 2.2: does not follow the rule before", ("docs/RULES.md", "**2.1**", "**2.2**"), ("docs/PROMISES.md", "| 2.1 |", "| 2.2 |"), ("docs/USING.md", "to 2.1", "to 1.2"))
 
 
 if __name__ == "__main__":
