@@ -9,7 +9,7 @@ use Rattle.reaching.specs.Via.{reaches, picked, firstContradictory, countBelow}
 use Rattle.allow.specs.declared.Allowed.{Allowed}
 use Rattle.allow.specs.declared.Allowed.the-variants.{Yes, No}
 
--- "the lowest variable each of whose literals reaches the other", or n
+-- the lowest variable of which each literal reaches the other (rule 6.9), or n
 abbrev pub named : List Implication → ℕ → ℕ
 named E n = firstContradictory (reaches E n) n
 
@@ -17,7 +17,7 @@ named E n = firstContradictory (reaches E n) n
 unfoldable pub allowedOf : List Implication → ℕ → Allowed
 allowedOf E n = cond (ltb (named E n) n) (No (named E n)) Yes
 
--- "with the assignment list all 2", else 1 exactly where it must be
+-- all 2 where the answer is no, else 1 exactly where it must be (rule 6.10)
 unfoldable pub assignmentOf : List Implication → ℕ → List ℕ
 assignmentOf E n = cond (ltb (named E n) n) (replicate n 2) (picked (reaches E n) n)
 
@@ -26,6 +26,6 @@ unfoldable pub countsTo : (ℕ → ℕ → Bool) → ℕ → ℕ → List ℕ
 countsTo r m zero = []
 countsTo r m (suc k) = countsTo r m k ++ countBelow (r k) m ∷ []
 
--- "for each literal how many it reaches, itself included"
+-- how many literals each literal reaches, itself included (rule 6.11)
 unfoldable pub countsOf : List Implication → ℕ → List ℕ
 countsOf E n = countsTo (reaches E n) (2 * n) (2 * n)

@@ -43,7 +43,7 @@ Left = any.Left Allowed Lent
 abbrev pub left : Allowed → List ℕ → List ℕ → List ℕ → List ℕ → Left
 left r a c w u = any.left r (lent a c w u)
 
--- 1 "with the limit 1,024", 7 as in propagation, 8 "with its own word scratch of 128 words for each variable, the u32 scratch as before"
+-- 1 above 1,024 variables, 7 as in propagation, 8 with 128 words of 64 bits for each variable and the u32 scratch of propagation (rules 3.5 and 3.6)
 unfoldable pub allowTests : ℕ → List ℕ → ℕ → ℕ → List Test
 allowTests n list longs words =
     test Variables (leb n 1024)
@@ -59,7 +59,7 @@ pub record Ready (n : ℕ) (list : List ℕ) (longs words : ℕ) : Type 0 where
   pub longs-room : 128 * n ≤ longs
   pub words-room : 16 * n + 8 * room list + 16 ≤ words
 
--- "9 for short answer lists": n places for values, and 2n for counts
+-- 9 where a list is too short: n places for values, and 2n for counts (rule 3.7)
 unfoldable pub fits : ℕ → ℕ → ℕ → Bool
 fits n places numbers = leb n places && leb (2 * n) numbers
 
@@ -67,8 +67,8 @@ fits n places numbers = leb n places && leb (2 * n) numbers
 unfoldable pub allowTable : ℕ → List ℕ → ℕ → ℕ → ℕ → ℕ → List Test
 allowTable n list places numbers longs words = allowTests n list longs words ++ test Room (fits n places numbers) ∷ []
 
--- tests 1, 7 and 8, then room, then the answer: on 9 "each answer list is all zeros"; "After passing 8, scratch ends as all zeros";
--- "elements past an answer list's last item are unchanged"
+-- tests 1, 7 and 8, then room, then the answer: on 9 every answer list is all zeros, past test 8 scratch ends as zeros, and what stands
+-- behind the last item is as it was (rules 3.9 to 3.11)
 unfoldable pub allowCall : ℕ → List ℕ → List ℕ → List ℕ → List ℕ → List ℕ → Left
 allowCall n list a c w u =
     called

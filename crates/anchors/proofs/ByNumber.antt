@@ -48,7 +48,7 @@ module _ {F : Field} (S : Shaped F) (fine : Finite F) (h : HeldField F) (i : ℕ
   pub symmetric-by-number : (balanced F i ≡ true) ↔ (Valid (terms F i) × Zero (sumOf F i))
   symmetric-by-number = number.balanced-number S fine h i hi
 
--- "one variable at a time needs m+1 parts": after any t of its entries there are no more.
+-- A sum of one variable has at most m + 1 parts: after any t of its entries there are no more.
 pub parts-at-most : {F : Field} → Shaped F → (i t : ℕ) {r : List Float}
     → balanceOver F (plus (mul binary64 four64 (linearOf F i)) (parts [])) (take t (places (F .rows) (F .cols) i)) ≡ parts r → length r ≤ entries F + 1
 parts-at-most = number.balance-short

@@ -135,7 +135,7 @@ module _ {F : Field} (S : Shaped F) (h : HeldWeights F) (i : ℕ) where
   pub symmetric-exactly : {r : List Float} → balanceOf F i ≡ parts r → (balanced F i ≡ true) ↔ Zero (total (terms F i))
   symmetric-exactly = balance-exactly S h i
 
--- On an exact field it is document 01's balance, in whole numbers.
+-- On an exact field it is the balance of rule 9.2, in whole numbers.
 pub symmetric-exact-field : {u : ℕ} {F : Field} → Shaped F → ExactIn u F → (i : ℕ) → i < variables F → (balanced F i ≡ true) ↔ Zero (balance (wholeOf u F) i)
 symmetric-exact-field S x i = balanced-is S x i
 

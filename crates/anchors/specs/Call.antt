@@ -19,7 +19,7 @@ use Rattle.calls.specs.Call as any
 use Rattle.calls.specs.Call.{called, stage, usual}
 use Rattle.anchors.specs.Model.{anchorsOf}
 
--- whether the list has room for every anchor: "9 is given exactly if a full answer has more items than its list has room for"
+-- whether the list has room for every anchor (rule 3.7)
 abbrev pub fits : Field → List ℕ → ℕ → List ℕ → Bool
 fits F s least list = leb (length (anchorsOf F s least)) (length list)
 
@@ -43,8 +43,8 @@ Left = any.Left Counted Lent
 abbrev pub left : Counted → List ℕ → List Float → List ℕ → Left
 left r l f u = any.left r (lent l f u)
 
--- the tests of `openTests`, then room, then the anchors: "then each answer list is all zeros"; "After passing 8, scratch ends as all zeros";
--- "elements past an answer list's last item are unchanged"
+-- the tests of `openTests`, then room, then the anchors: on 9 the list is all zeros, past test 8 scratch ends as zeros, and what stands
+-- behind the last item is as it was (rules 3.9 to 3.11)
 unfoldable pub anchorsCall : Field → List ℕ → ℕ → List ℕ → List Float → List ℕ → Left
 anchorsCall F s least list f u =
     called

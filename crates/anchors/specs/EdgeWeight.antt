@@ -1,4 +1,4 @@
--- A variable's weight in whole numbers, and the leader by it (document 01, "Anchors"). Assumes nothing.
+-- A variable's weight in whole numbers, and the leader by it (rule 9.6). Assumes nothing.
 use Prim.Native.Nat.{ℕ, _≤_}
 use mathlib.Core.Path.{_≡_}
 use mathlib.Core.Logic.{_⊎_}
@@ -13,11 +13,11 @@ use Rattle.parts.specs.Part.{has}
 abbrev pub edge : Field → ℕ → ℕ → Whole
 edge F i k = only (not (eqb (F .row k) (F .column k)) && (eqb (F .row k) i || eqb (F .column k) i)) (size (F .weight k))
 
--- "sum of |q| off the diagonal"
+-- the sum of |q| over the entries at i that are off the diagonal
 abbrev pub edge-weight : Field → ℕ → Whole
 edge-weight F i = sum (F .m) (edge F i)
 
--- "the greatest sum of |q| off the diagonal, then the lowest index": a stands before i
+-- a stands before i: its sum is greater, or equal with an index that is not greater
 abbrev pub Outweighs : Field → ℕ → ℕ → Type 0
 Outweighs F a i = Above0 (edge-weight F a ⊖ edge-weight F i) ⊎ ((edge-weight F a ≈ edge-weight F i) × (a ≤ i))
 

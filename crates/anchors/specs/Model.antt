@@ -1,4 +1,4 @@
--- Complement anchors (document 01, "Anchors"), executable on every field. Assumes nothing.
+-- Complement anchors (rules 9.1 to 9.6), executable on every field. Assumes nothing.
 use Prim.Native.Nat.{ℕ, zero, suc}
 use mathlib.Core.Bool.{Bool, true, false, cond, _&&_}
 use mathlib.Core.List.{List, [], _∷_, _++_}
@@ -16,7 +16,7 @@ use Rattle.anchors.specs.Sums.{balanced, weightOf}
 abbrev pub leader : ℕ → Float → Leader
 leader i w = record { variable = i; weight = w }
 
--- "the greatest sum .., then the lowest index": i, of weight w, takes the lead, or not
+-- i, of weight w, takes the lead if its weight is greater, or equal with a lower index
 unfoldable pub against : Leader → ℕ → Float → Leader
 against a i w = cond (lt (a .weight) w) (leader i w) (cond (eq w (a .weight)) (cond (ltb i (a .variable)) (leader i w) a) a)
 
@@ -35,7 +35,7 @@ unfoldable pub allTurnable : Field → List ℕ → List ℕ → Bool
 allTurnable F s [] = true
 allTurnable F s (i ∷ is) = turnable F s i && allTurnable F s is
 
--- "a component with any start value, or smaller than the given least size, has none"
+-- a component that is smaller than the least size or has a member with a start value has no anchor (rule 9.5)
 unfoldable pub anchorIn : Field → List ℕ → ℕ → ℕ → List ℕ → List ℕ
 anchorIn F s least start members = cond (leb least (length members) && allTurnable F s members) (leads F start members ∷ []) []
 
@@ -49,7 +49,7 @@ pub record Found : Type 0 where
 abbrev pub found : List ℕ → List ℕ → Found
 found marks anchors = record { marks = marks; anchors = anchors }
 
--- the walk from start i, if it is not seen yet: the marks that it leaves, "Entries with q = 0 join nothing here", and the anchor of its component
+-- the walk from start i, if it is not seen yet, in which entries of weight 0 do not join: the marks that it leaves, and the anchor of its component
 unfoldable pub marksAt : Field → List ℕ → ℕ → List ℕ
 marksAt F marks i = cond (eqb (getD marks i 0) 2) (marksFrom F false marks i) marks
 

@@ -1,4 +1,4 @@
--- Document 01's sum as a number ("Anchors"), for every field of f64 weights: counted in the smallest unit, 2^-1074, of which every finite f64 is a whole number. Assumes nothing.
+-- The balance of rule 9.2 as a number, for every field of f64 weights: counted in the smallest unit, 2^-1074, of which every finite f64 is a whole number. Assumes nothing.
 use Prim.Native.Nat.{ℕ, _<_, _≤_}
 use mathlib.Core.Path.{_≡_}
 use mathlib.Core.Bool.{true, cond, _||_}
@@ -13,15 +13,15 @@ use Rattle.field.specs.Field.{Field, variables, entries, linearOf, rowEnd, colu
 use Rattle.parts.specs.Part.{has}
 use Rattle.anchors.specs.Rule.{terms, HeldWeights}
 
--- q of entry k, "2q on the diagonal"
+-- q of entry k, and 2q on the diagonal
 abbrev pub entryOf : Field → ℕ → Whole
 entryOf F k = cond (eqb (rowEnd F k) (columnEnd F k)) (read 0 (quadOf F k) ⊙ 2) (read 0 (quadOf F k))
 
--- "4c, then q of each entry", of those with an end at variable i
+-- 4c and q of each entry that has an end at variable i
 abbrev pub sumOf : Field → ℕ → Whole
 sumOf F i = read 0 (linearOf F i) ⊙ 4 ⊕ sum (entries F) (λ k. only (eqb (rowEnd F k) i || eqb (columnEnd F k) i) (entryOf F k))
 
--- "a component with any start value, or smaller than the given least size, has none"; "Overflow, of 4c also, makes it invalid and its component gets no anchor"; the number
+-- when a component has an anchor (rule 9.5): it is large enough, every member is free, no sum of a member overflows, and the number
 -- of every member is 0
 pub record TurnsByNumber (F : Field) (s : List ℕ) (least : ℕ) (K : List ℕ) : Type 0 where
   pub large : least ≤ length K

@@ -1,4 +1,4 @@
--- The rule for anchors (document 01, "Anchors"), over parts of the variables. Assumes nothing.
+-- The rule for anchors (rules 9.4 to 9.6), over parts of the variables. Assumes nothing.
 use Prim.Native.Nat.{ℕ, _<_, _≤_}
 use mathlib.Core.Path.{_≡_}
 use mathlib.Core.Logic.{_⊎_}
@@ -13,7 +13,7 @@ use Rattle.places.specs.Places.{places}
 use Rattle.parts.specs.Part.{has}
 use Rattle.anchors.specs.Sums.{onDiagonal, doubled, balanced, weightOf}
 
--- "the greatest sum of |q| off the diagonal, then the lowest index": a stands before i
+-- a stands before i: its sum of |q| off the diagonal is greater, or equal with an index that is not greater
 abbrev pub Before : Field → ℕ → ℕ → Type 0
 Before F a i = (lt (weightOf F i) (weightOf F a) ≡ true) ⊎ ((eq (weightOf F i) (weightOf F a) ≡ true) × (a ≤ i))
 
@@ -21,7 +21,7 @@ pub record Leads (F : Field) (K : List ℕ) (a : ℕ) : Type 0 where
   pub member : has K a ≡ true
   pub first : (i : ℕ) → has K i ≡ true → Before F a i
 
--- "a component with any start value, or smaller than the given least size, has none"; "Overflow .. makes it invalid and its component gets no anchor"
+-- when a component has an anchor: it is large enough, every member is free, and the balance of every member is valid and 0 (rule 9.5)
 pub record Turns (F : Field) (s : List ℕ) (least : ℕ) (K : List ℕ) : Type 0 where
   pub large : least ≤ length K
   pub free : (i : ℕ) → has K i ≡ true → getD s i 0 ≡ 2
@@ -38,7 +38,7 @@ AnchorsOf F s least = AnchorsBy (Turns F s least) (Leads F)
 
 -- ---- what is added at a variable
 
--- "4c, then q of each entry in order (2q on the diagonal)"
+-- 4c, then q of each entry in order, 2q where it is on the diagonal (rule 9.2)
 unfoldable pub termsAt : Field → ℕ → List Float
 termsAt F k = cond (onDiagonal F k) (doubled F k ∷ []) (cond (ne (quadOf F k) zero64) (quadOf F k ∷ []) [])
 

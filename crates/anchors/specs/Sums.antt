@@ -1,4 +1,4 @@
--- What one variable comes to (document 01, "Anchors"): its error-free sum, and the weight of its entries. Assumes nothing.
+-- What one variable comes to: its error-free sum (rule 9.2), and the weight of its entries (rule 9.6). Assumes nothing.
 use Prim.Native.Nat.{ℕ, _+_, _<_, _≤_}
 use mathlib.Core.Path.{_≡_}
 use mathlib.Core.Bool.{Bool, cond}
@@ -19,7 +19,7 @@ onDiagonal F k = eqb (rowEnd F k) (columnEnd F k)
 abbrev pub doubled : Field → ℕ → Float
 doubled F k = mul binary64 two64 (quadOf F k)
 
--- "q of each entry in order (2q on the diagonal)"; a stored zero off the diagonal is passed over
+-- q of an entry goes in, 2q of one on the diagonal; an entry of weight 0 off the diagonal is passed over
 unfoldable pub balanceAt : Field → Expansion → ℕ → Expansion
 balanceAt F e k = cond (onDiagonal F k) (plus (doubled F k) e) (cond (ne (quadOf F k) zero64) (plus (quadOf F k) e) e)
 
@@ -27,7 +27,7 @@ unfoldable pub balanceOver : Field → Expansion → List ℕ → Expansion
 balanceOver F e [] = e
 balanceOver F e (k ∷ ks) = balanceOver F (balanceAt F e k) ks
 
--- "ExactSum of 4c, then q of each entry"
+-- the error-free sum of 4c, then of q of each entry at i
 unfoldable pub balanceOf : Field → ℕ → Expansion
 balanceOf F i = balanceOver F (plus (mul binary64 four64 (linearOf F i)) (parts [])) (places (F .rows) (F .cols) i)
 
@@ -43,7 +43,7 @@ plainOver F x (k ∷ ks) = plainOver F (add binary64 x (quadOf F k)) ks
 unfoldable pub plainSum : Field → ℕ → Float
 plainSum F i = plainOver F (mul binary64 four64 (linearOf F i)) (places (F .rows) (F .cols) i)
 
--- "sum of |q| off the diagonal"
+-- |q| of an entry off the diagonal goes into the weight
 unfoldable pub weightAt : Field → Float → ℕ → Float
 weightAt F w k = cond (onDiagonal F k) w (cond (ne (quadOf F k) zero64) (add binary64 w (magnitude (quadOf F k))) w)
 

@@ -1,4 +1,4 @@
--- What the program answers to each input (document 01, "The record program"), as one function of its bytes. Assumes nothing.
+-- What the program answers to each input (rules 13.4 to 13.6), as one function of its bytes. Assumes nothing.
 use Prim.Native.Nat.{ℕ, _≤_}
 use mathlib.Core.Path.{_≡_}
 use mathlib.Core.Bool.{cond, _&&_}
@@ -21,7 +21,7 @@ use Rattle.text.specs.Text.{refusedText, answerText}
 use Rattle.records.specs.Told.{Told, fieldTold, Outcome, parsed}
 use Rattle.records.specs.WellFormed.{WellFormed}
 
--- "any other refusal `refused` and its number. Otherwise it runs the closure", prints the grade first, and shows what was forced
+-- a refusal is `refused` and its number; otherwise the closure is run, and the grade and what was forced are shown
 unfoldable pub checkedText : Checked → Field → List ℕ → List ℕ
 checkedText Passed F s = answerText (gradeOf F) s (closure F s)
 checkedText (Failed r) F s = refusedText (numberOf r)
@@ -34,7 +34,7 @@ fieldText F s = checkedText (tested (standardTests F s)) F s
 abbrev pub toldText : Told → List ℕ
 toldText t = fieldText (fieldTold t) (t .start)
 
--- an input that is not well-formed "prints `refused 11`": no field stands at its front, or bytes follow the ZZ
+-- an input that is not well-formed is `refused 11`: no field stands at its front, or bytes follow the ZZ
 abbrev pub outcomeText : ℕ → Outcome → List ℕ
 outcomeText size o = cond (o .whole && eqb (o .end) size) (toldText (o .told)) (refusedText 11)
 

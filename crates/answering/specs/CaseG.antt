@@ -1,4 +1,4 @@
--- Case g of document 01: the bytes of its records, and the text of its answer, byte by byte. Assumes nothing.
+-- Case g of rule 18.1: the bytes of its records, and the text of its answer, byte by byte. Assumes nothing.
 use Prim.Native.Nat.{ℕ}
 use mathlib.Core.List.{List, [], _∷_, _++_}
 

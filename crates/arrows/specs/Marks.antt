@@ -23,7 +23,7 @@ selves m r a b = r a b || (ltb a m && eqb a b)
 abbrev pub Marked : List Implication → List ℕ → List ℕ → Type 0
 Marked E w₀ w = Holding (more E (bitIn w₀)) w₀ w
 
--- "128 words for each variable": room for a row of each literal and for one row more
+-- 128 words for each variable are room for a row of each literal and for one row more
 pub record Wide (n : ℕ) (w : List ℕ) : Type 0 where
   pub few : n ≤ 1024
   pub row-room : 128 * n ≤ length w

@@ -44,7 +44,7 @@ unfoldable pub table : {L : Type 0} → List (Stage L) → List Test
 table [] = []
 table (t ∷ ts) = test (t .refusal) (t .passes) ∷ table ts
 
--- "1 to 8 change nothing lent": tests as stages that leave what was given
+-- tests as stages that leave what was given: 1 to 8 and 14 to 18 change nothing lent (rule 3.8)
 unfoldable pub keeping : {L : Type 0} → L → List Test → List (Stage L)
 keeping given [] = []
 keeping given (t ∷ ts) = stage (t .refusal) (t .passes) given ∷ keeping given ts

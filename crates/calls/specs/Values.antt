@@ -47,7 +47,7 @@ pub record Tells {A : Type 0} (says : Says A) : Type 0 where
   pub same : (r t : Refusal) → says .refuse r ≡ says .refuse t → r ≡ t
   pub apart : (F : Field) (s : List ℕ) (r : Refusal) → says .done F s ≡ says .refuse r → ⊥
 
--- "On 0 a field call also gives this grade"
+-- on 0 the grade is answered (rule 2.8)
 abbrev pub grades : Says Answer
 grades = record { refuse = Refused; done = λ F s. Done (gradeOf F) }
 
@@ -55,8 +55,8 @@ grades = record { refuse = Refused; done = λ F s. Done (gradeOf F) }
 abbrev pub counts : (Field → List ℕ → ℕ) → Says Counted
 counts count = record { refuse = Refuses; done = λ F s. Counts (gradeOf F) (count F s) }
 
--- tests 1 to 6 and 8, then the values: "Forced values go into the start values; so do those of small components, preprocess, heavy";
--- "After passing 8, scratch ends as all zeros"
+-- tests 1 to 6 and 8, then the values, which go into the start values (rule 3.12);
+-- past test 8 scratch ends as all zeros (rule 3.9)
 unfoldable pub valuesBy : {A : Type 0} → Says A → Values → Field → List ℕ → List Float → List ℕ → any.Left A Lent
 valuesBy says values F s f u =
     called (usual (says .refuse) (lent s f u) (readyTests F s (length f) (length u)) [] (any.left (says .done F s) (lent (values F s) (cleared zero64 f) (cleared 0 u))))

@@ -15,7 +15,7 @@ Left = any.Left Counted Lent
 abbrev pub left : Counted → List ℕ → List Float → List ℕ → Left
 left r s f u = any.left r (lent s f u)
 
--- "The closure counts the rows that are flat at its end, over free variables": those that the run holds
+-- how many free variables have a flat row at the end of the run, as the run holds it (rule 4.11)
 abbrev pub flat : Field → List ℕ → ℕ
 flat F s = flatRows (closureRun F s)
 

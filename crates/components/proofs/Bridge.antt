@@ -143,7 +143,7 @@ module _ {F : Field} (S : Shaped F) {s : List ℕ} (valid : StartFor (variables 
   unfolding smallParts components
   parts-extend = (going (variables F) .extends, going (variables F) .valid)
 
-  -- "some best completion agrees with all values"
+  -- some best completion has all values
   pub parts-safe : {u : ℕ} → u ≤ 2044 → ExactIn u F → Safe (wholeOf u F) s (smallParts F s)
   unfolding smallParts components
   parts-safe unit exact = safe-to unit exact (variables F)

@@ -61,7 +61,7 @@ module _ (F : Field) (s : List ℕ) (f : List Float) (u : List ℕ) where
     pub values-extend : Extends s (componentsCall F s f u .lent .values)
     values-extend = let S = values.ready _ F s f u g e .sound in rw values-are (parts-extend (S .shaped) (S .start) .0)
 
-    -- "Those of at most 10 are enumerated": a free variable of such a component has a value afterwards,
+    -- A free variable of a component of at most 10 has a value afterwards,
     pub small-valued : {i : ℕ} → Open s i → {mine : List ℕ} → Component F true s i mine → length mine ≤ 10 → getD (componentsCall F s f u .lent .values) i 0 < 2
     small-valued free C few = let S = values.ready _ F s f u g e .sound in rw values-are (small.small-valued (S .shaped) s (S .start .long) free C few)
 
@@ -69,7 +69,7 @@ module _ (F : Field) (s : List ℕ) (f : List Float) (u : List ℕ) where
     pub large-kept : {i : ℕ} → Open s i → {mine : List ℕ} → Component F true s i mine → 10 < length mine → getD (componentsCall F s f u .lent .values) i 0 ≡ 2
     large-kept free C many = let S = values.ready _ F s f u g e .sound in rw values-are (small.large-kept (S .shaped) s (S .start .long) free C many)
 
-    -- "of equal objectives the lowest mask wins": its bits, in pop order, are the values of a component of at most 10, whatever the sums are.
+    -- Of equal sums the lowest mask wins: its bits, in pop order, are the values of a component of at most 10, whatever the sums are.
     pub lowest-first : (p : ℕ) → p < length (components F true s) → (let K = getD (components F true s) p [] in
         length K ≤ 10 → (mask : ℕ) × (First (objective (termsOf F s K)) (2 ^ length K) mask × HasBits (componentsCall F s f u .lent .values) K mask))
     lowest-first p h few = let S = values.ready _ F s f u g e .sound in rw values-are (small.lowest-first (S .shaped) s (S .start .long) p h few)

@@ -146,7 +146,7 @@ module _ {F : Field} (S : Shaped F) (s : List ℕ) (long : length s ≡ variable
       small-below : (i : ℕ) → has members i ≡ true → getD (smallParts F s) i 0 < 2
       small-below i e = let a = at-has members i e in rw (← a .1 .1, has-bits (a .0) (a .1 .0)) (omega arith)
 
-      -- "of equal objectives the lowest mask wins": its bits, in pop order, are the values of a component of at most 10, whatever the sums are,
+      -- of equal sums the lowest mask wins: its bits, in pop order, are the values of a component of at most 10, whatever the sums are,
       pub lowest-first : (mask : ℕ) × (First (objective (termsOf F s members)) (2 ^ length members) mask × HasBits (smallParts F s) members mask)
       lowest-first = (maskOf F s members, (mask-first F s members, has-bits))
 
@@ -166,7 +166,7 @@ module _ {F : Field} (S : Shaped F) (s : List ℕ) (long : length s ≡ variable
   -- ---- a free variable, by what its component is
 
   module _ {i : ℕ} (free : Open s i) {mine : List ℕ} (C : Component F true s i mine) where
-    -- "Those of at most 10 are enumerated": a variable of such a component has a value,
+    -- a variable of a component of at most 10 has a value,
     pub small-valued : length mine ≤ 10 → getD (smallParts F s) i 0 < 2
     small-valued few =
         let p = parted .one i free in

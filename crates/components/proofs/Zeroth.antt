@@ -102,7 +102,7 @@ zeroth-best f z zero h = first-best (f 0) z
 zeroth-best f z (suc n) h =
     still-best (f (suc n)) (suc n) (bestOf f (suc n)) (zeroth-best f z n (λ m p l. h m p (omega arith))) (not-below-zero (f (suc n)) (h (suc n) (omega arith) (omega arith)))
 
--- "If all are NaN or plus infinity the mask is 0": all but that of mask 0, which is 0.0
+-- where all sums but that of mask 0, which is 0.0, are NaN or plus infinity, mask 0 wins
 pub zeroth-wins : (F : Field) (s members : List ℕ) → ((m : ℕ) → 0 < m → m < 2 ^ length members → lt (objective (termsOf F s members) m) top ≡ false) → maskOf F s members ≡ 0
 unfolding maskOf
 zeroth-wins F s members h = by (2 ^ length members) (pow-pos (length members)) h

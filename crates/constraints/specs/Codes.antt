@@ -1,4 +1,4 @@
--- The kinds of constraint in the code: their codes, and the kinds that document 01's definitions have. Assumes nothing.
+-- The kinds of constraint in the code: their codes, and the kinds that the meaning has (rule 6.2). Assumes nothing.
 use Prim.Native.Nat.{ℕ}
 use mathlib.Core.List.{[], _∷_}
 use lib.ListN.{getD}
@@ -9,7 +9,7 @@ use Rattle.constraints.specs.declared.Kind.the-variants.{AtLeastOne, Exa
 use Rattle.constraints.specs.declared.Coded.{Coded}
 use Rattle.constraints.specs.declared.Coded.the-variants.{Known, Unknown}
 
--- "AtLeastOne 0, ExactlyOne 1, NoMoreThanOne 2, GreaterThan 3, LessThan 4, Equal 5"
+-- the code of each kind (rule 6.2)
 abbrev pub codeOf : Kind → ℕ
 codeOf AtLeastOne = 0
 codeOf ExactlyOne = 1
@@ -22,7 +22,7 @@ codeOf Equal = 5
 abbrev pub kindOf : ℕ → Coded
 kindOf code = getD (Known AtLeastOne ∷ Known ExactlyOne ∷ Known NoMoreThanOne ∷ Known GreaterThan ∷ Known LessThan ∷ Known Equal ∷ []) code Unknown
 
--- the kind that document 01's definitions have
+-- the kind that the meaning has
 abbrev pub meant : Kind → meaning.Kind
 meant AtLeastOne = at-least-one
 meant ExactlyOne = exactly-one

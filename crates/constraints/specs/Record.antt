@@ -25,7 +25,7 @@ records (a ∷ []) = []
 records (a ∷ b ∷ []) = []
 records (a ∷ b ∷ c ∷ list) = recordOn a b c ∷ records list
 
--- the items at the front; "elements past an answer list's last item are unchanged"
+-- the items at the front; what stands behind the last is as it was
 unfoldable pub filled : List Record → List ℕ → List ℕ
 filled items list = over (flat items) list
 
@@ -33,7 +33,7 @@ filled items list = over (flat items) list
 unfoldable pub stored : List ℕ → ℕ → Record → List ℕ
 stored list t x = set (set (set list (3 * t) (x .lower)) (3 * t + 1) (x .higher)) (3 * t + 2) (x .set)
 
--- what propagation takes for n variables: not "a set of 0 or above 15, or ends that aren't rising", and no end that is not below n
+-- what propagation takes for n variables: a set from 1 to 15, ends that rise, and both below n (rule 6.3)
 pub record Fit (n : ℕ) (x : Record) : Type 0 where
   pub proper : Proper x
   pub rising : x .lower < x .higher

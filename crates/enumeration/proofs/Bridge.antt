@@ -85,7 +85,7 @@ module _ {u : ℕ} {F : Field} (unit : u ≤ 2044) (shaped : Shaped F) (exact : 
         );
   }
 
-  -- "of equal objectives the lowest mask wins": whatever completion the values of a mask are put into
+  -- of equal sums the lowest mask wins, whatever completion the values of a mask are put into
   pub part-lowest : {x : List ℕ} → Completion t x → Won (λ mask. twice-f (wholeOf u F) (putTo x ms mask (length ms))) (2 ^ length ms) (maskOf F t ms)
   unfolding with-mask
   part-lowest {x} C = record {

@@ -1,4 +1,4 @@
--- A small part enumerated (document 01, "Small components"): its terms in the source's order, and the values of the mask that wins. Assumes nothing.
+-- A small part enumerated (rules 5.4 to 5.7): its terms in their order, and the values of the mask that wins. Assumes nothing.
 use Prim.Native.Nat.{ℕ, zero, suc, _/_, _%_, _^_}
 use mathlib.Core.Bool.{Bool, cond, _&&_}
 use mathlib.Core.List.{List, [], _∷_, _++_}
@@ -13,7 +13,7 @@ use Rattle.rows.specs.Model.{coeffOf}
 use Rattle.places.specs.Places.{places, otherEnd}
 use Rattle.masks.specs.Masks.{Term, term, objective, lowest}
 
--- ---- the linear part of variable i at the values s: c, then 0.5q times its value for each fixed other end, "in adjacency order"
+-- ---- the linear part of variable i at the values s: c, then 0.5q times its value for each fixed other end, in the order of the entries
 
 unfoldable pub linearAt : Field → List ℕ → ℕ → Float → ℕ → Float
 linearAt F s i sum k =
@@ -39,7 +39,7 @@ entryFrom F i j (k ∷ ks) = cond (stands (F .rows) (F .cols) i j k) k (entryFro
 unfoldable pub entryOf : Field → ℕ → ℕ → ℕ
 entryOf F i j = entryFrom F i j (places (F .rows) (F .cols) i)
 
--- ---- "Bit order is pop order, terms are added in the source's order": members are in pop order
+-- ---- the terms: members are in pop order, linear terms come first, then those of pairs by column and row
 
 -- the linear terms of the first members
 unfoldable pub linearTerms : Field → List ℕ → List ℕ → ℕ → List Term

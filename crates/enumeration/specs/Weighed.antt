@@ -12,7 +12,7 @@ use Rattle.field.specs.Reading.{wholeOf}
 use Rattle.masks.specs.Masks.{has}
 use Rattle.enumeration.specs.Terms.{entryOf}
 
--- "q if its other end is 1, nothing if 0", and nothing if it is free
+-- what a free end counts: nothing
 abbrev pub without : Whole → Whole
 without q = nothing
 

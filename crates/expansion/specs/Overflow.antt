@@ -1,4 +1,4 @@
--- What overflow is of (document 01, "Anchors"): every number that is added, and every f64 sum that is made on the way. Assumes nothing.
+-- What overflow is of (rule 9.4): every number that is added, and every f64 sum that is made on the way. Assumes nothing.
 use mathlib.Core.Path.{_≡_}
 use mathlib.Core.Bool.{Bool, true, false, _&&_}
 use mathlib.Core.List.{List, [], _∷_, _++_}

@@ -1,4 +1,4 @@
--- The error-free sum (document 01, "Anchors", `ExactSum`): parts that add up to what was added, for every f64. Assumes nothing.
+-- The error-free sum (rule 9.3): parts that add up to what was added, for every f64. Assumes nothing.
 use Prim.Native.Nat.{ℕ, _+_, _≤_}
 use mathlib.Core.Path.{_≡_}
 use mathlib.Core.Bool.{Bool, true, false, cond}
@@ -14,7 +14,7 @@ use Rattle.expansion.specs.declared.Split.{Split}
 
 -- ---- the model
 
--- its parts, or, once a sum has overflowed, none: "Overflow .. makes it invalid"
+-- its parts, or none once a sum has overflowed, which makes it invalid (rule 9.4)
 pub data Expansion : Type 0 where
   parts : List Float → Expansion
   invalid : Expansion
@@ -75,7 +75,7 @@ pub record Carried (x : Float) (k : ℕ) (f f′ : List Float) (r : ExactSum) : 
   pub sum : sumIn r f′ ≡ carried x (take k f)
   pub grows : countOf r ≤ k + 1
 
--- "grows by at most one part an add"
+-- an addition adds one part at most
 pub record Adds (x : Float) (s : ExactSum) (f f′ : List Float) (r : ExactSum) : Type 0 where
   pub sum : sumIn r f′ ≡ plus x (sumIn s f)
   pub grows : countOf r ≤ countOf s + 1

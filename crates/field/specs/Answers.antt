@@ -1,4 +1,4 @@
--- The table's number of each answer (document 01, "Answers, tested in this order"; document 02, C-11, C-12 and C-18), and the position that a refusal names. Assumes nothing.
+-- The number of each answer (rule 3.1), and the position that a refusal names (rule 3.2). Assumes nothing.
 use Prim.Native.Nat.{ℕ}
 use Rattle.field.specs.declared.Refusal.{Refusal}
 use Rattle.field.specs.declared.Refusal.the-variants.{Variables, Lists, Row, Column, Repeat, Order, Diagonal, Weights, Start, Argument, Scratch, Room, Clash, Inexact, Unforced, Sum}
@@ -27,7 +27,7 @@ numberOf Inexact = 12
 numberOf Unforced = 13
 numberOf Sum = 18
 
--- "the position of the first entry at fault", from 0; 0 for a refusal that names none
+-- the position of the first entry at fault, from 0; 0 for a refusal that names none
 abbrev pub positionOf : Refusal → ℕ
 positionOf Variables = 0
 positionOf Lists = 0

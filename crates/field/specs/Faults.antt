@@ -1,4 +1,4 @@
--- When each of the four refusals of the order of entries is given (document 02, C-12). Assumes nothing.
+-- When each of the four refusals of the order of entries is given (rule 3.2). Assumes nothing.
 use Prim.Native.Nat.{ℕ, _-_, _<_, _≤_}
 use mathlib.Core.Path.{_≡_}
 use mathlib.Core.List.{List}
@@ -21,7 +21,7 @@ pub record Reached (n : ℕ) (rows cols : List ℕ) (k : ℕ) : Type 0 where
   pub entry : k < length rows
   pub fine : (j : ℕ) → j < k → Fine n rows cols j
 
--- "row not below n", "column not below n", "same place as the entry before", "out of order", at the first entry at fault
+-- the four faults at the first entry that has one: its row, its column, the place of the entry before once more, a place before that
 pub data Fault (n : ℕ) (rows cols : List ℕ) : Refusal → Type 0 where
   row : {k : ℕ} → Reached n rows cols k → n ≤ getD rows k 0 → Fault n rows cols (Row k)
   column : {k : ℕ} → Reached n rows cols k → getD rows k 0 < n → n ≤ getD cols k 0 → Fault n rows cols (Column k)

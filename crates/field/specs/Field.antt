@@ -1,4 +1,4 @@
--- A field (document 01, "The field"): n linear weights c, and m entries (row, column, q), all f64. Assumes nothing.
+-- A field (section 1 of the rules): n linear weights c, and m entries (row, column, q), all f64. Assumes nothing.
 use Prim.Native.Nat.{ℕ, _+_, _<_, _≤_}
 use mathlib.Core.Path.{_≡_}
 use mathlib.Core.Logic.{_≢_, _⊎_}

@@ -1,4 +1,4 @@
--- When a field is exact (document 01, "The field"). Assumes nothing.
+-- When a field is exact, and which unit is named (rules 2.1 to 2.4). Assumes nothing.
 use Prim.Native.Nat.{ℕ, zero, suc, _+_, _<_, _≤_, _^_}
 use mathlib.Core.Bool.{Bool, _&&_, cond}
 use mathlib.Core.List.{List}
@@ -40,7 +40,7 @@ unfoldable pub firstOf : (ℕ → Bool) → ℕ → ℕ → ℕ
 firstOf p u zero = u
 firstOf p u (suc k) = cond (p u) u (firstOf p (suc u) k)
 
--- "the unit is the smallest that serves": its half, and 1094 where none of the 41 serves
+-- the half of the smallest unit that serves, and 1094 where none of the 41 serves
 unfoldable pub unitOf : Field → ℕ
 unitOf F = firstOf (λ u. serves u F) finest 41
 

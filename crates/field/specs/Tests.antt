@@ -1,4 +1,4 @@
--- The table's tests (document 01, "Answers, tested in this order"): 1, 2, the order of entries, 4 to 6 and 8, and the groups that calls share. Assumes nothing.
+-- The tests 1, 2, 14 to 17, 4 to 6 and 8 (rule 3.1), and the groups that calls share (rule 3.5). Assumes nothing.
 use Prim.Native.Nat.{ℕ, zero, suc, _+_, _*_, _-_, _<_, _≤_}
 use mathlib.Core.Bool.{Bool, not, _&&_, _||_, cond}
 use mathlib.Core.List.{List, [], _∷_, _++_}
@@ -56,7 +56,7 @@ unfoldable pub firstFrom : (ℕ → Bool) → ℕ → ℕ → ℕ
 firstFrom p k zero = k
 firstFrom p k (suc left) = cond (p k) (firstFrom p (suc k) left) k
 
--- "the row tested before the column and both before order": the same place as the entry before is 16, one further up 17
+-- the row is looked at before the column, and both before the order: the same place as the entry before is 16, one further up 17
 unfoldable pub wrongAt : ℕ → List ℕ → List ℕ → ℕ → Refusal
 wrongAt n rows cols k =
     cond (ltb (getD rows k 0) n)
@@ -65,7 +65,7 @@ wrongAt n rows cols k =
     (Column k))
     (Row k)
 
--- what is wrong with "the first entry at fault"
+-- what is wrong with the first entry at fault
 unfoldable pub faultOf : ℕ → List ℕ → List ℕ → Refusal
 faultOf n rows cols = wrongAt n rows cols (firstFrom (isFine n rows cols) 0 (length rows))
 

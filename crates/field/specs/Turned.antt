@@ -1,4 +1,4 @@
--- What a field was exact by before there were units: counted in halves (document 01, "The field"). Assumes nothing.
+-- What a field was exact by before there were units: counted in halves (rule 2.9). Assumes nothing.
 use Prim.Native.Nat.{ℕ, _<_, _^_}
 use lib.Dec.{T}
 use lib.Ieee.{binary64}
@@ -6,7 +6,7 @@ use Rattle.weights.specs.Counts.{wholeIn}
 use Rattle.field.specs.Field.{Field, variables, entries, linearOf, quadOf, Standard}
 use Rattle.field.specs.Grade.{Weighs}
 
--- "every 2c and every q is whole, and every |c| and |q| is at most 2^31", in standard form
+-- in standard form, with every 2c and every q whole and every |c| and |q| at most 2^31
 pub record InHalves (F : Field) : Type 0 where
   pub standard : Standard F
   pub linear : (i : ℕ) → i < variables F → Weighs 1073 (2 ^ 32) (linearOf F i)

@@ -91,7 +91,7 @@ module _ (F : Field) {s : List ℕ} (start : StartFor (variables F) s) where
   unfolding moveRow
   freed-move run t a v r = record { extends = r .extends; freed = r .freed }
 
-  -- "a free variable": what a closure forces was free at the start
+  -- what a closure forces was free at the start
   pub closure-freed : (p : ℕ) → p < length (closureRun F s .queue) → getD s (getD (closureRun F s .queue) p 0) 0 ≡ 2
   unfolding closureRun
   closure-freed = by-propagate Freed freed-force freed-move F s (upTo (rowOf F s) (variables F)) record { extends = extends-refl s; freed = λ p h. absurd (omega arith) } .freed

@@ -20,7 +20,7 @@ added nothing l = l
 added (value w) l = l
 added (constraint c) l = recordOf c ∷ l
 
--- a found value takes the place of an earlier one: "the later one wins"
+-- a found value takes the place of an earlier one (rule 7.5)
 unfoldable pub wins : Finding → ℕ → ℕ
 wins nothing old = old
 wins (value w) old = w
@@ -38,7 +38,7 @@ countOf k = cond (ltb k 268435456) 1 0
 
 -- ---- one candidate
 
--- what the probe of i gives j, where the start value is s and the probe leaves v: "a variable other than i", "without the start values"
+-- what the probe of i gives j, where the start value is s and the probe leaves v: nothing to i itself, and nothing where j is given
 unfoldable pub givesAt : ℕ → ℕ → ℕ → ℕ → ℕ
 givesAt i j s v = cond (eqb i j) 2 (newAt s v)
 
@@ -50,7 +50,7 @@ findingOf s i t t′ j = found i j (givesAt i j (getD s j 0) (getD t j 0)) (give
 unfoldable pub findingBy : Route → Field → List ℕ → ℕ → ℕ → Finding
 findingBy R F s i j = findingOf s i (R F s i 0) (R F s i 1) j
 
--- "gives the closure of the start values with its one value added"
+-- by the cold route, the closure of the start values with the one value added
 abbrev pub finding : Field → List ℕ → ℕ → ℕ → Finding
 finding = findingBy cold
 
@@ -72,7 +72,7 @@ recordsFoundBy R F s cands (suc k) = recordsTo (findingBy R F s (getD cands k 0)
 abbrev pub recordsOf : Field → List ℕ → List ℕ → ℕ → List Record
 recordsOf = recordsFoundBy cold
 
--- "A value list holds 2 where no value is found"
+-- 2 stands where no value is found
 unfoldable pub valuesFoundBy : Route → Field → List ℕ → List ℕ → ℕ → List ℕ
 valuesFoundBy R F s cands zero = replicate (variables F) 2
 valuesFoundBy R F s cands (suc k) = valuesAfter (findingBy R F s (getD cands k 0)) (valuesFoundBy R F s cands k)

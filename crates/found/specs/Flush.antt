@@ -20,12 +20,12 @@ pub record Left : Type 0 where
 abbrev pub left : Merged → List ℕ → List ℕ → Left
 left r list u = record { answer = r; list = list; words = u }
 
--- "elements past an answer list's last item are unchanged"; where the items do not fit nothing is written
+-- what stands behind the last item is as it was; where the items do not fit nothing is written
 unfoldable pub settledIf : Bool → List Record → List ℕ → List ℕ → Left
 settledIf true items list u = left (Holds (length items)) (filled items list) u
 settledIf false items list u = left Full list u
 
--- "9 is given exactly if a full answer has more items than its list has room for"
+-- the records go in where the list has room for them (rule 3.7)
 unfoldable pub settled : List Record → List ℕ → List ℕ → Left
 settled items list u = settledIf (leb (length items) (room list)) items list u
 

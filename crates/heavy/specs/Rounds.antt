@@ -1,4 +1,4 @@
--- What the call works out: rounds of preprocess and full probe (document 01, "Preprocess and heavy"). Assumes nothing.
+-- What the call works out: rounds of preprocess and full probe (rule 5.11). Assumes nothing.
 use Prim.Native.Nat.{ℕ, zero, suc}
 use mathlib.Core.Bool.{cond}
 use mathlib.Core.List.{List}
@@ -26,12 +26,12 @@ probeValues F s = allValues F s (freeTo s (variables F))
 unfoldable pub round : Field → List ℕ → List ℕ
 round F s = let t = preprocess F s in laidOver (probeValues F t) t
 
--- "at most n rounds and stops when a round adds none", for k
+-- at most k rounds, and the end after one that adds none
 unfoldable pub rounds : Field → ℕ → List ℕ → List ℕ
 rounds F zero s = s
 rounds F (suc k) s = let t = round F s in cond (eqb (frees t) (frees s)) s (rounds F k t)
 
--- "The heavy call does at most n rounds"
+-- at most n rounds
 unfoldable pub heavy : Field → List ℕ → List ℕ
 heavy F s = rounds F (variables F) s
 

@@ -1,4 +1,4 @@
--- What the four calls answer and leave, each as one function of what it is given, for every input (document 02, C-19). Assumes nothing.
+-- What the four calls on a kept record answer and leave, each as one function of what it is given, for every input (rules 12.3 to 12.8). Assumes nothing.
 use Prim.Native.Nat.{ℕ, _+_, _<_, _≤_}
 use mathlib.Core.Path.{_≡_}
 use mathlib.Core.Logic.{_≢_}
@@ -30,7 +30,7 @@ use Rattle.kept.specs.Kept.{Kept, kept, made, pinned, released}
 
 -- ---- the tests
 
--- 6: "a record not of the field's length"
+-- 6: the bounds are not 2n long
 unfoldable pub boundsFit : ℕ → ℕ → Bool
 boundsFit n bounds = eqb bounds (n + n)
 
@@ -43,14 +43,14 @@ unfoldable pub lentTests : Field → List ℕ → ℕ → ℕ → ℕ → List T
 lentTests F s bounds floats words =
     recordTests F s bounds ++ test Scratch (floatsFit (variables F) (entries F) floats) ∷ test Scratch (wordsFit (variables F) (entries F) words) ∷ []
 
--- 7: "a variable not below n, pinning one that isn't free or to a value above 1"
+-- 7: the variable is not below n or not free, or the value is above 1
 unfoldable pub mayPin : ℕ → List ℕ → ℕ → ℕ → Bool
 mayPin n s i v = ltb i n && (isFree s i && leb v 1)
 
 unfoldable pub pinTests : Field → List ℕ → ℕ → ℕ → ℕ → List Test
 pinTests F s bounds i v = recordTests F s bounds ++ test Argument (mayPin (variables F) s i v) ∷ []
 
--- 7: "a variable not below n, .. or releasing one that is free"
+-- 7: the variable is not below n, or is free
 unfoldable pub mayRelease : ℕ → List ℕ → ℕ → Bool
 mayRelease n s i = ltb i n && not (isFree s i)
 
@@ -95,7 +95,7 @@ Left = any.Left Answer Lent
 abbrev pub left : Answer → List Float → ℕ → List Float → List ℕ → Left
 left r b n f u = any.left r (lent b n f u)
 
--- 1 to 6 and 8, then "12, after 8, for inexact fields when the record is made", then the record; "After passing 8, scratch ends as all zeros"
+-- 1 to 6 and 8, then 12 on an inexact field, then the record; past test 8 scratch ends as all zeros
 unfoldable pub makeCall : Field → List ℕ → List Float → ℕ → List Float → List ℕ → Left
 makeCall F s b n f u =
     called
@@ -110,7 +110,7 @@ makeTable F s bounds floats words = lentTests F s bounds floats words ++ test In
 abbrev pub recordLeft : Field → List ℕ → List Float → ℕ → List Float → List ℕ → Kept
 recordLeft F s b n f u = kept s (makeCall F s b n f u .lent .bounds) (makeCall F s b n f u .lent .strict)
 
--- ---- the two operations: tests, then the record as it is changed; "a refused operation changes nothing"
+-- ---- the two operations: tests, then the record as it is changed; a refused operation changes nothing
 
 abbrev pub operation : Kept → List Test → Kept → any.Left Checked Kept
 operation K tests K′ = called (usual Failed K tests [] (any.left Passed K′))
@@ -133,7 +133,7 @@ Closed = any.Left Counted values.Lent
 abbrev pub closed : Counted → List ℕ → List Float → List ℕ → Closed
 closed r l f u = any.left r (values.lent l f u)
 
--- 1 to 6 and 8, then "9 for another length", with the list all zeros, then the values and the count of flat rows
+-- 1 to 6 and 8, then 9 where the list is not n long, with the list all zeros, then the values and the count of flat rows
 unfoldable pub closeCall : Field → List ℕ → List Float → List ℕ → List Float → List ℕ → Closed
 closeCall F s b l f u =
     called

@@ -1,4 +1,4 @@
--- The record kept beside the start values: worked out afresh, and after the value of a variable has changed (document 02, C-19). Assumes nothing.
+-- The record kept beside the start values: worked out afresh (rule 12.2), and after the value of a variable has changed (rule 12.5). Assumes nothing.
 use Prim.Native.Nat.{ℕ, zero, suc, _+_, _<_}
 use mathlib.Core.Path.{_≡_}
 use mathlib.Core.Logic.{_≢_}
@@ -31,7 +31,7 @@ kept s b n = record { values = s; bounds = b; strict = n }
 abbrev pub plain : Row → Row
 plain r = record { lower = add binary64 (r .lower) zero64; upper = add binary64 (r .upper) zero64 }
 
--- what is stored of a row whose variable has the byte v: "each free variable's two bounds (0 for others)"
+-- what is stored of a row whose variable has the byte v: its two bounds where it is free, and 0 for others
 unfoldable pub storedRow : ℕ → Row → Row
 storedRow v r = cond (eqb v 2) (plain r) (startRow zero64)
 
@@ -47,7 +47,7 @@ unfoldable pub strictTo : List ℕ → List Float → ℕ → ℕ
 strictTo s b zero = 0
 strictTo s b (suc i) = strictTo s b i + cond (isFree s i && isStrict (rowOn b (length s) i)) 1 0
 
--- "the number of strict rows", counted in the bounds as they stand
+-- the number of strict rows, counted in the bounds as they stand
 abbrev pub counted : List ℕ → List Float → Kept
 counted s b = kept s b (strictTo s b (length s))
 
@@ -87,7 +87,7 @@ changed F i v K =
 abbrev pub Apart : Field → ℕ → ℕ → Type 0
 Apart F i t = (k : ℕ) → k < entries F → (rowEnd F k ≡ i → columnEnd F k ≢ t) × (columnEnd F k ≡ i → rowEnd F k ≢ t)
 
--- "operations to pin a free variable and to release a pinned one"
+-- a free variable is pinned, and one with a value released (rule 12.4)
 abbrev pub pinned : Field → ℕ → ℕ → Kept → Kept
 pinned F i v K = changed F i v K
 

@@ -1,4 +1,4 @@
--- One pair as the source works it (document 01, "Pair dominance"), on lists and floats, for every field in standard form. Assumes nothing.
+-- One pair (rules 8.2 to 8.6), on lists and floats, for every field in standard form. Assumes nothing.
 use Prim.Native.Nat.{ℕ, zero, suc}
 use mathlib.Core.Bool.{Bool, not, _&&_, cond}
 use mathlib.Core.List.{List, [], _∷_, _++_}
@@ -55,14 +55,14 @@ addFixedEnd s x a j = cond (isFree s j) x (add binary64 x (mul binary64 a (ofInt
 abbrev pub linearPart : Field → List ℕ → ℕ → Float
 linearPart F s i = overAll (addFixedEnd s) F i (linearOf F i)
 
--- "A mass is |c| plus |0.5q| of every entry at the variable, fixed ends too"
+-- the mass: |c| and |0.5q| of every entry at the variable, given ends too
 abbrev pub addMagnitude : Op
 addMagnitude x a j = add binary64 x (magnitude a)
 
 abbrev pub mass : Field → ℕ → Float
 mass F i = overAll addMagnitude F i (magnitude (linearOf F i))
 
--- "Coefficients between the same two variables are merged"
+-- the coefficients between the same two variables, added up
 abbrev pub addBetween : ℕ → Op
 addBetween k x a j = cond (eqb j k) (add binary64 x a) x
 
@@ -73,7 +73,7 @@ kept x = cond (eq x zero64) zero64 x
 unfoldable pub mergedWeight : Field → ℕ → ℕ → Float
 mergedWeight F i k = kept (overAll (addBetween k) F i zero64)
 
--- "Tolerance is, in f64, 1e-10 times max(mass_i+mass_j, 1)": no value is in it
+-- the tolerance: 1e-10 times the greater of 1 and the two masses' sum, in f64; no value is in it
 abbrev pub atLeastOne : Float → Float
 atLeastOne x = cond (lt one64 x) x one64
 
@@ -119,7 +119,7 @@ boundsOf F s i j = boundsTo F s i j (variables F)
 
 -- ---- what they say
 
--- "above the tolerance" or "always below its negative"; "a bound equal to it gives nothing"
+-- the lower end is above the tolerance, or the upper end below its negative; an end that is equal gives nothing
 unfoldable pub signOf : Float → Float → Float → Sign
 signOf t low high = cond (lt t low) Above (cond (lt high (neg t)) Below Neither)
 
@@ -130,13 +130,13 @@ pub record Signs : Type 0 where
 unfoldable pub signsOf : Float → Bounds → Signs
 signsOf t b = record { sum = signOf t (b .sumLow) (b .sumHigh); diff = signOf t (b .diffLow) (b .diffHigh) }
 
--- "f at 11 less f at 00 .. NoMoreThanOne; if always below its negative, AtLeastOne"
+-- f at 11 less f at 00: always above gives NoMoreThanOne, always below the negative AtLeastOne
 unfoldable pub sumKinds : Sign → List Kind
 sumKinds Above = no-more-than-one ∷ []
 sumKinds Below = at-least-one ∷ []
 sumKinds Neither = []
 
--- "next, whether or not that gave one, f at 10 less f at 01 gives LessThan or GreaterThan likewise"
+-- f at 10 less f at 01, whether or not the other gave one: LessThan or GreaterThan likewise
 unfoldable pub diffKinds : Sign → List Kind
 diffKinds Above = less-than ∷ []
 diffKinds Below = greater-than ∷ []

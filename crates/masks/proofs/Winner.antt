@@ -81,7 +81,7 @@ module _ {u : ℕ} (f : ℕ → Float) (g : ℕ → Whole) where
 
 -- ---- whatever the sums are
 
--- "If all are NaN or plus infinity the mask is 0"
+-- where all sums are NaN or plus infinity, mask 0 wins
 pub none-below-top : (f : ℕ → Float) (n : ℕ) → ((m : ℕ) → m < n → lt (f m) top ≡ false) → bestOf f n ≡ record { sum = top; mask = 0 }
 unfolding bestOf
 none-below-top f zero h = refl
@@ -120,7 +120,7 @@ module _ (f : ℕ → Float) (m : ℕ) (bottom : f m ≡ inf true) (first-one : 
       by true e s = ((λ q. true≢false (sym e ∙ ap (λ (x : Float). lt x (bestOf f n .sum)) q ∙ nan-not-below (bestOf f n .sum))), first-one n h)
       by false e s = s
 
-  -- "minus infinity counts as least": the lowest mask of that sum wins
+  -- minus infinity is least: the lowest mask of that sum wins
   pub bottom-wins : (d : ℕ) → bestOf f (m + suc d) ≡ record { sum = inf true; mask = m }
   unfolding bestOf
   bottom-wins zero =

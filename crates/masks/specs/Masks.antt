@@ -27,7 +27,7 @@ has mask required = eqb (bitAnd mask required) required
 unfoldable pub plus : ℕ → Float → Term → Float
 plus mask sum t = cond (has mask (t .required)) (add binary64 sum (t .value)) sum
 
--- and after more of them: "terms are added in the source's order"
+-- and after more of them, in their order
 unfoldable pub sumAt : ℕ → Float → List Term → Float
 sumAt mask sum [] = sum
 sumAt mask sum (t ∷ ts) = sumAt mask (plus mask sum t) ts
@@ -45,7 +45,7 @@ pub record Best : Type 0 where
 abbrev pub top : Float
 top = ofBits binary64 0x7ff0_0000_0000_0000
 
--- "of equal objectives the lowest mask wins. If all are NaN or plus infinity the mask is 0; minus infinity counts as least": among the masks below n
+-- the lowest mask of least sum among those below n; where all are NaN or plus infinity it is 0, and minus infinity is least (rule 5.7)
 unfoldable pub bestOf : (ℕ → Float) → ℕ → Best
 bestOf g zero = record { sum = top; mask = 0 }
 bestOf g (suc n) = cond (lt (g n) (bestOf g n .sum)) (record { sum = g n; mask = n }) (bestOf g n)

@@ -1,4 +1,4 @@
--- The theorems about document 01's definitions, each in one statement. Assumes nothing.
+-- The theorems about the meaning's definitions, each in one statement. Assumes nothing.
 use mathlib.Core.Path.{_≡_, subst}
 use mathlib.Core.Logic.{_≢_, _↔_}
 use mathlib.Core.Bool.{Bool, true, not}
@@ -93,7 +93,7 @@ pair-constraint-holds F s st fits valid long a b i j hi hj ne P tol fi fj h x be
 pub pair-constraint-stays : (F : Field) {s t : List ℕ} → Extends s t → (a b : Bool) (i j : ℕ) (P : Whole → Type 0) → Tolerance P → P (margin a b F s i j) → P (margin a b F t i j)
 pair-constraint-stays F p a b i j P tol h = tol .rises (margin-rises a b F p i j) h
 
--- The greatest of f at a pattern less f at the opposite is the margin of the opposite, turned: "always below its negative" is that margin above the tolerance.
+-- The greatest of f at a pattern less f at the opposite is the margin of the opposite, turned: that it is below the tolerance's negative is that margin above the tolerance.
 pub pair-greatest : (F : Field) (s : List ℕ) (a b : Bool) (i j : ℕ) → greatest a b F s i j ≈ nothing ⊖ margin (not a) (not b) F s i j
 pair-greatest F s a b i j = greatest-is a b F s i j
 
@@ -122,7 +122,7 @@ merged-rises = merged-rising
 pub merged-says : (l : List Record) → SameBans (mergedList l) l
 merged-says = merged-bans
 
--- "The number of forbidden pairs is the count of ones."
+-- The number of forbidden pairs is the number of ones in the set.
 pub pairs-counted : (S : ℕ) → S < 16 → ones S ≡ length (pairsIn S)
 pairs-counted = ones-count
 

@@ -7,7 +7,7 @@ use lib.ListN.{getD}
 use Rattle.whole.specs.Whole.{Whole, _⊕_, _⊙_, _⊑_, sum}
 use Rattle.meaning.specs.Steps.{Extends}
 
--- "A field is n linear weights c and m entries (row, column, q)"
+-- n linear weights, and m entries, each with its row, its column and its weight (rule 1.1)
 pub record Field : Type 0 where
   pub n : ℕ
   pub m : ℕ
@@ -16,7 +16,7 @@ pub record Field : Type 0 where
   pub column : ℕ → ℕ
   pub weight : ℕ → Whole
 
--- "Standard form: no entry with row = column"
+-- no entry has its row equal to its column (rule 1.6)
 abbrev pub Standard : Field → Type 0
 Standard F = (k : ℕ) → k < F .m → F .row k ≢ F .column k
 
@@ -24,7 +24,7 @@ Standard F = (k : ℕ) → k < F .m → F .row k ≢ F .column k
 abbrev pub Within : Field → Type 0
 Within F = (k : ℕ) → k < F .m → (F .row k < F .n) × (F .column k < F .n)
 
--- "f(x) = sum of c_i x_i + half the sum of q_ij x_i x_j": in half units 2c x of a variable, and q x x of an entry
+-- the terms of f (rule 1.4), in half units: 2c x of a variable, and q x x of an entry
 abbrev pub variable-term : Field → List ℕ → ℕ → Whole
 variable-term F x i = F .linear i ⊙ getD x i 0
 
@@ -34,12 +34,12 @@ entry-term F x k = F .weight k ⊙ getD x (F .row k) 0 ⊙ getD x (F .column k) 
 abbrev pub twice-f : Field → List ℕ → Whole
 twice-f F x = sum (F .n) (variable-term F x) ⊕ sum (F .m) (entry-term F x)
 
--- "A completion fills each free place with 0 or 1"
+-- x has 0 or 1 everywhere, and every value of s that is not free (rule 1.8)
 pub record Completion (s x : List ℕ) : Type 0 where
   pub extends : Extends s x
   pub full : (i : ℕ) → getD x i 0 < 2
 
--- "a best one has the least f"
+-- no completion has a smaller f (rule 1.8)
 pub record Best (F : Field) (s x : List ℕ) : Type 0 where
   pub completion : Completion s x
   pub least : (y : List ℕ) → Completion s y → twice-f F x ⊑ twice-f F y

@@ -5,7 +5,7 @@ use Prim.Native.Nat.{ℕ, zero, suc}
 use lib.Dec.{eqb}
 use lib.ListN.{getD}
 
--- "2 for free"
+-- 2 stands for free
 abbrev pub isFree : List ℕ → ℕ → Bool
 isFree s i = eqb (getD s i 0) 2
 

@@ -36,7 +36,7 @@ see w k i v k′ j = cond (eqb k′ k && eqb j i) v (w k′ j)
 
 -- ---- the bounds
 
--- "q if its other end is 1, nothing if 0", and `free` if free
+-- q if the other end is 1, nothing if it is 0, and `free` if it is free
 unfoldable pub share : Whole → Whole → ℕ → Whole
 share free q zero = nothing
 share free q (suc zero) = q
@@ -48,11 +48,11 @@ part free F w i k =
     only (eqb (F .row k) i) (share (free (F .weight k)) (F .weight k) (w k (F .column k)))
     ⊕ only (eqb (F .column k) i) (share (free (F .weight k)) (F .weight k) (w k (F .row k)))
 
--- "2 c_i plus, for each entry at i", its part
+-- 2c of i, and the part of each entry at i (rule 4.12)
 abbrev pub gradient : (Whole → Whole) → Field → View → ℕ → Whole
 gradient free F w i = F .linear i ⊕ sum (F .m) (part free F w i)
 
--- "min(q,0) if free, be low; high uses max"
+-- a free end counts the lesser of q and 0 in low, and the greater in high
 abbrev pub low : Field → List ℕ → ℕ → Whole
 low F s i = gradient min0 F (view s) i
 
@@ -61,7 +61,7 @@ high F s i = gradient max0 F (view s) i
 
 -- ---- what they force
 
--- "0 if low > 0, 1 if high < 0", at a view
+-- 0 where low is above 0, 1 where high is below 0 (rule 4.13), at a view
 pub data Forced (F : Field) (w : View) (i : ℕ) : ℕ → Type 0 where
   zero-by : Above0 (gradient min0 F w i) → Forced F w i 0
   one-by : Below0 (gradient max0 F w i) → Forced F w i 1
@@ -85,7 +85,7 @@ verdict F s i = judge (ltb (low F s i .less) (low F s i .plus)) (ltb (high F s i
 abbrev pub isZero : Whole → Bool
 isZero a = eqb (a .plus) (a .less)
 
--- "free variables with low = high = 0": how many there are below i
+-- the free variables with low = high = 0: how many there are below i
 unfoldable pub flatsTo : Field → List ℕ → ℕ → ℕ
 unfolding share sum
 flatsTo F s zero = 0

@@ -19,7 +19,7 @@ pub record Pair : Type 0 where
 abbrev pub pair : ℕ → ℕ → Pair
 pair a b = record { first = a; second = b }
 
--- "forbidden (first, second) are 0: 00; 1: 00, 11; 2: 11; 3: 01; 4: 10; 5: 01, 10"
+-- the pairs of values that each kind forbids, the first variable's value first (rule 6.2)
 abbrev pub forbidden : Kind → List Pair
 forbidden at-least-one = pair 0 0 ∷ []
 forbidden exactly-one = pair 0 0 ∷ pair 1 1 ∷ []

@@ -1,5 +1,4 @@
--- Literal closure, "that of 2-satisfiability (Aspvall, Plass, Tarjan, 1979)", and propagation computed. A literal is a variable with a value.
--- Assumes nothing.
+-- Literal closure, that of 2-satisfiability (rule 6.7), and propagation computed. A literal is a variable with a value. Assumes nothing.
 use mathlib.Core.Path.{_≡_}
 use mathlib.Core.Logic.{_⊎_}
 use mathlib.Core.Bool.{Bool, true, cond, not, _&&_, _||_}

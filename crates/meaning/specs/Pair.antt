@@ -1,6 +1,6 @@
 -- Pair dominance: two free variables i and j, and a pattern (a, b) of their values, where true stands for 1.
 -- The margin of a pattern is the least of f at (a, b) less f at the opposite pattern, in half units, over all values of the other free variables:
--- document 01's four bounds are the margins of 11, 00, 10 and 01. Assumes nothing.
+-- the four bounds of a pair are the margins of 11, 00, 10 and 01 (rule 8.7). Assumes nothing.
 use mathlib.Core.Bool.{Bool, true, false, not, _&&_}
 use mathlib.Core.List.{List, [], _∷_}
 use Prim.Native.Nat.{ℕ, zero, suc}
@@ -12,7 +12,7 @@ use Rattle.meaning.specs.Free.{isFree}
 use Rattle.meaning.specs.Gradient.{view, share, gradient}
 use Rattle.meaning.specs.Kinds.{Kind, at-least-one, no-more-than-one, greater-than, less-than}
 
--- "Coefficients between the same two variables are merged"
+-- the weights between the same two variables, added up
 abbrev pub joins : Field → ℕ → ℕ → ℕ → Whole
 joins F i j k =
     only (eqb (F .row k) i) (only (eqb (F .column k) j) (F .weight k))
@@ -84,12 +84,12 @@ at a b x i j = set (set x i (bit a)) j (bit b)
 abbrev pub difference : Bool → Bool → Field → List ℕ → ℕ → ℕ → Whole
 difference a b F x i j = twice-f F (at a b x i j) ⊖ twice-f F (at (not a) (not b) x i j)
 
--- what is "above the tolerance", where that is not negative: P z says that z half units are
+-- what is above a tolerance that is not negative: P z says that z half units are
 pub record Tolerance (P : Whole → Type 0) : Type 0 where
   pub rises : {y z : Whole} → y ⊑ z → P y → P z
   pub strict : {z : Whole} → P z → Above0 z
 
--- "above the tolerance for all values of the other free variables"
+-- above the tolerance whatever the other free variables are
 abbrev pub Always : (Whole → Type 0) → Bool → Bool → Field → List ℕ → ℕ → ℕ → Type 0
 Always P a b F s i j = (x : List ℕ) → Completion s x → P (difference a b F x i j)
 

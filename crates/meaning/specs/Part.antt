@@ -25,14 +25,14 @@ pub record LeastOn (F : Field) (s : List ℕ) (K : ℕ → Bool) (y : List ℕ) 
   pub completion : Completion s y
   pub least : (z : List ℕ) → Completion s z → ((i : ℕ) → K i ≡ false → getD z i 0 ≡ getD y i 0) → twice-f F y ⊑ twice-f F z
 
--- "some best completion agrees with all values" of t
+-- some best completion has all values of t
 pub record Safe (F : Field) (s t : List ℕ) : Type 0 where
   pub extends : Extends s t
   pub witness : List ℕ
   pub best : Best F s witness
   pub agrees : Extends t witness
 
--- "No-effect variables (no entry, c = 0)"
+-- no entry is at i, and its weight is 0 (rule 5.9)
 pub record NoEffect (F : Field) (i : ℕ) : Type 0 where
   pub weightless : Zero (F .linear i)
   pub apart : (k : ℕ) → k < F .m → (F .row k ≢ i) × (F .column k ≢ i)

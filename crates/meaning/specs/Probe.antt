@@ -7,12 +7,11 @@ use Rattle.meaning.specs.Field.{Field}
 use Rattle.meaning.specs.Gradient.{Forces}
 use Rattle.meaning.specs.Kinds.{Kind, at-least-one, exactly-one, no-more-than-one, greater-than, less-than, equal}
 
--- "the closure of the start values with its one value added": the probe of i at v gives t
+-- the probe of i at v gives t, the closure of the start values with the one value added (rule 7.9)
 abbrev pub Probed : Field → List ℕ → ℕ → ℕ → List ℕ → Type 0
 Probed F s i v t = Closure (Forces F) (set s i v) t
 
--- the constraint between i and j, where the probe at i = 0 gives j the first value and that at i = 1 the second (2 for none):
--- "0 then 1 (for i = 0, 1) is Equal, 1 then 0 is ExactlyOne; if only one gives j a value, the constraint forbids the opposite of that pair"
+-- the constraint between i and j, where the probe at i = 0 gives j the first value and that at i = 1 the second, 2 for none (rule 7.4)
 pub data Found : ℕ → ℕ → Kind → Type 0 where
   both-equal : Found 0 1 equal
   both-differ : Found 1 0 exactly-one

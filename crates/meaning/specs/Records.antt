@@ -9,7 +9,7 @@ use lib.ListN.{getD}
 use Rattle.meaning.specs.Kinds.{Kind, at-least-one, exactly-one, no-more-than-one, greater-than, less-than, equal, Pair, pair, Forbids, Constraint}
 use Rattle.meaning.specs.Literal.{Implication, bars}
 
--- "lower variable, higher variable, and the set of forbidden value pairs as four bits, 00, 01, 10, 11 from the lowest bit"
+-- the lower variable, the higher one, and the set of forbidden pairs of values as four bits, 00, 01, 10, 11 from the lowest (rule 6.1)
 pub record Record : Type 0 where
   pub lower : ℕ
   pub higher : ℕ
@@ -27,7 +27,7 @@ chosen (suc b) p = p ∷ []
 unfoldable pub pairsIn : ℕ → List Pair
 pairsIn pairs = chosen (pairs % 2) (pair 0 0) ++ chosen (pairs / 2 % 2) (pair 0 1) ++ chosen (pairs / 4 % 2) (pair 1 0) ++ chosen (pairs / 8 % 2) (pair 1 1)
 
--- not "a set of 0 or above 15"
+-- the set is from 1 to 15
 pub record Proper (r : Record) : Type 0 where
   pub some : 0 < r .set
   pub four : r .set < 16
@@ -68,7 +68,7 @@ turned greater-than = less-than
 turned less-than = greater-than
 turned equal = equal
 
--- "GreaterThan(5,2) and LessThan(2,5) say the same thing"
+-- the record of a constraint: where the first end is the higher one the ends are exchanged, and the kind with them
 abbrev pub recordOf : Constraint → Record
 recordOf c =
     cond (ltb (c .first) (c .second)) (recordOn (c .first) (c .second) (setOf (c .kind))) (recordOn (c .second) (c .first) (setOf (turned (c .kind))))
@@ -80,7 +80,7 @@ abbrev pub Excludes : Constraint → ℕ → ℕ → ℕ → ℕ → Type 0
 Excludes c i a j b =
     ((c .first ≡ i) × (c .second ≡ j) × Forbids (c .kind) a b) ⊎ ((c .first ≡ j) × (c .second ≡ i) × Forbids (c .kind) b a)
 
--- "a constraint means one forbidden pair": a record of l forbids that i and j have the values p
+-- a record of l forbids that i and j have the values p
 pub record Bans (l : List Record) (i j : ℕ) (p : Pair) : Type 0 where
   pub by : Record
   pub among : List·Memᴰ by l

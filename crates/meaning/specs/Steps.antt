@@ -5,7 +5,7 @@ use mathlib.Core.List.{List}
 use Prim.Native.Nat.{ℕ, _≤_, _<_}
 use lib.ListN.{length, getD, set}
 
--- "0, 1, or 2 for free"
+-- every value is 0, 1, or 2 for free
 abbrev pub Valid : List ℕ → Type 0
 Valid s = (i : ℕ) → getD s i 0 ≤ 2
 
@@ -22,16 +22,16 @@ Agrees s t = (i : ℕ) → (getD t i 0 ≡ 2) ⊎ ((getD s i 0 ≡ 2) ⊎ (getD 
 abbrev pub Rule : Type 1
 Rule = List ℕ → ℕ → ℕ → Type 0
 
--- "Repeatedly, a free variable takes" a value forced on it
+-- one after another, a free variable takes a value forced on it (rule 4.13)
 pub data Steps (R : Rule) : List ℕ → List ℕ → Type 0 where
   stop : {s : List ℕ} → Steps R s s
   step : {s t : List ℕ} (i v : ℕ) → getD s i 0 ≡ 2 → R s i v → Steps R (set s i v) t → Steps R s t
 
--- "no step is left"
+-- no step is left
 abbrev pub Closed : Rule → List ℕ → Type 0
 Closed R t = (i v : ℕ) → getD t i 0 ≡ 2 → R t i v → ⊥
 
--- "The closure is what stands when no step is left"
+-- the closure of s is what stands when no step is left
 pub record Closure (R : Rule) (s t : List ℕ) : Type 0 where
   pub reached : Steps R s t
   pub closed : Closed R t

@@ -9,7 +9,7 @@ use lib.Dec.{eqb}
 use Rattle.whole.specs.Whole.{Whole, _⊕_, only, sum, Zero}
 use Rattle.meaning.specs.Field.{Field}
 
--- "4c, then q of each entry in order (2q on the diagonal)"
+-- 4c, then q at each end of each entry, so 2q on the diagonal (rule 9.2)
 abbrev pub at-ends : Field → ℕ → ℕ → Whole
 at-ends F i k = only (eqb (F .row k) i) (F .weight k) ⊕ only (eqb (F .column k) i) (F .weight k)
 
@@ -20,7 +20,7 @@ balance F i = F .linear i ⊕ F .linear i ⊕ sum (F .m) (at-ends F i)
 abbrev pub opposite : List ℕ → List ℕ
 opposite = map (λ x. 1 - x)
 
--- "Entries with q = 0 join nothing here"
+-- every member is free, no entry but one of weight 0 leaves K, and every balance is 0
 pub record Symmetric (F : Field) (s : List ℕ) (K : ℕ → Bool) : Type 0 where
   pub free : (i : ℕ) → K i ≡ true → getD s i 0 ≡ 2
   pub inward : (k : ℕ) → k < F .m → (K (F .row k) ≡ K (F .column k)) ⊎ Zero (F .weight k)

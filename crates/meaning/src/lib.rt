@@ -1,1 +1,1 @@
-// Document 01's definitions over whole numbers and the theorems about them: no floats, and no code.
+// The rules over whole numbers and the theorems about them: no floats, and no code.

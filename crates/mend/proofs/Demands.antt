@@ -81,7 +81,7 @@ module _ (F : Field) (report : List ℕ) (f : List Float) (u : List ℕ) where
   unfolding mendCall mendTable table
   refused-when = usual.refused-when Refused _ _ _ _ same-refused done-apart refl
 
-  -- "all but 9 change nothing",
+  -- a refusal but 9 changes nothing,
   pub refused-leaves : (r : Refusal) → r ≢ Room → mendCall F report f u .answer ≡ Refused r → mendCall F report f u ≡ left (Refused r) (F .rows) (F .cols) (F .quad) report f u
   unfolding mendCall
   refused-leaves r n e = usual.refused-leaves Refused _ _ _ _ same-refused done-apart r (other-stage n no-stage) e
@@ -94,7 +94,7 @@ module _ (F : Field) (report : List ℕ) (f : List Float) (u : List ℕ) where
       let p = mend-passes F (length f) (length u) in
       ((λ e. (p .0 (t .0 e .0), leb-false _ _ (t .0 e .1))), λ h. t .1 (p .1 (h .0), lt-leb _ _ (h .1)))
 
-  -- "and 9 leaves the input entries unchanged and the report all zeros".
+  -- and 9 leaves the entries as they were and the report all zeros.
   pub room-leaves : mendCall F report f u .answer ≡ Refused Room
       → mendCall F report f u ≡ left (Refused Room) (F .rows) (F .cols) (F .quad) (cleared 0 report) (cleared zero64 f) (cleared 0 u)
   unfolding mendCall
@@ -168,11 +168,11 @@ module _ (F : Field) (report : List ℕ) (f : List Float) (u : List ℕ) {g : Gr
         front (sumAt F) (cleared zero64 (F .quad)) (ap (λ (x : Left). x .lent .quad) done-leaves),
       )
 
-  -- "The output is accepted by the entry checks": 1, 2, 14 to 17 and 5 pass on it,
+  -- What is left passes the tests of entries, 1, 2, 14 to 17 and 5,
   pub accepted : tested (looseTests (fieldLeft (F .linear) m (mendCall F report f u))) ≡ Passed
   accepted = rw field-is (loose-passes (mended F) .1 (mended-loose F (ready .0 .listed) (ready .0 .finite-weights .linear) (ready .0 .finite-sums)))
 
-  -- "keeps every place named inside the field", and has no other;
+  -- has every place named inside the field, and no other;
   pub places-kept : (r c : ℕ) → Named (fieldLeft (F .linear) m (mendCall F report f u)) r c ↔ Named F r c
   places-kept r c = rw field-is (only-named F r c, keeps F r c)
 
@@ -186,7 +186,7 @@ module _ (F : Field) (report : List ℕ) (f : List Float) (u : List ℕ) {g : Gr
   pub graded : g ≡ gradeOf (fieldLeft (F .linear) m (mendCall F report f u))
   graded = answer-is .0 ∙ ap gradeOf (sym field-is)
 
-  -- "places past it are zero"
+  -- what stands behind the new m is 0
   past : {A : Type 0} (h : ℕ → A) (z d : A) (old : List A) {new : List A} → new ≡ over (map h (placesOf F)) (cleared z old) → (k : ℕ) → m ≤ k → k < length old → getD new k d ≡ z
   past {A} h z d old w k l i =
       ap (λ (x : List A). getD x k d) w
@@ -222,11 +222,11 @@ module _ (F : Field) (report : List ℕ) (f : List Float) (u : List ℕ) {g : Gr
 pub report-exactly : (F : Field) (x : Change) → List·Memᴰ x (changesOf F) ↔ Happens F x
 report-exactly = exactly.report-exactly
 
--- "in input order", at most one for each entry.
+-- and the changes rise by input position, at most one for each entry.
 pub input-rises : (F : Field) → InputRises (changesOf F)
 input-rises = exactly.input-rises
 
--- "a list already good comes back unchanged with an empty report"
+-- A list that is in order comes back unchanged, with no change reported.
 module _ (F : Field) (report : List ℕ) (f : List Float) (u : List ℕ) {g : Grade} {m changes : ℕ} (e : mendCall F report f u .answer ≡ Done g m changes) (S : Shaped F) where
   whole : {A : Type 0} (z : A) (l : List A) → over l (cleared z l) ≡ l
   unfolding over

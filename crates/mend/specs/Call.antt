@@ -28,7 +28,7 @@ abbrev pub mendedNumber : Mended → ℕ
 mendedNumber (Done g m changes) = 0
 mendedNumber (Refused r) = numberOf r
 
--- "Refusals: 1, 2 and 5 first, then 18 for repeats whose sum isn't finite", "each test covers the whole input"
+-- 1, 2 and 5, then 18 where the sum at some place is not finite, each over the whole input
 unfoldable pub sumTests : Field → List Test
 sumTests F =
     test Variables (fewVariables (variables F))
@@ -37,7 +37,7 @@ sumTests F =
     ∷ test Sum (sumsFinite F)
     ∷ []
 
--- "then 8", with the m of the input
+-- then 8, with the m of the input
 unfoldable pub mendTests : Field → ℕ → ℕ → List Test
 mendTests F floats words =
     sumTests F ++ test Scratch (floatsFit (variables F) (entries F) floats) ∷ test Scratch (wordsFit (variables F) (entries F) words) ∷ []
@@ -50,7 +50,7 @@ pub record Mendable (F : Field) (floats words : ℕ) : Type 0 where
   pub floats-room : 8 * variables F + 4 * entries F + 16 ≤ floats
   pub words-room : 16 * variables F + 8 * entries F + 16 ≤ words
 
--- "and 9": the report has room for all changes, three numbers each
+-- 9: the report has room for all changes, three numbers each
 unfoldable pub fits : Field → List ℕ → Bool
 fits F report = leb (length (changesOf F)) (length report / 3)
 
@@ -77,8 +77,8 @@ Left = any.Left Mended Lent
 abbrev pub left : Mended → List ℕ → List ℕ → List Float → List ℕ → List Float → List ℕ → Left
 left r rows cols q report f u = any.left r (lent rows cols q report f u)
 
--- 1, 2, 5, 18 and 8, then room, then the mended list: "The new m is returned and places past it are zero"; "all but 9 change nothing, and 9 leaves the input
--- entries unchanged and the report all zeros"; "On 0 a field call also gives this grade", of the mended field; "elements past an answer list's last item are unchanged"
+-- 1, 2, 5, 18 and 8, then room, then the mended list, with zeros behind the new m; every refusal but 9 changes nothing, and 9 leaves the
+-- entries as they were and the report all zeros; the grade is of the mended field, and what stands behind the last change is as it was
 unfoldable pub mendCall : Field → List ℕ → List Float → List ℕ → Left
 mendCall F report f u =
     called

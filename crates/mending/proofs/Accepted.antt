@@ -85,7 +85,7 @@ module _ (F : Field) where
     pub mended-place : columnEnd (mended F) t * variables F + rowEnd (mended F) t ≡ getD (placesOf F) t 0
     mended-place = rw (mended-row, mended-column) (number-of (variables F) (getD (placesOf F) t 0))
 
-    -- "adds repeats at one place in input order"
+    -- repeats at one place are added in the order given
     pub sum-in-order : quadOf (mended F) t ≡ sumOf F (rowEnd (mended F) t) (columnEnd (mended F) t)
     sum-in-order = mended-quad ∙ ap (sumAt F) (sym mended-place) ∙ sym (sum-is F (rowEnd (mended F) t) (columnEnd (mended F) t) row-fits column-fits)
 
@@ -93,7 +93,7 @@ module _ (F : Field) where
   unfolding mended
   same-variables = refl
 
-  -- ---- "accepted by the entry checks"
+  -- ---- what is left passes the tests of entries
 
   pub mended-shaped : Listed F → Shaped (mended F)
   unfolding mended
@@ -128,7 +128,7 @@ module _ (F : Field) where
     };
   }
 
-  -- ---- "keeps every place named inside the field", and no other
+  -- ---- every place named inside the field is there, and no other
 
   module _ (r c : ℕ) where
     pub keeps : Named F r c → Named (mended F) r c

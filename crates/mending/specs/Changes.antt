@@ -1,4 +1,4 @@
--- What mending reports, in input order (document 02, C-18). Assumes nothing.
+-- What mending reports, in input order (rule 10.11). Assumes nothing.
 use Prim.Native.Nat.{ℕ, zero, suc}
 use mathlib.Core.Bool.{Bool, cond}
 use mathlib.Core.List.{List, [], _∷_, _++_}
@@ -7,7 +7,7 @@ use lib.ListN.{length}
 use Rattle.field.specs.Field.{Field, entries}
 use Rattle.mending.specs.Places.{isInside, placeOf, entriesTo, isEmpty, placesTo}
 
--- "dropped, moved, or joined, with the input position and the output position where there is one"
+-- an entry dropped, moved or joined, with its input position and, but for one dropped, its output position
 pub data Change : Type 0 where
   dropped : ℕ → Change
   moved : ℕ → ℕ → Change
@@ -27,8 +27,8 @@ positionOf F p = length (placesTo F p)
 abbrev pub isFirst : Field → ℕ → Bool
 isFirst F k = isEmpty (entriesTo F (placeOf F k) k)
 
--- the change of entry k, if there is one: "joined means added to an earlier entry of the input; moved means neither dropped nor joined, with an
--- output position that differs from the input one"
+-- the change of entry k, if there is one: joined where an earlier entry of the input has its place, moved where it is neither dropped nor
+-- joined and its output position is not its input position
 unfoldable pub changeAt : Field → ℕ → List Change
 changeAt F k =
     let o = positionOf F (placeOf F k) in
@@ -39,7 +39,7 @@ unfoldable pub changesTo : Field → ℕ → List Change
 changesTo F zero = []
 changesTo F (suc k) = changesTo F k ++ changeAt F k
 
--- "in input order it reports each change"
+-- the changes of all entries, in input order
 unfoldable pub changesOf : Field → List Change
 changesOf F = changesTo F (entries F)
 

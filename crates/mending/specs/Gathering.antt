@@ -22,7 +22,7 @@ firstMark o = 65536 + o
 abbrev pub joinedMark : ℕ → ℕ
 joinedMark o = 131072 + o
 
--- "dropped"; or first of its place, and so moved unless its position is kept; or "joined"
+-- dropped; or first of its place, and so moved unless its position is kept; or joined
 unfoldable pub markOf : Field → ℕ → ℕ
 markOf F k =
     let o = positionOf F (placeOf F k) in

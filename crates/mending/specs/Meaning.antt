@@ -31,7 +31,7 @@ unfoldable pub weightsTo : Field → ℕ → ℕ → ℕ → List Float
 weightsTo F r c zero = []
 weightsTo F r c (suc k) = cond (eqb (rowEnd F k) r && eqb (columnEnd F k) c) (weightsTo F r c k ++ quadOf F k ∷ []) (weightsTo F r c k)
 
--- "adds repeats at one place in input order, in f64", from the first weight on
+-- the weights at one place added in the order given, in f64, from the first weight on
 unfoldable pub sumOf : Field → ℕ → ℕ → Float
 sumOf F r c = added (weightsTo F r c (entries F))
 
@@ -54,19 +54,19 @@ pub record Same (F : Field) (j k : ℕ) : Type 0 where
   pub row : rowEnd F j ≡ rowEnd F k
   pub column : columnEnd F j ≡ columnEnd F k
 
--- "dropped, moved, or joined": "joined means added to an earlier entry of the input; moved means neither dropped nor joined, with an output position
--- that differs from the input one"
+-- what dropped, joined and moved mean: joined is an entry whose place an earlier entry has, moved one that is neither dropped nor joined and
+-- whose output position is not its input position
 pub data Happens (F : Field) : Change → Type 0 where
   drops : {k : ℕ} → k < entries F → (Inside F k → ⊥) → Happens F (dropped k)
   joins : {k o : ℕ} (j : ℕ) → k < entries F → Inside F k → j < k → Same F j k → Goes F k o → Happens F (joined k o)
   moves : {k o : ℕ} → k < entries F → Inside F k → ((j : ℕ) → j < k → Same F j k → ⊥) → Goes F k o → o ≢ k → Happens F (moved k o)
 
--- "with the input position"
+-- the input position of a change
 abbrev pub inputOf : Change → ℕ
 inputOf (dropped k) = k
 inputOf (moved k o) = k
 inputOf (joined k o) = k
 
--- "in input order", each entry once
+-- the changes rise by input position, so each entry has one at most
 abbrev pub InputRises : List Change → Type 0
 InputRises l = (t : ℕ) → suc t < length l → inputOf (getD l t (dropped 0)) < inputOf (getD l (suc t) (dropped 0))

@@ -1,4 +1,4 @@
--- The places that an entry list names inside the field, and the sum of the weights at each (document 02, C-18). Assumes nothing.
+-- The places that an entry list names inside the field, and the sum of the weights at each (rules 10.9 and 10.10). Assumes nothing.
 use Prim.Native.Nat.{ℕ, zero, suc, _+_, _*_, _/_, _%_}
 use mathlib.Core.Bool.{Bool, true, false, cond, _&&_}
 use mathlib.Core.List.{List, [], _∷_, _++_, map}
@@ -9,7 +9,7 @@ use Rattle.weights.specs.Worth.{zero64}
 use Rattle.scratch.specs.All.{allBelow}
 use Rattle.field.specs.Field.{Field, fieldOf, variables, entries, rowEnd, columnEnd, quadOf}
 
--- "outside the field" is an entry whose row or column is not below n; one on the diagonal is inside
+-- an entry whose row or column is not below n is outside the field; one on the diagonal is inside
 abbrev pub isInside : Field → ℕ → Bool
 isInside F k = ltb (rowEnd F k) (variables F) && ltb (columnEnd F k) (variables F)
 
@@ -35,16 +35,16 @@ unfoldable pub onto : Float → List Float → Float
 onto x [] = x
 onto x (y ∷ l) = onto (add binary64 x y) l
 
--- "from the first weight on": a lone -0.0 stays; of no weights the sum is 0.0
+-- from the first weight on, so that a lone -0.0 stays; of no weights the sum is 0.0
 unfoldable pub added : List Float → Float
 added [] = zero64
 added (x ∷ l) = onto x l
 
--- "adds repeats at one place in input order, in f64"
+-- the weights at one place added in the order given, in f64
 unfoldable pub sumAt : Field → ℕ → Float
 sumAt F p = added (map (quadOf F) (entriesAt F p))
 
--- 18: "repeats whose sum isn't finite", over the places of the field
+-- 18: the sum at every place of the field is finite
 unfoldable pub sumsFinite : Field → Bool
 sumsFinite F = allBelow (λ p. finite (sumAt F p)) (allPlaces F)
 
@@ -52,7 +52,7 @@ abbrev pub isEmpty : {A : Type 0} → List A → Bool
 isEmpty [] = true
 isEmpty (x ∷ l) = false
 
--- "every place named inside the field", of the places below p, rising
+-- every place that is named inside the field, of the places below p, rising
 unfoldable pub placesTo : Field → ℕ → List ℕ
 placesTo F zero = []
 placesTo F (suc p) = cond (isEmpty (entriesAt F p)) (placesTo F p) (placesTo F p ++ p ∷ [])

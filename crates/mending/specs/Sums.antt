@@ -1,4 +1,4 @@
--- What the test of the sums goes by (document 02, C-18, refusal 18). Assumes nothing.
+-- What the test of the sums goes by (rule 10.9, refusal 18). Assumes nothing.
 use Prim.Native.Nat.{ℕ}
 use mathlib.Core.Bool.{Bool, true, cond}
 use mathlib.Core.List.{List}
@@ -19,7 +19,7 @@ limit64 = ofBits binary64 0x7ef0_0000_0000_0000
 unfoldable pub allSmall : List Float → Bool
 allSmall q = allBelow (λ k. le (magnitude (getD q k nan)) limit64) (length q)
 
--- the sum at place p with entry k, if it is there: "from the first weight on"
+-- the sum at place p with entry k, if it is there, from the first weight on
 unfoldable pub partWith : Field → ℕ → ℕ → Part → Part
 partWith F p k s =
     cond (eqb (placeOf F k) p)

@@ -69,7 +69,7 @@ chosen-all p i (suc k) x h = elim (ℕ-discrete x i) [
 
 -- ---- no effect
 
--- "no entry, c = 0"
+-- no entry is at i, and c is 0
 pub effect-means : (F : Field) (i : ℕ) → length (F .rows) ≡ entries F → (hasNoEffect F i ≡ true) ↔ (NoEntry F i × (eq (linearOf F i) zero64 ≡ true))
 unfolding hasNoEffect untouched
 effect-means F i long =

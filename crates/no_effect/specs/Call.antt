@@ -32,7 +32,7 @@ Left = any.Left Counted Lent
 abbrev pub left : Counted → List ℕ → List ℕ → Left
 left r l u = any.left r (lent l u)
 
--- 1, 2, 3 and 5, and 8 of the u32 scratch
+-- 1, 2, 14 to 17 and 5, and 8 of the u32 scratch
 unfoldable pub wordTests : Field → ℕ → List Test
 wordTests F words = looseTests F ++ test Scratch (wordsFit (variables F) (entries F) words) ∷ []
 
@@ -41,16 +41,16 @@ pub record Prepared (F : Field) (words : ℕ) : Type 0 where
   pub loose : Loose F
   pub words-room : 16 * variables F + 8 * entries F + 16 ≤ words
 
--- 9: "an answer list does not fit"
+-- 9: the list has no room for all of them
 unfoldable pub fits : Field → List ℕ → Bool
 fits F l = leb (length (noEffect F)) (length l)
 
--- 1, 2, 3, 5, 8 and 9
+-- 1, 2, 14 to 17, 5, 8 and 9
 unfoldable pub noEffectTests : Field → List ℕ → ℕ → List Test
 noEffectTests F l words = wordTests F words ++ test Room (fits F l) ∷ []
 
--- 1, 2, 3, 5 and 8, then room, then the variables: "9 is given exactly if a full answer has more items than its list has room for";
--- "then each answer list is all zeros"; "After passing 8, scratch ends as all zeros"; "elements past an answer list's last item are unchanged"
+-- 1, 2, 14 to 17, 5 and 8, then room, then the variables: on 9 the list is all zeros, past test 8 scratch ends as zeros,
+-- and what stands behind the last item is as it was (rules 3.9 to 3.11)
 unfoldable pub noEffectCall : Field → List ℕ → List ℕ → Left
 noEffectCall F l u =
     called

@@ -1,4 +1,4 @@
--- The variables of no effect (document 01: "No-effect variables (no entry, c = 0)"). Assumes nothing.
+-- The variables of no effect: no entry is at them, and their c is 0 (rule 5.9). Assumes nothing.
 use Prim.Native.Nat.{ℕ, _<_}
 use mathlib.Core.Path.{_≡_}
 use mathlib.Core.Logic.{_≢_}
@@ -16,15 +16,15 @@ use Rattle.no_effect.specs.Putting.{chosen, Putting, putAll}
 abbrev pub apartAt : List ℕ → List ℕ → ℕ → ℕ → Bool
 apartAt rows cols i k = not (eqb (getD rows k 0) i) && not (eqb (getD cols k 0) i)
 
--- "no entry": an entry on the diagonal is an entry, and so is a stored zero
+-- no entry is at i: one on the diagonal is an entry, and so is one of weight 0
 unfoldable pub untouched : List ℕ → List ℕ → ℕ → Bool
 untouched rows cols i = allBelow (apartAt rows cols i) (length rows)
 
--- "no entry, c = 0"; the sign of a zero does not matter
+-- no entry, and c is 0; the sign of a zero does not matter
 unfoldable pub hasNoEffect : Field → ℕ → Bool
 hasNoEffect F i = untouched (F .rows) (F .cols) i && eq (linearOf F i) zero64
 
--- "no entry" in words: neither end of any entry is i
+-- in words: neither end of any entry is i
 abbrev pub NoEntry : Field → ℕ → Type 0
 NoEntry F i = (k : ℕ) → k < entries F → (rowEnd F k ≢ i) × (columnEnd F k ≢ i)
 

@@ -15,7 +15,7 @@ ghost use Rattle.no_effect.specs.Putting.{putting};
 ghost use Rattle.no_effect.specs.Effect.{found};
 ghost use Rattle.no_effect.specs.Call.{left, wordTests, noEffectCall};
 
-// 1, 2, 3 and 5, and 8 of the u32 scratch
+// 1, 2, 14 to 17 and 5, and 8 of the u32 scratch
 fn tests(c: &[f64], rows: &[u16], cols: &[u16], q: &[f64], words: usize) -> Checked
     ensures { λ r. ⌜ r ≡ tested (wordTests (given c rows cols q) words) ⌝ }
 {

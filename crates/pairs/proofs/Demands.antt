@@ -308,6 +308,6 @@ module _ (F : Field) (s : List ℕ) (limit : ℕ) (l : List ℕ) (f : List Float
         forbids = g .forbids;
       }))
 
--- "At limit 250,000, 707 free variables have all 249,571 pairs examined; 708 (250,278) stop short."
+-- At the limit 250,000 all 249,571 pairs of 707 free variables are examined, and of the 250,278 of 708 not all (rule 8.1).
 pub counts-worked : (pairCount 250000 707 ≡ 249571) × ((pairCount 250000 708 ≡ 250000) × (708 * 707 / 2 ≡ 250278))
 counts-worked = (refl, (refl, refl))

@@ -31,7 +31,7 @@ abbrev pub pairedNumber : Paired → ℕ
 pairedNumber (Done g items pairs) = 0
 pairedNumber (Refused r) = numberOf r
 
--- whether the list has room for every record: "9 is given exactly if a full answer has more items than its list has room for"
+-- whether the list has room for every record (rule 3.7)
 abbrev pub fits : Field → List ℕ → ℕ → List ℕ → Bool
 fits F s limit l = leb (length (found F s limit)) (room l)
 
@@ -55,8 +55,8 @@ Left = any.Left Paired Lent
 abbrev pub left : Paired → List ℕ → List Float → List ℕ → Left
 left r l f u = any.left r (lent l f u)
 
--- tests 1 to 6 and 8, then room, then the pairs: "then each answer list is all zeros"; "On success, elements past an answer list's last item are unchanged";
--- "After passing 8, scratch ends as all zeros"
+-- tests 1 to 6 and 8, then room, then the pairs: on 9 the list is all zeros, what stands behind the last item is as it was,
+-- and past test 8 scratch ends as zeros (rules 3.9 to 3.11)
 unfoldable pub pairsCall : Field → List ℕ → ℕ → List ℕ → List Float → List ℕ → Left
 pairsCall F s limit l f u =
     called

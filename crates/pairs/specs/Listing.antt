@@ -1,4 +1,4 @@
--- The pairs that are examined, and the records that they give (document 01, "Pair dominance"). Assumes nothing.
+-- The pairs that are examined (rule 8.1), and the records that they give (rule 8.6). Assumes nothing.
 use Prim.Native.Nat.{ℕ, suc, _+_, _*_, _-_, _/_, min}
 use mathlib.Core.Bool.{cond}
 use mathlib.Core.List.{List, [], _∷_, _++_, map}
@@ -29,18 +29,18 @@ unfoldable pub pairsOf : List ℕ → List Pair
 pairsOf [] = []
 pairsOf (i ∷ is) = withEach i is ++ pairsOf is
 
--- "Free pairs (i<j) in rising order"
+-- the pairs of free variables, the lower first, in rising order
 abbrev pub freePairs : List ℕ → List Pair
 freePairs s = pairsOf (freeOf s)
 
--- "limits above 250,000 act as 250,000"
+-- a limit above 250,000 acts as 250,000
 abbrev pub allowed : ℕ → ℕ
 allowed limit = min limit 250000
 
 abbrev pub examined : ℕ → List ℕ → List Pair
 examined limit s = take (allowed limit) (freePairs s)
 
--- "min(limit, 250,000, k(k-1)/2) for k free variables"
+-- how many are examined, of k free variables
 abbrev pub pairCount : ℕ → ℕ → ℕ
 pairCount limit k = min (allowed limit) (k * (k - 1) / 2)
 

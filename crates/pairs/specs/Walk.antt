@@ -60,7 +60,7 @@ pub record Walking (F : Field) (s : List ℕ) (most : ℕ) (l₀ l : List ℕ) (
   pub many : items ≡ length (foundIn F s (take pairs (freePairs s)))
   pub list : l ≡ written (foundIn F s (take pairs (freePairs s))) l₀
 
--- "tied to the list's end": the list is what the first `pairs` free pairs give, and those are all that are allowed
+-- the count is tied to the list's end: the list is what the first `pairs` free pairs give, and those are all that are allowed
 pub record Walked (F : Field) (s : List ℕ) (limit : ℕ) (l₀ l : List ℕ) (r : Tally) : Type 0 where
   pub pairs : r .pairs ≡ length (examined limit s)
   pub items : r .items ≡ length (found F s limit)

@@ -76,11 +76,11 @@ equal-zero : (x : Float) → ne x zero64 ≡ false → eq x zero64 ≡ true
 unfolding ne
 equal-zero x e = not-false (eq x zero64) e
 
--- "Components of free variables", "stored zeros join": an entry that leaves such a component ends in a place that the start values fix.
+-- Of components of free variables, in which entries of weight 0 join: an entry that leaves such a component ends in a place that the start values fix.
 pub components-separate : {F : Field} → Shaped F → (u : ℕ) {s marks : List ℕ} → Rest F true s marks → (start : ℕ) → Separate (wholeOf u F) s (has (membersFrom F true marks start))
 components-separate S u R start k h = resting.rest-closed S R start k h refl
 
--- "Entries with q = 0 join nothing here": on an exact field an entry that leaves a component of all variables has weight 0.
+-- Where entries of weight 0 do not join: on an exact field an entry that leaves a component of all variables has weight 0.
 pub components-inward : {F : Field} → Shaped F → {u : ℕ} → ExactIn u F → (s : List ℕ) {marks : List ℕ} → length s ≡ variables F
     → Rest F false (opened true s) marks → (start k : ℕ) → k < entries F
     → (has (membersFrom F false marks start) (rowEnd F k) ≡ has (membersFrom F false marks start) (columnEnd F k)) ⊎ Zero (wholeOf u F .weight k)

@@ -1,4 +1,4 @@
--- Components as the source finds them (document 01: "by a last-in stack from each lowest start"). A variable is open, that is not seen and not barred,
+-- Components, found by a last-in stack from each lowest start (rule 5.2). A variable is open, that is not seen and not barred,
 -- where its mark is 2: the start values are marks that bar the fixed variables. Executable on every field. Assumes nothing.
 use Prim.Native.Nat.{ℕ, zero, suc}
 use mathlib.Core.Bool.{Bool, cond, _||_}
@@ -27,7 +27,7 @@ opened all s = map (markOf all) s
 
 -- ---- one variable is served
 
--- "stored zeros join" in components, "Entries with q = 0 join nothing" in anchors: an entry of weight q
+-- whether an entry of weight q joins: one of weight 0 does in components, and does not in anchors
 abbrev pub joinsBy : Bool → Float → Bool
 joinsBy zeros q = zeros || ne q zero64
 
@@ -88,7 +88,7 @@ membersFrom F zeros marks start = walk F zeros marks start .members
 abbrev pub marksFrom : Field → Bool → List ℕ → ℕ → List ℕ
 marksFrom F zeros marks start = walk F zeros marks start .search .marks
 
--- ---- "from each lowest start"
+-- ---- a walk from each lowest start
 
 -- the marks, and the components found so far
 pub record Parts : Type 0 where

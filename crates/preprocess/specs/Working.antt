@@ -1,4 +1,4 @@
--- What the call works out (document 01, "Preprocess and heavy"). Assumes nothing.
+-- What the call works out (rule 5.10). Assumes nothing.
 use Prim.Native.Nat.{ℕ, zero, suc, _+_}
 use mathlib.Core.Path.{_≡_}
 use mathlib.Core.Bool.{Bool, cond, _&&_}
@@ -23,7 +23,7 @@ unfoldable pub fixTo : (ℕ → Bool) → ℕ → List ℕ → List ℕ
 fixTo p zero s = s
 fixTo p (suc i) s = fixAt (p i) i (fixTo p i s)
 
--- "No-effect variables (no entry, c = 0) count as 0 while working, but a start value of 1 is kept in the answer"
+-- each free variable of no effect takes 0, and a given 1 stays
 unfoldable pub withNoEffect : Field → List ℕ → List ℕ
 withNoEffect F s = fixTo (hasNoEffect F) (variables F) s
 

@@ -26,7 +26,7 @@ use Rattle.run.specs.Run.{closure}
 
 -- ---- the tests
 
--- 7: "probed variable not below n or not free, or probed value above 1"
+-- 7: the probed variable is not below n or not free, or the value is above 1 (rule 7.1)
 unfoldable pub mayProbe : ℕ → List ℕ → ℕ → ℕ → Bool
 mayProbe n s i v = ltb i n && (isFree s i && leb v 1)
 
@@ -39,7 +39,7 @@ probeTests F s i v floats words =
     ∷ test Scratch (wordsFit (variables F) (entries F) words)
     ∷ []
 
--- 1 to 8, and 9: "the probe value list is not n long"
+-- 1 to 8, and 9: the list of values is not n long
 unfoldable pub probeTable : Field → List ℕ → ℕ → ℕ → List ℕ → ℕ → ℕ → List Test
 probeTable F s i v t floats words = probeTests F s i v floats words ++ test Room (eqb (length t) (variables F)) ∷ []
 
@@ -52,11 +52,11 @@ pub record Probable (F : Field) (s : List ℕ) (i v floats words : ℕ) : Type 0
 
 -- ---- the values
 
--- what is found where the start value is s: "2 where no value is found", and nothing where it is not free
+-- what is found where the start value is s: 2 for none, and nothing where it is not free
 unfoldable pub newAt : ℕ → ℕ → ℕ
 newAt s v = cond (eqb s 2) v 2
 
--- "without the start values"
+-- the values of t without the start values
 unfoldable pub newOnly : List ℕ → List ℕ → List ℕ
 newOnly s t = upTo (λ j. newAt (getD s j 0) (getD t j 0)) (length s)
 
@@ -64,7 +64,7 @@ newOnly s t = upTo (λ j. newAt (getD s j 0) (getD t j 0)) (length s)
 abbrev pub Route : Type 0
 Route = Field → List ℕ → ℕ → ℕ → List ℕ
 
--- "fresh bounds for the start values with the one variable set, then the ordinary propagation"
+-- the cold route: the rows of the start values with the one value set, then the run (rule 7.2)
 abbrev pub cold : Route
 cold F s i v = closure F (set s i v)
 
@@ -72,11 +72,11 @@ cold F s i v = closure F (set s i v)
 unfoldable pub givenBy : Route → Field → List ℕ → ℕ → ℕ → List ℕ
 givenBy R F s i v = newOnly s (R F s i v)
 
--- "a single probe gives the closure of the start values with its one value added, without the start values"
+-- the closure of the start values with the one value added, without the start values
 abbrev pub probeOne : Field → List ℕ → ℕ → ℕ → List ℕ
 probeOne = givenBy cold
 
--- "On exact fields": t is the whole-number closure of the start values with the one value added, without the start values
+-- on exact fields: t is the whole-number closure of the start values with the one value added, without the start values
 pub record Gives (G : meaning.Field) (s : List ℕ) (i v : ℕ) (t : List ℕ) : Type 0 where
   pub closed : List ℕ
   pub is-closure : Probed G s i v closed
@@ -91,8 +91,8 @@ Left = values.Left
 abbrev pub left : Answer → List ℕ → List Float → List ℕ → Left
 left r t f u = values.left r t f u
 
--- tests 1 to 8, then 9, then the probe of i at v; t is the list that the values go into: "9 is given exactly if .. the probe value list is not n long;
--- then each answer list is all zeros"; "After passing 8, scratch ends as all zeros"
+-- tests 1 to 8, then 9, then the probe of i at v; t is the list that the values go into: 9 where it is not n long, and then it is
+-- all zeros; past test 8 scratch ends as zeros
 unfoldable pub probeOneBy : Route → Field → List ℕ → ℕ → ℕ → List ℕ → List Float → List ℕ → Left
 probeOneBy R F s i v t f u =
     called

@@ -1,4 +1,4 @@
--- What two probes of a variable find of another one (document 01, "Probe"). Assumes nothing.
+-- What two probes of a variable find of another one (rule 7.4). Assumes nothing.
 use Prim.Native.Nat.{ℕ, zero, suc}
 use Rattle.meaning.specs.Kinds.{at-least-one, exactly-one, no-more-than-one, greater-than, less-than, equal, Constraint, joining}
 
@@ -7,9 +7,8 @@ pub data Finding : Type 0 where
   value : ℕ → Finding
   constraint : Constraint → Finding
 
--- the probe of i at 0 gives j the first value, that at 1 the second, 2 for none: "If both probes of i give j, a variable other than i, the
--- same value, that is a probe value; 0 then 1 (for i = 0, 1) is Equal, 1 then 0 is ExactlyOne; if only one gives j a value, the constraint
--- forbids the opposite of that pair"
+-- the probe of i at 0 gives j the first value, that at 1 the second, 2 for none: where both give the same, that is a value; where they give
+-- 0 then 1, Equal, and 1 then 0, ExactlyOne; where only one gives j a value, the constraint forbids i's value with the opposite of that
 unfoldable pub found : ℕ → ℕ → ℕ → ℕ → Finding
 found i j zero zero = value 0
 found i j zero (suc zero) = constraint (joining equal i j)

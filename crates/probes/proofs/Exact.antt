@@ -1,4 +1,4 @@
--- On exact fields the lists of the probe calls are what document 01's rule gives over whole numbers, for any free candidates. Assumes nothing.
+-- On exact fields the lists of the probe calls are what rule 7.4 gives over whole numbers, for any free candidates. Assumes nothing.
 use Prim.Native.Nat.{ℕ, zero, suc, _<_, _≤_}
 use mathlib.Core.Path.{_≡_, refl, sym, ap, _∙_, subst}
 use mathlib.Core.Logic.{_≢_, _↔_}

@@ -141,7 +141,7 @@ module _ (F : Field) (s t k : List ℕ) (f : List Float) (u : List ℕ) where
         let y = none-free-gives s (variables F) long in
         ((λ q. y .0 (z .0 q)), λ h. z .1 (y .1 h))
 
-    -- "without the start values"
+    -- nothing is listed at a given variable
     pub probe-start-left-out : (j : ℕ) → j < variables F → getD s j 0 ≢ 2 → valueAt j (probeCall F s t k f u) ≡ 2
     unfolding probeBy
     probe-start-left-out = call.start-left-out F s free t k f u e

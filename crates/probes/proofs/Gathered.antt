@@ -209,7 +209,7 @@ module _ (F : Field) (s cands : List ℕ) where
   values-long zero = length-replicate (variables F) 2
   values-long (suc k) = length-upTo (λ j. wins (finding F s (getD cands k 0) j) (getD (valuesOf F s cands k) j 0)) (length (valuesOf F s cands k)) ∙ values-long k
 
-  -- "A value list holds" one value for each variable.
+  -- There is one value for each variable.
   pub all-values-long : length (allValues F s cands) ≡ variables F
   unfolding allValuesBy
   all-values-long = values-long (length cands)
@@ -248,7 +248,7 @@ module _ (F : Field) (s cands : List ℕ) where
     unfolding allValuesBy
     none-finds = stands-none (values-stand (length cands))
 
-    -- "without the start values"
+    -- nothing is listed at a given variable
     pub start-left-out : getD s j 0 ≢ 2 → getD (allValues F s cands) j 0 ≡ 2
     start-left-out n = none-finds .1 (record { none = λ k v h e. n (looked F s (getD cands k 0) j (λ z. none-value z) e .free) })
 

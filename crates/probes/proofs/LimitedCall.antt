@@ -110,7 +110,7 @@ module _ (F : Field) (s : List ℕ) (limit : ℕ) (t k : List ℕ) (f : List Flo
     unfolding probeLimitedBy
     limited-list-fits = call.list-fits F s chosen t k f u e are-free
 
-    -- "without the start values"
+    -- nothing is listed at a given variable
     pub limited-start-left-out : (j : ℕ) → j < variables F → getD s j 0 ≢ 2 → valueAt j (probeLimitedCall F s limit t k f u) ≡ 2
     unfolding probeLimitedBy
     limited-start-left-out = call.start-left-out F s chosen t k f u e
@@ -197,7 +197,7 @@ module _ (F : Field) (s : List ℕ) (limit : ℕ) (t k : List ℕ) (f : List Flo
 
 -- ---- the limit
 
--- "A limit of 0 gives empty lists": no record, every probe value 2, and the list of constraints as it was.
+-- A limit of 0 finds nothing: no record, every probe value 2, and the list of constraints as it was.
 pub limit-none : (F : Field) (s t k : List ℕ) (f : List Float) (u : List ℕ) → Ready F s (length f) (length u) → length t ≡ variables F
     → probeLimitedCall F s 0 t k f u ≡ left (Counts (gradeOf F) 0) (replicate (variables F) 2) k (cleared zero64 f) (cleared 0 u)
 unfolding probeLimitedBy allRecordsBy recordsFoundBy mergedList allValuesBy valuesFoundBy

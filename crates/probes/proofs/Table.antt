@@ -1,4 +1,4 @@
--- What is found of a variable: by document 01's table, of a free variable other than the probed one. Assumes nothing.
+-- What is found of a variable: by the table of rule 7.4, of a free variable other than the probed one. Assumes nothing.
 use Prim.Native.Nat.{ℕ, zero, suc, _<_, _≤_}
 use mathlib.Core.Path.{_≡_, refl, sym, _∙_, ap}
 use mathlib.Core.Logic.{_≢_}
@@ -19,7 +19,7 @@ use Rattle.probe.proofs.Found.{none-constraint}
 use Rattle.finding.specs.Finds.{givesAt, findingOf, finding, findingBy}
 use Rattle.probes.specs.Rule.{Tabled}
 
--- ---- the executable table is document 01's
+-- ---- the executable table is that of rule 7.4
 
 same-constraint : {c d : Constraint} → constraint c ≡ constraint d → c ≡ d
 same-constraint e = cc

@@ -26,14 +26,14 @@ use Rattle.finding.specs.Finds.{recordsFoundBy, valuesFoundBy}
 
 -- ---- what the candidates find
 
--- "lists are merged by pair", and rise by it
+-- the records of all candidates, merged by pair, rising
 unfoldable pub allRecordsBy : Route → Field → List ℕ → List ℕ → List Record
 allRecordsBy R F s cands = mergedList (recordsFoundBy R F s cands (length cands))
 
 abbrev pub allRecords : Field → List ℕ → List ℕ → List Record
 allRecords = allRecordsBy cold
 
--- "where two candidates give one variable a value, the later one wins"
+-- the values of all candidates; where two give one variable a value, the later one's stays (rule 7.5)
 unfoldable pub allValuesBy : Route → Field → List ℕ → List ℕ → List ℕ
 allValuesBy R F s cands = valuesFoundBy R F s cands (length cands)
 
@@ -59,7 +59,7 @@ Left = any.Left Counted Lent
 abbrev pub left : Counted → List ℕ → List ℕ → List Float → List ℕ → Left
 left r t k f u = any.left r (lent t k f u)
 
--- "9 is given exactly if a full answer has more items than its list has room for, or the probe value list is not n long"
+-- 9 exactly where the list of values is not n long or the merged records have no room (rule 7.8)
 unfoldable pub fitsBy : Route → Field → List ℕ → List ℕ → List ℕ → List ℕ → Bool
 fitsBy R F s cands t k = eqb (length t) (variables F) && leb (length (allRecordsBy R F s cands)) (room k)
 
@@ -70,11 +70,11 @@ fits = fitsBy cold
 unfoldable pub candidatesTable : Field → List ℕ → List ℕ → List ℕ → List ℕ → ℕ → ℕ → List Test
 candidatesTable F s cands t k floats words = readyTests F s floats words ++ test Room (fits F s cands t k) ∷ []
 
--- "then each answer list is all zeros"
+-- on 9 both lists are all zeros
 abbrev pub laterBy : Route → Field → List ℕ → List ℕ → List ℕ → List ℕ → List Float → List ℕ → List (Stage Lent)
 laterBy R F s cands t k f u = stage Room (fitsBy R F s cands t k) (lent (cleared 0 t) (cleared 0 k) (cleared zero64 f) (cleared 0 u)) ∷ []
 
--- "On success, elements past an answer list's last item are unchanged"; "After passing 8, scratch ends as all zeros"
+-- on 0 what stands behind the last record is as it was; past test 8 scratch ends as zeros
 abbrev pub resultBy : Route → Field → List ℕ → List ℕ → List ℕ → List Float → List ℕ → Left
 resultBy R F s cands k f u =
     left (Counts (gradeOf F) (length (allRecordsBy R F s cands))) (allValuesBy R F s cands) (filled (allRecordsBy R F s cands) k) (cleared zero64 f) (cleared 0 u)
@@ -95,7 +95,7 @@ probeBy R F s t k f u = candidatesBy R F s (freeTo s (variables F)) t k f u
 abbrev pub probeCall : Field → List ℕ → List ℕ → List ℕ → List Float → List ℕ → Left
 probeCall = probeBy cold
 
--- up to the limit; "Candidates of the limited call go by falling edge mass of |q| over entries with both ends free, then rising index"
+-- the first of the free variables up to the limit, by falling edge mass, then rising index (rule 7.6)
 unfoldable pub probeLimitedBy : Route → Field → List ℕ → ℕ → List ℕ → List ℕ → List Float → List ℕ → Left
 probeLimitedBy R F s limit t k f u = candidatesBy R F s (take limit (ranks F s)) t k f u
 

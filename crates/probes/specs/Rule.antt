@@ -1,4 +1,4 @@
--- What the lists of the probe calls mean (document 01, "Probe"), over whole numbers, and over the floats of any field. Assumes nothing.
+-- What the lists of the probe calls mean (rules 7.4 to 7.6), over whole numbers, and over the floats of any field. Assumes nothing.
 use Prim.Native.Nat.{ℕ, _<_}
 use mathlib.Core.Path.{_≡_}
 use mathlib.Core.Logic.{_≢_}
@@ -24,7 +24,7 @@ pub record Tabled (i j a b : ℕ) (c : Constraint) : Type 0 where
 
 -- ---- over whole numbers
 
--- j is a free variable "other than i", and the probes of i at 0 and at 1 give it a and b, 2 for none
+-- j is a free variable other than i, and the probes of i at 0 and at 1 give it a and b, 2 for none
 pub record BothGive (G : meaning.Field) (s : List ℕ) (i j a b : ℕ) : Type 0 where
   pub other : i ≢ j
   pub below : j < G .n
@@ -50,7 +50,7 @@ pub record Given (G : meaning.Field) (s : List ℕ) (C : ℕ → Type 0) (i j : 
   pub order : i < j
   pub excludes : Excludes (joining kind candidate variable) i (p .first) j (p .second)
 
--- "If both probes of i give j, a variable other than i, the same value, that is a probe value"
+-- where both probes of i give another variable j the same value, that is a probe value
 pub record GivesValue (G : meaning.Field) (s : List ℕ) (i j w : ℕ) : Type 0 where
   pub small : w < 2
   pub both : BothGive G s i j w w

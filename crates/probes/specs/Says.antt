@@ -36,7 +36,7 @@ pub record SameButValues (x y : Left) : Type 0 where
   pub both-floats : x .lent .floats ≡ y .lent .floats
   pub both-words : x .lent .words ≡ y .lent .words
 
--- "keeps or enlarges each record": a record of l on the variables of x forbids every pair that x forbids
+-- x is kept or enlarged in l: a record of l on the variables of x forbids every pair that x forbids
 pub record KeptIn (l : List Record) (x : Record) : Type 0 where
   pub by : Record
   pub among : List·Memᴰ by l

@@ -42,8 +42,8 @@ Left = any.Left Checked Lent
 abbrev pub left : Checked → List ℕ → List ℕ → Left
 left r s u = any.left r (lent s u)
 
--- tests 1, 6, 7 and 8, then literal closure: implied values go into the start values; "9 and 10 leave the start values unchanged";
--- "After passing 8, scratch ends as all zeros"
+-- tests 1, 6, 7 and 8, then literal closure, whose values go into the start values; 10 leaves these as they were,
+-- and past test 8 scratch ends as zeros
 unfoldable pub propagateCall : List ℕ → List ℕ → List ℕ → Left
 propagateCall s list u =
     called

@@ -1,4 +1,4 @@
--- The tests that propagation makes (document 01, "Answers, tested in this order"). Assumes nothing.
+-- The tests that propagation makes (rule 3.5). Assumes nothing.
 use Prim.Native.Nat.{ℕ, _%_}
 use mathlib.Core.Bool.{Bool, _&&_}
 use mathlib.Core.List.{List, [], _∷_}
@@ -11,14 +11,14 @@ use Rattle.field.specs.Tests.{fewVariables, startFits, wordsFit}
 use Rattle.meaning.specs.Records.{Record}
 use Rattle.constraints.specs.Record.{room, recordAt}
 
--- 7: "a set of 0 or above 15, or ends that aren't rising", and an end not below n
+-- 7: a set of 0 or above 15, ends that do not rise, or an end not below n (rule 6.3)
 abbrev pub fits : ℕ → Record → Bool
 fits n x = ltb 0 (x .set) && (ltb (x .set) 16 && (ltb (x .lower) (x .higher) && ltb (x .higher) n))
 
 unfoldable pub allFit : ℕ → List ℕ → Bool
 allFit n list = allBelow (λ t. fits n (recordAt list t)) (room list)
 
--- 7: "more than 65,536 constraints or a list not of whole triples"
+-- 7: more than 65,536 records, or a part of one behind them
 unfoldable pub constraintsFit : ℕ → List ℕ → Bool
 constraintsFit n list = leb (length list) 196608 && (eqb (length list % 3) 0 && allFit n list)
 

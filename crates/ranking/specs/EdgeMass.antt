@@ -1,4 +1,4 @@
--- The edge mass in whole numbers, and the candidates in its order (document 01, "Probe"). Assumes nothing.
+-- The edge mass in whole numbers, and the candidates in its order (rules 7.6 and 7.10). Assumes nothing.
 use Prim.Native.Nat.{ℕ, _<_}
 use mathlib.Core.Path.{_≡_}
 use mathlib.Core.Logic.{_⊎_}
@@ -15,11 +15,11 @@ use Rattle.ranking.specs.Rightly.{times}
 abbrev pub edge : Field → List ℕ → ℕ → ℕ → Whole
 edge F s i k = only ((isFree s (F .row k) && isFree s (F .column k)) && (eqb (F .row k) i || eqb (F .column k) i)) (size (F .weight k))
 
--- "edge mass of |q| over entries with both ends free"
+-- the sum of |q| over the entries at i with both ends free
 abbrev pub edge-mass : Field → List ℕ → ℕ → Whole
 edge-mass F s i = sum (F .m) (edge F s i)
 
--- "by falling edge mass .., then rising index": i goes ahead of j
+-- i goes ahead of j: its mass is greater, or equal with a lower index
 abbrev pub Ahead : Field → List ℕ → ℕ → ℕ → Type 0
 Ahead F s i j = Above0 (edge-mass F s i ⊖ edge-mass F s j) ⊎ ((edge-mass F s i ≈ edge-mass F s j) × (i < j))
 

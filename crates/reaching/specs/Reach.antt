@@ -7,7 +7,7 @@ use lib.ListN.{length, getD}
 use Rattle.meaning.specs.Literal.{Implication}
 use Rattle.meaning.specs.Records.{Record, MeetsRecord}
 
--- "reaches": that variable i has the value v leads, by any number of implications, none included, to the value w of j
+-- that variable i has the value v leads, by any number of implications, none included, to the value w of j (rule 6.9)
 pub data Reach (E : List Implication) (i v : ℕ) : ℕ → ℕ → Type 0 where
   here : Reach E i v i v
   onward : {e : Implication} → List·Memᴰ e E → Reach E i v (e .from) (e .when) → Reach E i v (e .to) (e .gives)
@@ -27,7 +27,7 @@ pub record MeetsAll (l : List Record) (n : ℕ) (x : List ℕ) : Type 0 where
 abbrev pub SameBelow : ℕ → List ℕ → List ℕ → Type 0
 SameBelow i x y = (j : ℕ) → j < i → getD y j 0 ≡ getD x j 0
 
--- "gives each variable, in rising order, 0 wherever some assignment with the earlier choices still allows it"
+-- each variable, in rising order, has 0 wherever some assignment that meets every record has it with the earlier choices (rule 6.10)
 pub record Least (l : List Record) (n : ℕ) (x : List ℕ) : Type 0 where
   pub meets-all : MeetsAll l n x
   pub zero : (i : ℕ) → i < n → (y : List ℕ) → MeetsAll l n y → SameBelow i x y → getD y i 0 ≡ 0 → getD x i 0 ≡ 0

@@ -6,7 +6,7 @@ use lib.ListN.{getD}
 use lib.Dec.{eqb, ltb}
 use Rattle.meaning.specs.Literal.{Implication}
 
--- "literals are numbered 2i + v"
+-- the literal (i, v) has the number 2i + v
 abbrev pub literal : ℕ → ℕ → ℕ
 literal i v = 2 * i + v
 

@@ -41,7 +41,7 @@ Left = any.Left Reasoned Lent
 abbrev pub left : Reasoned → List ℕ → List Float → List ℕ → Left
 left r l f u = any.left r (lent l f u)
 
--- 13: "the variable isn't below n or is free at the end"
+-- 13: the variable is not below n, or is free in the closure
 unfoldable pub hasValue : Field → List ℕ → ℕ → Bool
 hasValue F s i = ltb i (variables F) && not (isFree (closure F s) i)
 
@@ -52,15 +52,15 @@ pub record Reasonable (F : Field) (s : List ℕ) (i floats words : ℕ) : Type 0
   pub below : i < variables F
   pub fixed : getD (closure F s) i 0 ≢ 2
 
--- 9: "a full answer has more items than its list has room for"
+-- 9: the list has no room for all that are listed
 unfoldable pub fits : Field → List ℕ → ℕ → List ℕ → Bool
 fits F s i l = leb (length (reasonList F s i)) (length l)
 
--- the closure's tests, then "12, the field is inexact", 13 and 9
+-- the closure's tests, then 12 on an inexact field, 13 and 9
 unfoldable pub reasonTests : Field → List ℕ → ℕ → List ℕ → ℕ → ℕ → List Test
 reasonTests F s i l floats words = readyTests F s floats words ++ test Inexact (isExact F) ∷ test Unforced (hasValue F s i) ∷ test Room (fits F s i l) ∷ []
 
--- "both after 8 and before 9, in this order, with lists unchanged"; on 9 "each answer list is all zeros"; "After passing 8, scratch ends as all zeros"
+-- 12 and 13 leave the list as it was, 9 leaves it all zeros, and past test 8 scratch ends as zeros (rules 3.9 and 3.10)
 abbrev pub laterStages : Field → List ℕ → ℕ → List ℕ → List Float → List ℕ → List (Stage Lent)
 laterStages F s i l f u =
     stage Inexact (isExact F) (lent l (cleared zero64 f) (cleared 0 u))
@@ -68,7 +68,7 @@ laterStages F s i l f u =
     ∷ stage Room (fits F s i l) (lent (cleared 0 l) (cleared zero64 f) (cleared 0 u))
     ∷ []
 
--- the ground, the unit, and the neighbours at the front of the list: "elements past an answer list's last item are unchanged"
+-- the ground, the unit, and the neighbours at the front of the list; what stands behind the last is as it was
 abbrev pub because : Field → List ℕ → ℕ → Reasoned
 because F s i = Because (reasonOf F s i) (leastUnit F) (length (reasonList F s i))
 

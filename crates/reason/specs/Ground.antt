@@ -19,7 +19,7 @@ use Rattle.reason.specs.declared.Ground.the-variants.{Given, Lower, Uppe
 use Rattle.reason.specs.Until.{basis}
 use Rattle.reason.specs.Listed.{listedOf}
 
--- "the unit named as the smallest that serves": k, where it is 2^(k - 20)
+-- k, where 2^(k - 20) is the smallest unit that serves
 abbrev pub leastUnit : Field → ℕ
 leastUnit F = unitOf F - finest
 
@@ -43,7 +43,7 @@ groundOf k Open = Given
 unfoldable pub reasonOf : Field → List ℕ → ℕ → Ground
 reasonOf F s i = cond (isFree s i) (groundOf (leastUnit F) (judgeOf (rowOf F (basis F s i) i))) Given
 
--- the variables listed beside it; "for a given variable the list is empty"
+-- the variables listed beside it; of a given variable the list is empty
 unfoldable pub reasonList : Field → List ℕ → ℕ → List ℕ
 reasonList F s i = cond (isFree s i) (listedOf F (basis F s i) i) []
 

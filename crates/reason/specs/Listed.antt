@@ -30,7 +30,7 @@ listedTo F r i (suc n) = listedTo F r i n ++ cond (isListed F r i n) (n ∷ []) 
 unfoldable pub listedOf : Field → List ℕ → ℕ → List ℕ
 listedOf F r i = listedTo F r i (variables F)
 
--- "with only the listed values fixed and all else free": in x the m variables listed have their values, and all others below n are free
+-- in x the m variables listed have their values, and all others below n are free (rule 11.6)
 pub record Only (n m : ℕ) (listed : ℕ → ℕ) (values x : List ℕ) : Type 0 where
   pub long : length x ≡ n
   pub listed-fixed : (t : ℕ) → t < m → getD x (listed t) 0 ≡ getD values (listed t) 0

@@ -14,7 +14,7 @@ unfoldable pub placeOf : List ℕ → ℕ → ℕ
 placeOf [] j = 0
 placeOf (i ∷ queue) j = cond (eqb i j) 0 (suc (placeOf queue j))
 
--- "earlier in the run": 0 for a given variable, and for another its place, from 1, among those that the closure's run forces, in order
+-- how early in the run: 0 for a given variable, and for another its place, from 1, among those that the closure's run forces, in order
 unfoldable pub rank : Field → List ℕ → ℕ → ℕ
 rank F s j = cond (isFree s j) (suc (placeOf (closureRun F s .queue) j)) 0
 

@@ -1,4 +1,4 @@
--- The record that stands at an index of the input (document 01, "The record program"). Assumes nothing.
+-- The record that stands at an index of the input (rule 13.1). Assumes nothing.
 use Prim.Native.Nat.{ℕ, _+_, _-_}
 use mathlib.Core.Bool.{cond}
 use mathlib.Core.List.{List}

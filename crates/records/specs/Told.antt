@@ -1,4 +1,4 @@
--- What records tell, one after another (document 01, "The record program"). Assumes nothing.
+-- What records tell, one after another (rules 13.1 to 13.3). Assumes nothing.
 use Prim.Native.Nat.{ℕ, zero, suc}
 use mathlib.Core.Bool.{Bool, true, false, _&&_, cond}
 use mathlib.Core.List.{List, [], _∷_, _++_}

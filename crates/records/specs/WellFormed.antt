@@ -1,4 +1,4 @@
--- Which inputs are well-formed, and what they tell (document 01, "The record program"): a list of items, spelled one after another, and ZZ. Assumes nothing.
+-- Which inputs are well-formed, and what they tell (rule 13.3): a list of items, spelled one after another, and ZZ. Assumes nothing.
 use Prim.Native.Nat.{ℕ, _^_, _<_}
 use mathlib.Core.Path.{_≡_}
 use mathlib.Core.List.{List, [], _∷_, _++_}

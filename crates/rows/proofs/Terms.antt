@@ -84,7 +84,7 @@ module _ {u : ℕ} {r : Row} {a b : Whole} (h : RowWorth u r a b) (near-a : Unde
       go true = term-worth v l
       go false = as-row h (omega arith) (omega arith)
 
--- "removing the free term and adding the fixed one"
+-- the free term is removed, and the fixed one added
 pub moved-worth : {u : ℕ} {r : Row} {a b : Whole} → RowWorth u r a b → Under (2 ^ 49) a → Under (2 ^ 49) b → {q : Float} {c : Whole} → Worth u q c → Under (2 ^ 31) c → (v : ℕ) → v < 2
     → RowWorth u (addFixed (removeFree r q) q v) (a ⊖ min0 c ⊕ share (min0 c) c v) (b ⊖ max0 c ⊕ share (max0 c) c v)
 moved-worth h near-a near-b k small v l =

@@ -1,4 +1,4 @@
--- The model of a row: row i of a field at given values (document 01, "Rows"). Assumes nothing.
+-- The model of a row: row i of a field at given values (rules 4.1 to 4.3). Assumes nothing.
 use Prim.Native.Nat.{ℕ, zero, suc}
 use mathlib.Core.Bool.{cond}
 use mathlib.Core.List.{List}
@@ -10,7 +10,7 @@ use Rattle.field.specs.Field.{Field, entries, linearOf, rowEnd, columnEnd, quad
 use Rattle.rows.specs.declared.Row.{Row}
 use Rattle.rows.specs.Row.{startRow, addTerm}
 
--- "for each entry in order, (j, 0.5q) goes to i and (i, 0.5q) to j": entry k's coefficient
+-- entry k's coefficient, 0.5q, which is that of its term at either end
 abbrev pub coeffOf : Field → ℕ → Float
 coeffOf F k = mul binary64 half64 (quadOf F k)
 
@@ -29,6 +29,6 @@ unfoldable pub rowTo : Field → List ℕ → ℕ → ℕ → Row
 rowTo F s i zero = startRow (linearOf F i)
 rowTo F s i (suc k) = atEntry F s i k (rowTo F s i k)
 
--- "Terms are added in adjacency order"
+-- after all entries, in order
 unfoldable pub rowOf : Field → List ℕ → ℕ → Row
 rowOf F s i = rowTo F s i (entries F)

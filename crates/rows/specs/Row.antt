@@ -1,4 +1,4 @@
--- What each operation on a row of the gradient gives (document 01, "Rows"). Assumes nothing.
+-- What each operation on a row of the gradient gives (rules 4.2 to 4.6). Assumes nothing.
 use Prim.Native.Nat.{ℕ}
 use mathlib.Core.Bool.{Bool, true, false, cond, _&&_}
 use lib.Dec.{eqb}
@@ -10,11 +10,11 @@ use Rattle.rows.specs.declared.Verdict.{Verdict}
 use Rattle.rows.specs.declared.Verdict.the-variants.{Zero, One, Flat, Open}
 use Rattle.rows.specs.declared.Conclusion.{Conclusion}
 
--- "A row holds its lower and upper bound and starts both at c_i"
+-- a row starts with both bounds at c
 abbrev pub startRow : Float → Row
 startRow c = record { lower = c; upper = c }
 
--- "a free end adds to lower if the coefficient <= 0 and to upper if >= 0"
+-- the term of a free end goes to the lower bound where the coefficient is at most 0, and to the upper where it is at least 0
 abbrev pub addFree : Row → Float → Row
 addFree r a = record {
   lower = cond (le a zero64) (add binary64 (r .lower) a) (r .lower);
@@ -28,7 +28,7 @@ removeFree r a = record {
   upper = cond (le zero64 a) (sub binary64 (r .upper) a) (r .upper);
 }
 
--- "a fixed end adds coefficient times value to both"
+-- the term of a fixed end, coefficient times value, goes to both
 abbrev pub addFixed : Row → Float → ℕ → Row
 addFixed r a v = record {
   lower = add binary64 (r .lower) (mul binary64 a (ofInt binary64 (pos v)));
@@ -50,16 +50,15 @@ addTerm r a v = cond (eqb v 2) (addFree r a) (addFixed r a v)
 unfoldable pub removeTerm : Row → Float → ℕ → Row
 removeTerm r a v = cond (eqb v 2) (removeFree r a) (removeFixed r a v)
 
--- "A row whose two bounds are both 0"
+-- both bounds are 0, of either sign
 abbrev pub bothZero : Row → Bool
 bothZero r = eq (r .lower) zero64 && eq (r .upper) zero64
 
--- "zero, carrying a lower bound above 0; one, carrying an upper bound below 0"; "a fourth kind, flat, and open now means neither forced nor flat".
--- "Zero is tested first"
+-- zero where the lower bound is above 0, else one where the upper is below 0, each with its bound; else flat where both are 0, and else open (rule 4.4)
 abbrev pub judgeOf : Row → Verdict
 judgeOf r = cond (lt zero64 (r .lower)) (Zero (r .lower)) (cond (lt (r .upper) zero64) (One (r .upper)) (cond (bothZero r) Flat Open))
 
--- "A conclusion is a variable together with that verdict"
+-- a variable together with the verdict on its row
 abbrev pub concludeOf : Row → ℕ → Conclusion
 concludeOf r i = record { variable = i; verdict = judgeOf r }
 

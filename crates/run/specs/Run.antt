@@ -1,4 +1,4 @@
--- The gradient run as the source works it (document 01, "Closure"): variables are scanned upward, then a first-in queue is served.
+-- The gradient run (rules 4.7 to 4.11): variables are scanned upward, then a first-in queue is served.
 -- Executable on every field, float by float. Assumes nothing.
 use Prim.Native.Nat.{ℕ, zero, suc, _+_}
 use mathlib.Core.Bool.{Bool, cond, _&&_}
@@ -39,7 +39,7 @@ withRow run t r = record { values = run .values; rows = set (run .rows) t r; que
 unfoldable pub force : Run → ℕ → ℕ → Run
 force run t x = record { values = set (run .values) t x; rows = run .rows; queue = run .queue ++ (t ∷ []) }
 
--- "Callers act only on a forced verdict and pass over an open row"; "Others treat flat as open"
+-- a verdict that forces acts; a flat and an open row are passed over (rule 4.5)
 unfoldable pub settle : Run → ℕ → Verdict → Run
 settle run t (Zero b) = force run t 0
 settle run t (One b) = force run t 1
@@ -50,7 +50,7 @@ settle run t Open = run
 unfoldable pub judged : Run → ℕ → Run
 judged run t = settle run t (judgeOf (rowFor run t))
 
--- ---- "Scan variables upward"
+-- ---- the scan, upward (rule 4.7)
 
 unfoldable pub scanAt : Run → ℕ → Run
 scanAt run i = cond (isFree run i) (judged run i) run
@@ -60,7 +60,7 @@ unfoldable pub scanTo : Run → ℕ → Run
 scanTo run zero = run
 scanTo run (suc i) = scanAt (scanTo run i) i
 
--- ---- "then serve a first-in queue, removing the free term and adding the fixed one, testing after each update"
+-- ---- the queue, the first in it first: a free term is removed and the fixed one added, and the row judged after each (rule 4.8)
 
 -- a row whose term of coefficient a was free, and is fixed at v
 abbrev pub moved : Row → Float → ℕ → Row
@@ -83,7 +83,7 @@ serveAll F i v run (k ∷ ks) = serveAll F i v (serveAt F i v run k) ks
 unfoldable pub serve : Field → Run → ℕ → Run
 serve F run i = serveAll F i (getD (run .values) i 0) run (places (F .rows) (F .cols) i)
 
--- the queue from position h on, in that many turns at most; "`VecDeque` holds each variable once, so n places do"
+-- the queue from position h on, in that many turns at most; each variable enters it once, so n turns do
 unfoldable pub work : Field → ℕ → Run → ℕ → Run
 work F zero run h = run
 work F (suc turns) run h = cond (ltb h (length (run .queue))) (work F turns (serve F run (getD (run .queue) h 0)) (suc h)) run
@@ -101,7 +101,7 @@ closureRun F s = propagate F s (upTo (rowOf F s) (variables F))
 unfoldable pub closure : Field → List ℕ → List ℕ
 closure F s = closureRun F s .values
 
--- ---- "The closure counts the rows that are flat at its end, over free variables"
+-- ---- the rows of free variables that are flat at the end (rule 4.11)
 
 -- of the variables below i
 unfoldable pub flatTo : List ℕ → List Row → ℕ → ℕ

@@ -47,7 +47,7 @@ module _ (F : Field) where
   unfolding shiftCall
   refused-leaves r e = usual.refused-leaves Refuses _ _ [] _ same-refuses counts-apart r no-stage e
 
-  -- It is done exactly if the field is as tests 1, 2, 3 and 5 ask, and then gives the grade of the field as it was given, and the new m.
+  -- It is done exactly if the field is as tests 1, 2, 14 to 17 and 5 ask, and then gives the grade of the field as it was given, and the new m.
   pub done-when : (shiftCall F .answer ≡ Counts (gradeOf F) (closed F .kept)) ↔ Loose F
   unfolding shiftCall table
   done-when = usual.done-when Refuses _ _ [] _ same-refuses counts-apart (rw (append-nil (looseTests F)) (loose-passes F))

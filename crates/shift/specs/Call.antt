@@ -16,6 +16,6 @@ Left = any.Left Counted Field
 abbrev pub left : Counted → Field → Left
 left r G = any.left r G
 
--- tests 1, 2, 3 and 5, then the shift: "The shift call grades the field as it was given"; "the new m is returned"
+-- tests 1, 2, 14 to 17 and 5, then the shift: the grade is of the field as it was given, and the new m is answered
 unfoldable pub shiftCall : Field → Left
 shiftCall F = called (usual Refuses F (looseTests F) [] (left (Counts (gradeOf F) (closed F .kept)) (closed F .lists)))

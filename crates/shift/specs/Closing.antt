@@ -1,5 +1,5 @@
--- How a field's diagonal goes into its linear weights, entry by entry (document 01, `shift_qubo`): "entries close up in place, 0.5q of a
--- diagonal goes into c, the new m is returned, places past it are unchanged". Assumes nothing.
+-- How a field's diagonal goes into its linear weights, entry by entry: 0.5q of a diagonal entry goes into c, the others close up in
+-- place, and what stands behind them is as it was (rule 10.1). Assumes nothing.
 use Prim.Native.Nat.{ℕ, zero, suc, _+_, _<_, _≤_}
 use mathlib.Core.Bool.{Bool, cond, not}
 use mathlib.Core.List.{List, map}
@@ -20,7 +20,7 @@ use Rattle.shift.specs.Picked.{picked}
 abbrev pub onDiagonal : Field → ℕ → Bool
 onDiagonal F k = eqb (rowEnd F k) (columnEnd F k)
 
--- "0.5q of a diagonal goes into c"
+-- 0.5q of a diagonal entry goes into its c
 abbrev pub intoLinear : Field → ℕ → List Float → List Float
 intoLinear F k c = set c (rowEnd F k) (add binary64 (getD c (rowEnd F k) nan) (mul binary64 half64 (quadOf F k)))
 
@@ -44,7 +44,7 @@ pub record Closing : Type 0 where
 abbrev pub closing : Field → ℕ → Closing
 closing G m = record { lists = G; kept = m }
 
--- after the first k entries: "entries close up in place", "places past it are unchanged"
+-- after the first k entries: those off the diagonal at the front, in order, and what stands behind them as it was
 unfoldable pub closedTo : Field → ℕ → Closing
 closedTo F k =
     closing

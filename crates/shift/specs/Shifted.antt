@@ -9,7 +9,7 @@ use Rattle.shift.specs.Closing.{closed}
 abbrev pub firstEntries : ℕ → Field → Field
 firstEntries m G = fieldOf (G .linear) (take m (G .rows)) (take m (G .cols)) (take m (G .quad))
 
--- the new field: "entries close up in place", "the new m is returned"
+-- the new field: the entries at the front, as many as are answered
 abbrev pub shifted : Field → Field
 shifted F = firstEntries (closed F .kept) (closed F .lists)
 

@@ -42,11 +42,11 @@ Left = any.Left Reduced Lent
 abbrev pub left : Reduced → Field → List ℕ → List Float → List ℕ → Left
 left r G l f u = any.left r (lent G l f u)
 
--- l at the front of a list as long as s, and z behind it: "places past the new ends are zero"
+-- l at the front of a list as long as s, and z behind it
 abbrev pub closedUp : {A : Type 0} → A → List A → List A → List A
 closedUp z l s = over l (cleared z s)
 
--- "It closes up within the caller's lists, using removed places again"
+-- the new field stands in the lists that were lent, with zeros behind it (rule 10.6)
 abbrev pub closedIn : Field → Field → Field
 closedIn G F = fieldOf (closedUp zero64 (G .linear) (F .linear)) (closedUp 0 (G .rows) (F .rows)) (closedUp 0 (G .cols) (F .cols)) (closedUp zero64 (G .quad) (F .quad))
 
@@ -58,7 +58,7 @@ firstOf n m G = fieldOf (take n (G .linear)) (take m (G .rows)) (take m (G .cols
 abbrev pub fits : List ℕ → List ℕ → Bool
 fits s l = leb (length (back s)) (length l)
 
--- the whole table: `openTests`, and "9 where the map list is too short"
+-- the whole table: `openTests`, and 9 where the map has fewer places than there are free variables
 abbrev pub subProblemTable : Field → List ℕ → List ℕ → ℕ → ℕ → List Test
 subProblemTable F s l floats words = openTests F s floats words ++ test Room (fits s l) ∷ []
 
@@ -67,7 +67,7 @@ unfoldable pub finished : Field → List ℕ → List ℕ → List Float → Lis
 finished F s l f u =
     left (Done (gradeOf F) (length (back s)) (length (stays F s)) (constant F s)) (closedIn (reduced F s) F) (over (back s) l) (cleared zero64 f) (cleared 0 u)
 
--- "Refusals: as for the closure, with 4 not tested, and 9 where the map list is too short, in which case the field is unchanged"; then the map list is all zeros
+-- the tests of `openTests`, then room for the map: on 9 the field is as it was, and the map list all zeros
 unfoldable pub subProblemCall : Field → List ℕ → List ℕ → List Float → List ℕ → Left
 subProblemCall F s l f u =
     called

@@ -22,7 +22,7 @@ restrict s x = map (λ i. getD x i 0) (back s)
 abbrev pub extend : List ℕ → List ℕ → List ℕ
 extend s y = upTo (λ i. cond (isFree s i) (getD y (newIndex s i) 0) (getD s i 0)) (length s)
 
--- "correspond one to one": there and back lead from each kind to the other, and undo each other
+-- one to one: there and back lead from each kind to the other, and undo each other
 pub record OneToOne (P Q : List ℕ → Type 0) (there back : List ℕ → List ℕ) : Type 0 where
   pub leads : {x : List ℕ} → P x → Q (there x)
   pub returns : {y : List ℕ} → Q y → P (back y)

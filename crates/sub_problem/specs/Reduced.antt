@@ -1,5 +1,5 @@
--- A field without its given variables (document 02, C-21): "the free variables renumbered in order, their entries, adjusted linear weights, the constant, and the map back".
--- "Additions go in the source's order": the entries first, in order, and c last. Assumes nothing.
+-- A field without its given variables: the free ones renumbered, their entries, their new weights, the constant and the map back (rules 10.3 to 10.5).
+-- A new weight takes the entries first, in order, and c last. Assumes nothing.
 use Prim.Native.Nat.{ℕ, zero, suc}
 use mathlib.Core.Bool.{Bool, cond, not, _&&_}
 use mathlib.Core.List.{List, map}
@@ -13,11 +13,11 @@ use Rattle.shift.specs.Picked.{picked}
 
 -- ---- the variables
 
--- "the map back": the free variables, rising
+-- the map back: the free variables, rising
 abbrev pub back : List ℕ → List ℕ
 back s = picked (isFree s) (length s)
 
--- "renumbered in order": how many free variables stand before i
+-- the new number of i: how many free variables stand before it
 abbrev pub newIndex : List ℕ → ℕ → ℕ
 newIndex s i = length (picked (isFree s) i)
 
@@ -60,7 +60,7 @@ unfoldable pub gatheredTo : Field → List ℕ → ℕ → List Float
 gatheredTo F s zero = replicate (variables F) zero64
 gatheredTo F s (suc k) = cond (loneAt F s k) (intoGathered F s k (gatheredTo F s k)) (gatheredTo F s k)
 
--- "adjusted linear weights": c last
+-- the new linear weight: c is added last
 unfoldable pub adjusted : Field → List ℕ → ℕ → Float
 adjusted F s i = add binary64 (getD (gatheredTo F s (entries F)) i nan) (linearOf F i)
 
@@ -81,7 +81,7 @@ withGiven c s x (suc i) = cond (isFree s i) (withGiven c s x i) (add binary64 (w
 abbrev pub constantTo : Field → List ℕ → ℕ → Float
 constantTo F s i = withGiven (F .linear) s (givenTo F s (entries F)) i
 
--- "the constant"
+-- the constant (rule 10.5)
 abbrev pub constant : Field → List ℕ → Float
 constant F s = constantTo F s (variables F)
 

@@ -1,4 +1,4 @@
--- The text of an answer (document 01, "The record program"), as bytes. Assumes nothing.
+-- The text of an answer (rules 13.4 to 13.6), as bytes. Assumes nothing.
 use Prim.Native.Nat.{ℕ, zero, suc, _+_, _/_, _%_, _≤_}
 use mathlib.Core.Path.{_≡_}
 use mathlib.Core.Bool.{Bool, not, _&&_, cond}

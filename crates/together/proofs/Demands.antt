@@ -1,4 +1,4 @@
--- All anchors at once (document 02, C-23), over the promises of the calls `anchors`, `closure`, `probe`, `probe_limited` and `pairs` alone. Assumes nothing.
+-- All anchors at once (rules 9.8 and 9.9), over the promises of the calls `anchors`, `closure`, `probe`, `probe_limited` and `pairs` alone. Assumes nothing.
 use Prim.Native.Nat.{ℕ, zero, suc, _-_, _<_}
 use mathlib.Core.Path.{_≡_, refl, sym, ap, _∙_}
 use mathlib.Core.Logic.{_≢_}
@@ -31,7 +31,7 @@ one-inside (v ∷ x) zero h = omega arith
 one-inside (v ∷ x) (suc i) h = omega (arith, one-inside x i h)
 
 module _ (F : Field) (s : List ℕ) (least : ℕ) (list : List ℕ) (f : List Float) (u : List ℕ) (k : ℕ) (e : anchorsCall F s least list f u .answer ≡ Counts grade.Exact k) where
-  -- C-23. On an exact field, for every choice of 0 or 1 at each of the listed anchors, some best completion makes all those choices at once,
+  -- On an exact field, for every choice of 0 or 1 at each of the listed anchors, some best completion makes all those choices at once,
   -- and obeys every gradient value, probe value, probe constraint and pair constraint found from the same start values.
   pub all-at-once : {unit : ℕ} → Serves unit F → (choice : ℕ → ℕ) → ((j : ℕ) → j < k → choice j < 2)
       → AllAtOnce unit F s (anchorsCall F s least list f u .lent .list) k choice

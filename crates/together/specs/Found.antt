@@ -1,4 +1,4 @@
--- What the calls find from a field and start values, whatever else they are lent (document 02, C-23). Assumes nothing.
+-- What the calls find from a field and start values, whatever else they are lent (rule 9.8). Assumes nothing.
 use Prim.Native.Nat.{ℕ}
 use mathlib.Core.Path.{_≡_}
 use mathlib.Core.List.{List, List·Memᴰ}

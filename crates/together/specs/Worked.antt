@@ -35,7 +35,7 @@ two = fin false 1 (pos 1)
 abbrev pub two-pairs : Field
 two-pairs = fieldOf (minus-half ∷ minus-half ∷ minus-half ∷ minus-half ∷ one ∷ []) (0 ∷ 2 ∷ []) (1 ∷ 3 ∷ []) (two ∷ two ∷ [])
 
--- document 01's swallowed rate beside case m: c=(-1,2^61,-2,-0.25,-0.5,-0.5), (0,1) -2^61, (0,2) 1, (0,3) 2, (4,5) 2
+-- the swallowed rate beside case m (rule 18.4): c=(-1,2^61,-2,-0.25,-0.5,-0.5), (0,1) -2^61, (0,2) 1, (0,3) 2, (4,5) 2
 abbrev pub swallowing : Field
 swallowing =
     fieldOf
@@ -44,7 +44,7 @@ swallowing =
     (1 ∷ 2 ∷ 3 ∷ 5 ∷ [])
     (fin true 1 (pos 61) ∷ one ∷ two ∷ two ∷ [])
 
--- "m. c=(-0.5,-0.5), (0,1) 2"
+-- case m: c=(-0.5,-0.5), (0,1) 2
 abbrev pub one-pair : Field
 one-pair = fieldOf (minus-half ∷ minus-half ∷ []) (0 ∷ []) (1 ∷ []) (two ∷ [])
 
@@ -72,7 +72,7 @@ anchored F s g l = record { field = F; start = s; grade = g; list = l }
 abbrev pub listings : List Listing
 listings =
     anchored two-pairs (free two-pairs) Exact (0 ∷ 2 ∷ [])
-    -- "a component with any start value .. has none"
+    -- a component with a start value has none
     ∷ anchored two-pairs (2 ∷ 1 ∷ 2 ∷ 2 ∷ 2 ∷ []) Exact (2 ∷ [])
     ∷ anchored swallowing (free swallowing) Inexact (4 ∷ [])
     ∷ anchored one-pair (free one-pair) Exact (0 ∷ [])

@@ -1,4 +1,4 @@
--- The swallowed rate over whole numbers: "a best completion is 1,0,1,0", and 0,0,1,1, which the closure gives, is none. Assumes nothing.
+-- The swallowed rate over whole numbers: 1,0,1,0 is a best completion, and 0,0,1,1, which the closure gives, is none. Assumes nothing.
 use Prim.Native.Nat.{ℕ, zero, suc, _<_}
 use mathlib.Core.Path.{_≡_, refl}
 use mathlib.Core.Logic.{_⊎_, inl, inr, ⊎-elim}
@@ -21,7 +21,7 @@ unfolding sum plus minus
 least y full =
     ⊎-elim (λ e. rw e (omega (arith, full 1, full 2, full 3))) (λ e. rw e (omega (arith, full 1, full 2, full 3))) (zero-or-one (getD y 0 0) (full 0))
 
--- "a best completion is 1,0,1,0"
+-- 1,0,1,0 is a best completion
 pub swallowed-best : Best rates free best
 swallowed-best = record {
   completion = record { extends = record { as-long = refl; kept = kept }; full = full };

@@ -1,4 +1,4 @@
--- Document 01's values worked by hand, cases a to n, those of document 02's requests, and others beside them: each names its call, what it is given, and its answer. Assumes nothing.
+-- The values worked by hand of rules 18.1 to 18.8, and others beside them: each names its call, what it is given, and its answer. Assumes nothing.
 use Prim.Native.Nat.{ℕ, _+_, _-_, _*_, _/_}
 use mathlib.Core.Bool.{true, false}
 use mathlib.Core.List.{List, [], _∷_, _++_}
@@ -98,51 +98,51 @@ pub data Case : Type 0 where
 
 -- ---- the list
 
--- "Equal(0,1), ExactlyOne(0,1)": 01 and 10, then 00 and 11
+-- Equal(0,1) and ExactlyOne(0,1): 01 and 10, then 00 and 11
 abbrev pub both : List ℕ
 both = 0 ∷ 1 ∷ 6 ∷ 0 ∷ 1 ∷ 9 ∷ []
 
 abbrev pub cases : List Case
 cases =
-    -- "a. n=0: nothing forced."
+    -- case a: nothing forced
     closes (alone []) Exact [] [] 0
-    -- "b. c=0: closure leaves 2; preprocess gives 0."
+    -- case b: the closure leaves 2, preprocess gives 0
     ∷ closes (alone (nought ∷ [])) Exact (2 ∷ []) (2 ∷ []) 1
     ∷ preprocesses (alone (nought ∷ [])) Exact (2 ∷ []) (0 ∷ [])
-    -- "c. c=0.5: 0. d. c=-0.5: 1."
+    -- cases c and d
     ∷ closes (alone (half ∷ [])) Exact (2 ∷ []) (0 ∷ []) 0
     ∷ closes (alone (minus-half ∷ [])) Exact (2 ∷ []) (1 ∷ []) 0
-    -- C-15: c=1/16 is exact, c=2^30+0.5 no longer
+    -- rules 2.3 and 2.9: c=1/16 is exact, c=2^30+0.5 no longer
     ∷ closes (alone (sixteenth ∷ [])) Exact (2 ∷ []) (0 ∷ []) 0
     ∷ closes (alone (above-limit ∷ [])) Inexact (2 ∷ []) (0 ∷ []) 0
-    -- "e. c=(0,0), (0,1) 2: lower exactly 0, nothing. f. (0,1) -2: upper exactly 0, nothing."
+    -- cases e and f: a bound of exactly 0, and nothing
     ∷ closes (joined (nought ∷ nought ∷ []) two) Exact (2 ∷ 2 ∷ []) (2 ∷ 2 ∷ []) 0
     ∷ closes (joined (nought ∷ nought ∷ []) minus-two) Exact (2 ∷ 2 ∷ []) (2 ∷ 2 ∷ []) 0
-    -- "g. c=(-5,-1), (0,1) 4: 1,0. h. the same with x0 given 0: 0,1."
+    -- case g, and case h with x0 given 0
     ∷ closes (joined (minus-five ∷ minus-one ∷ []) four) Exact (2 ∷ 2 ∷ []) (1 ∷ 0 ∷ []) 0
     ∷ closes (joined (minus-five ∷ minus-one ∷ []) four) Exact (0 ∷ 2 ∷ []) (0 ∷ 1 ∷ []) 0
-    -- "i. c=(-1,-1), (0,1) 4: probe gives ExactlyOne(0,1), no value; pairs give nothing."
+    -- case i: the probe gives ExactlyOne(0,1) and no value, pairs give nothing
     ∷ probes-all (joined (minus-one ∷ minus-one ∷ []) four) Exact (2 ∷ 2 ∷ []) (2 ∷ 2 ∷ []) (0 ∷ 1 ∷ 9 ∷ [])
     ∷ compares (joined (minus-one ∷ minus-one ∷ []) four) Exact (2 ∷ 2 ∷ []) [] 0 1
-    -- "j. c=(-1,-1), (0,1) 6: pairs give NoMoreThanOne(0,1)."
+    -- case j: pairs give NoMoreThanOne(0,1)
     ∷ compares (joined (minus-one ∷ minus-one ∷ []) six) Exact (2 ∷ 2 ∷ []) (0 ∷ 1 ∷ 8 ∷ []) 1 1
-    -- "k. Equal(0,1), ExactlyOne(0,1), x0=1: 10. l. Both, nothing given: done, unchanged."
+    -- case k: 10; case l: done, unchanged
     ∷ propagates (1 ∷ 2 ∷ []) both (Failed Clash) (1 ∷ 2 ∷ [])
     ∷ propagates (2 ∷ 2 ∷ []) both Passed (2 ∷ 2 ∷ [])
-    -- "m. c=(-0.5,-0.5), (0,1) 2: preprocess 1,0; anchor 0 at least size 2."
+    -- case m: preprocess 1,0, and the anchor 0 at least size 2
     ∷ preprocesses (joined (minus-half ∷ minus-half ∷ []) two) Exact (2 ∷ 2 ∷ []) (1 ∷ 0 ∷ [])
     ∷ anchors-at (joined (minus-half ∷ minus-half ∷ []) two) Exact (2 ∷ 2 ∷ []) 2 (0 ∷ [])
-    -- "n. c=(-1,-5), (0,1) 4: 0,1."
+    -- case n
     ∷ closes (joined (minus-one ∷ minus-five ∷ []) four) Exact (2 ∷ 2 ∷ []) (0 ∷ 1 ∷ []) 0
-    -- "c=(1e-10,0), no entries: no pair constraint."
+    -- c=(1e-10,0) without entries: no pair constraint
     ∷ compares at-tolerance Inexact (2 ∷ 2 ∷ []) [] 0 1
-    -- "The Rust forces 0,0,1,1, the port too, graded inexact"
+    -- the swallowed rate: 0,0,1,1, as the Rust has it, graded inexact
     ∷ closes swallowing Inexact (2 ∷ 2 ∷ 2 ∷ 2 ∷ []) (0 ∷ 0 ∷ 1 ∷ 1 ∷ []) 0
     -- enumerated, the same field gives the best completion
     ∷ completes swallowing Inexact (2 ∷ 2 ∷ 2 ∷ 2 ∷ []) (1 ∷ 0 ∷ 1 ∷ 0 ∷ [])
-    -- "Merging (i,j) with (j,i) in the gradient: the source bounds them one by one."
+    -- (i,j) and (j,i) are not merged in a row: each is bounded by itself
     ∷ closes opposed Exact (2 ∷ 2 ∷ []) (2 ∷ 2 ∷ []) 0
-    -- "a start value of 1 is kept in the answer"
+    -- a given 1 stays, at a variable of no effect too
     ∷ preprocesses (alone (nought ∷ [])) Exact (1 ∷ []) (1 ∷ [])
     -- preprocess leaves heavy's first round nothing; eleven variables need a second one
     ∷ rounds (joined (minus-half ∷ minus-half ∷ []) two) Exact (2 ∷ 2 ∷ []) (1 ∷ 0 ∷ [])
@@ -151,7 +151,7 @@ cases =
     ∷ completes (joined (minus-half ∷ minus-half ∷ []) two) Exact (2 ∷ 2 ∷ []) (1 ∷ 0 ∷ [])
     -- a given variable parts two others, and its value counts in their linear parts
     ∷ completes parted Exact (2 ∷ 1 ∷ 2 ∷ []) (1 ∷ 1 ∷ 1 ∷ [])
-    -- "Bit order is pop order": 1 and 2 are alike, and the last in, 2, has the lower bit
+    -- bits are in pop order: 1 and 2 are alike, and the last in, 2, has the lower bit
     ∷ completes popped Exact (2 ∷ 2 ∷ 2 ∷ []) (0 ∷ 0 ∷ 1 ∷ [])
     -- what a given variable adds is summed into one linear term first, where large weights swallow small ones
     ∷ completes one-term Inexact (2 ∷ 2 ∷ 1 ∷ []) (0 ∷ 0 ∷ 1 ∷ [])
@@ -170,11 +170,11 @@ cases =
     ∷ anchors-at (joined (minus-half ∷ minus-half ∷ []) two) Exact (2 ∷ 0 ∷ []) 2 []
     ∷ anchors-at with-zero Exact (2 ∷ 2 ∷ 2 ∷ []) 0 (0 ∷ 2 ∷ [])
     ∷ anchors-at unbalanced Inexact (2 ∷ 2 ∷ 2 ∷ []) 0 []
-    -- a sum of two parts that comes to 0, an overflow of 4c, and "2q on the diagonal"
+    -- a sum of two parts that comes to 0, an overflow of 4c, and 2q on the diagonal
     ∷ anchors-at two-parts Inexact (2 ∷ 2 ∷ 2 ∷ []) 0 (0 ∷ [])
     ∷ anchors-at overflowing Inexact (2 ∷ 2 ∷ []) 0 []
     ∷ anchors-at on-diagonal Inexact (2 ∷ []) 1 (0 ∷ [])
-    -- C-12, places as (row,column). n=2: (0,1) (2,0) is 14 at 1; (5,7) is 14 at 0, the row before the column; (0,9) is 15 at 0
+    -- the first entry at fault, places as (row,column). n=2: (0,1) (2,0) is 14 at 1; (5,7) is 14 at 0, the row before the column; (0,9) is 15 at 0
     ∷ refuses (placed 2 (0 ∷ 2 ∷ []) (1 ∷ 0 ∷ [])) (Row 1)
     ∷ refuses (placed 2 (5 ∷ []) (7 ∷ [])) (Row 0)
     ∷ refuses (placed 2 (0 ∷ []) (9 ∷ [])) (Column 0)
@@ -185,21 +185,21 @@ cases =
     -- n=3: (0,1) (0,1) (3,0) is 16 at 1, the first entry at fault; n=0: (0,0) is 14 at 0
     ∷ refuses (placed 3 (0 ∷ 0 ∷ 3 ∷ []) (1 ∷ 1 ∷ 0 ∷ [])) (Repeat 1)
     ∷ refuses (placed 0 (0 ∷ []) (0 ∷ [])) (Row 0)
-    -- C-13, flat rows: under a stored zero, after a neighbour was forced, none of a given variable, and one that the run's rows have and fresh ones have not
+    -- flat rows: under a stored zero, after a neighbour was forced, none of a given variable, and one that the run's rows have and fresh ones have not
     ∷ closes (joined (nought ∷ nought ∷ []) nought) Exact (2 ∷ 2 ∷ []) (2 ∷ 2 ∷ []) 2
     ∷ closes (joined (minus-five ∷ minus-one ∷ []) two) Exact (2 ∷ 2 ∷ []) (1 ∷ 2 ∷ []) 1
     ∷ closes (alone (nought ∷ [])) Exact (0 ∷ []) (0 ∷ []) 0
     ∷ closes cancelling Inexact (2 ∷ 2 ∷ []) (2 ∷ 0 ∷ []) 1
-    -- C-11, bounds in half units of 2^-20, which are halves times 2^20. Case g: x0 upper, none, -6; x1 lower, x0, 2
+    -- reasons, bounds in half units of 2^-20, which are halves times 2^20. Case g: x0 upper, none, -6; x1 lower, x0, 2
     ∷ explains (joined (minus-five ∷ minus-one ∷ []) four) (2 ∷ 2 ∷ []) 0 (Upper (fin true 3 (pos 21))) 0 []
     ∷ explains (joined (minus-five ∷ minus-one ∷ []) four) (2 ∷ 2 ∷ []) 1 (Lower (fin false 1 (pos 21))) 0 (0 ∷ [])
     -- case h: x1 upper, x0, -2; x0 given
     ∷ explains (joined (minus-five ∷ minus-one ∷ []) four) (0 ∷ 2 ∷ []) 1 (Upper (fin true 1 (pos 21))) 0 (0 ∷ [])
     ∷ explains (joined (minus-five ∷ minus-one ∷ []) four) (0 ∷ 2 ∷ []) 0 Given 0 []
-    -- "with all entries to them so counted": 3, where the run had 2; "forced earlier in the run", but not while it waits: x0 alone, 2
+    -- the bound with all entries to the listed so counted: 3, where the run had 2; a variable forced earlier is not listed while it waits: x0 alone, 2
     ∷ explains both-ways (2 ∷ 2 ∷ []) 1 (Lower (fin false 3 (pos 20))) 0 (0 ∷ [])
     ∷ explains waiting (2 ∷ 2 ∷ 2 ∷ []) 2 (Lower (fin false 1 (pos 21))) 0 (0 ∷ [])
-    -- "at any entry", a stored zero too: x0 upper, x1, -2
+    -- a stored zero lists its neighbour too: x0 upper, x1, -2
     ∷ explains (joined (minus-one ∷ nought ∷ []) nought) (2 ∷ 1 ∷ []) 0 (Upper (fin true 1 (pos 21))) 0 (1 ∷ [])
     -- in a coarse unit, 2^10: -2^40 is -2^31 half units
     ∷ explains (alone (heavy-rate ∷ [])) (2 ∷ []) 0 (Upper (fin true 1 (pos 31))) 30 []
@@ -207,13 +207,13 @@ cases =
     ∷ explains-none (joined (nought ∷ nought ∷ []) two) (2 ∷ 2 ∷ []) 0 Unforced
     ∷ explains-none (alone []) [] 0 Unforced
     ∷ explains-none swallowing (2 ∷ 2 ∷ 2 ∷ 2 ∷ []) 0 NotExact
-    -- C-16, each mask's terms added afresh: c=(-MAX,-MAX) is minus infinity at mask 3 alone; c=(-0.0) is 0.0 at mask 1 too, and mask 0 wins
+    -- each mask's terms added afresh: c=(-MAX,-MAX) is minus infinity at mask 3 alone; c=(-0.0) is 0.0 at mask 1 too, and mask 0 wins
     ∷ completes (joined (least ∷ least ∷ []) nought) Inexact (2 ∷ 2 ∷ []) (1 ∷ 1 ∷ [])
     ∷ completes (alone (minus-nought ∷ [])) Exact (2 ∷ []) (0 ∷ [])
     -- c=(2^53,1,-2^53): mask 4 before mask 6 at -2^53 + 1; c=(1e308,1e308,-1e308): mask 4, with masks 3 and 7 infinite
     ∷ completes (in-chain (fin false 1 (pos 53) ∷ one ∷ fin true 1 (pos 53) ∷ [])) Inexact (2 ∷ 2 ∷ 2 ∷ []) (0 ∷ 0 ∷ 1 ∷ [])
     ∷ completes (in-chain (huge ∷ huge ∷ minus-huge ∷ [])) Inexact (2 ∷ 2 ∷ 2 ∷ []) (0 ∷ 0 ∷ 1 ∷ [])
-    -- C-17: what both probes of two variables say is one record, and what both differences of a pair give is one
+    -- one record for one pair: what both probes of two variables say is one record, and what both differences of a pair give is one
     ∷ probes-all (joined (one ∷ nought ∷ []) minus-two) Exact (2 ∷ 2 ∷ []) (2 ∷ 2 ∷ []) (0 ∷ 1 ∷ 4 ∷ [])
     ∷ compares (joined (minus-five ∷ minus-one ∷ []) four) Exact (2 ∷ 2 ∷ []) (0 ∷ 1 ∷ 3 ∷ []) 1 1
     -- three pairs of values on an exact field, and all four on an inexact one; on both the value x0 = 0 is found besides
@@ -233,7 +233,7 @@ cases =
     ∷ argues (2 ∷ 2 ∷ []) (0 ∷ 1 ∷ 0 ∷ [])
     ∷ argues (2 ∷ 2 ∷ []) (0 ∷ 1 ∷ 16 ∷ [])
     ∷ argues (2 ∷ 2 ∷ []) (0 ∷ 2 ∷ 6 ∷ [])
-    -- C-21: case g with x0=1, an entry of each kind with x1=1, a diagonal that stays and one that goes, all given
+    -- the smaller problem: case g with x0=1, an entry of each kind with x1=1, a diagonal that stays and one that goes, all given
     ∷ reduces (joined (minus-five ∷ minus-one ∷ []) four) Exact (1 ∷ 2 ∷ []) (alone (one ∷ [])) minus-five (1 ∷ [])
     ∷ reduces crossed Exact (2 ∷ 1 ∷ 2 ∷ []) (joined (minus-two ∷ seven ∷ []) minus-six) minus-one (0 ∷ 2 ∷ [])
     ∷ reduces on-both-diagonals Inexact (1 ∷ 2 ∷ []) (fieldOf (two ∷ []) (0 ∷ []) (0 ∷ []) (six ∷ [])) three (1 ∷ [])
@@ -243,7 +243,7 @@ cases =
     ∷ reduces (joined (limit ∷ nought ∷ []) one) Exact (2 ∷ 1 ∷ []) (alone (above-limit ∷ [])) nought (0 ∷ [])
     -- two free variables, and a map list of one place
     ∷ lacks-room (joined (minus-five ∷ minus-one ∷ []) four) (2 ∷ 2 ∷ []) (7 ∷ [])
-    -- C-19: made; x1 pinned at 0; pinned again; released; another pinned, and a free one released
+    -- a kept record: made; x1 pinned at 0; pinned again; released; another pinned, and a free one released
     ∷ keeps edited (2 ∷ 2 ∷ 2 ∷ []) [] [] (kept (2 ∷ 2 ∷ 2 ∷ []) (minus-one ∷ minus-six ∷ minus-half ∷ one ∷ minus-three ∷ half ∷ []) 1) 0 (0 ∷ 1 ∷ 1 ∷ [])
     ∷ keeps edited (2 ∷ 2 ∷ 2 ∷ []) (pin 1 0 ∷ []) (0 ∷ []) (kept (2 ∷ 0 ∷ 2 ∷ []) (minus-one ∷ nought ∷ half ∷ minus-one ∷ nought ∷ half ∷ []) 2) 0 (1 ∷ 0 ∷ 0 ∷ [])
     ∷ keeps edited (2 ∷ 2 ∷ 2 ∷ []) (pin 1 0 ∷ pin 1 0 ∷ []) (0 ∷ 7 ∷ []) (kept (2 ∷ 0 ∷ 2 ∷ []) (minus-one ∷ nought ∷ half ∷ minus-one ∷ nought ∷ half ∷ []) 2) 0 (1 ∷ 0 ∷ 0 ∷ [])
@@ -252,7 +252,7 @@ cases =
     -- a bound of 0 is stored as 0.0; an inexact field has no record
     ∷ keeps (joined (minus-nought ∷ one ∷ []) minus-four) (2 ∷ 2 ∷ []) (pin 1 0 ∷ []) (0 ∷ []) (kept (2 ∷ 0 ∷ []) (nought ∷ nought ∷ nought ∷ nought ∷ []) 0) 1 (2 ∷ 0 ∷ [])
     ∷ keeps-none swallowing (2 ∷ 2 ∷ 2 ∷ 2 ∷ []) NotExact
-    -- C-18: out of order; a repeat; an entry outside, and a lone -0.0; all of them, with a sum that rounds at each step: (5 + 2^53) + 1
+    -- a mended list: out of order; a repeat; an entry outside, and a lone -0.0; all of them, with a sum that rounds at each step: (5 + 2^53) + 1
     ∷ mends (listed 2 (0 ∷ 1 ∷ []) (1 ∷ 0 ∷ []) (one ∷ two ∷ [])) Exact (listed 2 (1 ∷ 0 ∷ []) (0 ∷ 1 ∷ []) (two ∷ one ∷ [])) (0 ∷ 1 ∷ 1 ∷ 1 ∷ 1 ∷ 0 ∷ [])
     ∷ mends (listed 2 (0 ∷ 0 ∷ []) (1 ∷ 1 ∷ []) (one ∷ two ∷ [])) Exact (listed 2 (0 ∷ []) (1 ∷ []) (three ∷ [])) (1 ∷ 2 ∷ 0 ∷ [])
     ∷ mends (listed 2 (5 ∷ 1 ∷ 0 ∷ []) (0 ∷ 0 ∷ 1 ∷ []) (one ∷ three ∷ minus-nought ∷ [])) Exact (listed 2 (1 ∷ 0 ∷ []) (0 ∷ 1 ∷ []) (three ∷ minus-nought ∷ []))
@@ -263,7 +263,7 @@ cases =
     ∷ overflows (listed 2 (1 ∷ 1 ∷ 1 ∷ []) (0 ∷ 0 ∷ 0 ∷ []) (huge ∷ huge ∷ minus-huge ∷ []))
     ∷ mends (listed 2 (9 ∷ 9 ∷ []) (9 ∷ 9 ∷ []) (huge ∷ huge ∷ [])) Exact (listed 2 [] [] []) (0 ∷ 0 ∷ 65535 ∷ 1 ∷ 0 ∷ 65535 ∷ [])
     ∷ lacks-report (listed 2 (0 ∷ 1 ∷ []) (1 ∷ 0 ∷ []) (one ∷ two ∷ [])) (7 ∷ 7 ∷ 7 ∷ 9 ∷ [])
-    -- C-14: both routes force x0, whose row is made afresh; both keep a rounding in row 0, whose term the run itself takes out; both probes of case i
+    -- both routes of a probe (rule 18.6): both force x0, whose row is made afresh; both keep a rounding in row 0, whose term the run itself takes out; both probes of case i
     ∷ probes-one feared Inexact (2 ∷ 2 ∷ []) 1 0 (0 ∷ 0 ∷ [])
     ∷ probes-fast feared Inexact (2 ∷ 2 ∷ []) 1 0 (0 ∷ 0 ∷ [])
     ∷ probes-one feared Inexact (2 ∷ 2 ∷ []) 1 1 (1 ∷ 1 ∷ [])
@@ -272,7 +272,7 @@ cases =
     ∷ probes-fast staying Inexact (2 ∷ 2 ∷ 2 ∷ []) 2 0 (2 ∷ 0 ∷ 0 ∷ [])
     ∷ probes-fast (joined (minus-one ∷ minus-one ∷ []) four) Exact (2 ∷ 2 ∷ []) 0 0 (0 ∷ 1 ∷ [])
     ∷ probes-fast (joined (minus-one ∷ minus-one ∷ []) four) Exact (2 ∷ 2 ∷ []) 0 1 (1 ∷ 0 ∷ [])
-    -- C-20, "Equal and ExactlyOne on one pair", in two records or in one; ExactlyOne alone
+    -- what records allow: Equal and ExactlyOne on one pair, in two records or in one; ExactlyOne alone
     ∷ allows 2 both (No 0) (2 ∷ 2 ∷ []) (4 ∷ 4 ∷ 4 ∷ 4 ∷ [])
     ∷ allows 2 (0 ∷ 1 ∷ 15 ∷ []) (No 0) (2 ∷ 2 ∷ []) (4 ∷ 4 ∷ 4 ∷ 4 ∷ [])
     ∷ allows 2 (0 ∷ 1 ∷ 9 ∷ []) Yes (0 ∷ 1 ∷ []) (2 ∷ 2 ∷ 2 ∷ 2 ∷ [])

@@ -96,7 +96,7 @@ alone c = fieldOf c [] [] []
 abbrev pub joined : List Float → Float → Field
 joined c q = fieldOf c (0 ∷ []) (1 ∷ []) (q ∷ [])
 
--- "c=(-1,-1), (0,1) 4" beside a third variable without entries
+-- case i, c=(-1,-1), (0,1) 4, beside a third variable without entries
 abbrev pub apart : Field
 apart = joined (minus-one ∷ minus-one ∷ minus-one ∷ []) four
 
@@ -104,7 +104,7 @@ apart = joined (minus-one ∷ minus-one ∷ minus-one ∷ []) four
 abbrev pub opposed : Field
 opposed = fieldOf (minus-one ∷ two ∷ []) (1 ∷ 0 ∷ []) (0 ∷ 1 ∷ []) (four ∷ fin true 1 (pos 2) ∷ [])
 
--- "the swallowed rate: c=(-1, 2^61, -2, -0.25), entries (0,1) -2^61, (0,2) 1, (0,3) 2"
+-- the swallowed rate (rule 18.3): c=(-1, 2^61, -2, -0.25), entries (0,1) -2^61, (0,2) 1, (0,3) 2
 abbrev pub swallowing : Field
 swallowing =
     fieldOf
@@ -249,6 +249,6 @@ crossed = fieldOf (minus-five ∷ minus-one ∷ three ∷ []) (1 ∷ 0 ∷ 0 ∷
 abbrev pub on-both-diagonals : Field
 on-both-diagonals = fieldOf (one ∷ two ∷ []) (0 ∷ 1 ∷ []) (0 ∷ 1 ∷ []) (four ∷ six ∷ [])
 
--- C-19's three variables: (0,1) 4, (1,2) -2
+-- three variables for a kept record: (0,1) 4, (1,2) -2
 abbrev pub edited : Field
 edited = fieldOf (minus-one ∷ minus-five ∷ half ∷ []) (0 ∷ 1 ∷ []) (1 ∷ 2 ∷ []) (four ∷ minus-two ∷ [])

@@ -13,10 +13,10 @@ rates = wholeOf 1072 swallowing
 abbrev pub free : List ℕ
 free = 2 ∷ 2 ∷ 2 ∷ 2 ∷ []
 
--- "a best completion is 1,0,1,0"
+-- 1,0,1,0, which is a best completion
 abbrev pub best : List ℕ
 best = 1 ∷ 0 ∷ 1 ∷ 0 ∷ []
 
--- "The Rust forces 0,0,1,1"
+-- 0,0,1,1, which the closure leaves, as the Rust does
 abbrev pub forced : List ℕ
 forced = 0 ∷ 0 ∷ 1 ∷ 1 ∷ []

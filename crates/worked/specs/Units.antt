@@ -1,4 +1,4 @@
--- The units that serve some fields (document 02, C-15). Assumes nothing.
+-- The units that serve some fields (rules 2.2 to 2.4). Assumes nothing.
 use Prim.Native.Nat.{ℕ, zero, suc, _+_}
 use mathlib.Core.Bool.{false, cond}
 use mathlib.Core.List.{List, [], _∷_}

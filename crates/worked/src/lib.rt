@@ -1,1 +1,1 @@
-// Document 01's values worked by hand: a list of cases and one theorem, and no code.
+// Values worked by hand: a list of cases and one theorem, and no code.

@@ -1,4 +1,4 @@
--- `tests` makes tests 1, 2, 3 and 5, then 8. Assumes nothing.
+-- `tests` makes tests 1, 2, 14 to 17 and 5, then 8. Assumes nothing.
 use mathlib.Core.Path.{sym, _∙_}
 use native.Mathlib.Omega.{arith}
 use borrow.Author.Tests.{not-true, not-false}
