@@ -42,7 +42,7 @@ module _ (n : ℕ) (list a c w u : List ℕ) (done : (r : Refusal) → allowCall
   fits : Fits n (rules list)
   fits = rules-fit (records list) (ends n list a c w u done)
 
-  -- Propagation from the literal alone answers 10 exactly if the literal reaches its other value.
+  -- Theorem. Propagation from the literal alone answers 10 exactly if the literal reaches its other value.
   pub alone-clash : (propagateCall s list u′ .answer ≡ Failed Clash) ↔ Reach (rules list) i v i (1 - v)
   alone-clash =
       let t = propagation.clash-when s list u′ in
@@ -50,20 +50,20 @@ module _ (n : ℕ) (list a c w u : List ℕ) (done : (r : Refusal) → allowCall
       ((λ e. z .0 (t .0 e .1)), λ r. t .1 (ready, z .1 r))
 
   module _ (free : Reach (rules list) i v i (1 - v) → ⊥) where
-    -- Otherwise it is done,
+    -- Theorem. Otherwise propagation from the literal alone is done.
     pub alone-done : propagateCall s list u′ .answer ≡ Passed
     alone-done = propagation.done-when s list u′ .1 (ready, λ b. free (clash-exactly fits alone (rules-turn (records list)) .0 b))
 
     settled : Settled (rules list) s (propagateCall s list u′ .lent .values)
     settled = propagation.values-settle s list u′ alone-done
 
-    -- the values are exactly those of the literals that it reaches,
+    -- Theorem. Its values are then exactly those of the literals that the literal reaches.
     pub alone-values : (j x : ℕ) → j < n → x < 2 → (getD (propagateCall s list u′ .lent .values) j 0 ≡ x) ↔ Reach (rules list) i v j x
     alone-values j x hj hx = (
       λ e. ⊎-elim (λ z. absurd (omega arith)) (λ h. holds-reach fits alone (rw e at h)) (settled .only j (omega (arith, settled .as-long, alone .as-long))),
       λ r. settled .has j x (reach-holds fits alone r),
     )
 
-    -- and as many as the call counts.
+    -- Theorem. They are as many as the call counts for the literal.
     pub alone-count : countAt n list a c w u i v + frees (propagateCall s list u′ .lent .values) ≡ n
     alone-count = rw (count-is n list a c w u done i v (alone .below) (alone .small)) (settled-count fits alone settled)

@@ -39,7 +39,7 @@ use Rattle.allow.proofs.Choosing.{counts-length}
 use Rattle.allow.proofs.Counts.{counts-at}
 use Rattle.allow.proofs.Means.{ready-is, fits-is, short-is, never-room}
 
--- any two results that the promise permits are equal
+-- Theorem. Any two results that the promise permits are equal.
 pub one-result : (n : ℕ) (list a c w u : List ℕ) (x y : Left) → x ≡ allowCall n list a c w u → y ≡ allowCall n list a c w u → x ≡ y
 one-result n list a c w u = any.one-result (allowCall n list a c w u)
 
@@ -79,17 +79,17 @@ module _ (n : ℕ) (list a c w u : List ℕ) where
   apart : (r : Refusal) → allowedOf (rules list) n ≡ Refuses r → ⊥
   apart = done-apart (rules list) n
 
-  -- The call is refused with r exactly if the tests before r's own pass, and its own fails; 9 is tested last.
+  -- Theorem. The call is refused with r exactly if the tests before r's own pass, and its own fails; 9 is tested last.
   pub refused-when : (r : Refusal) → (allowCall n list a c w u .answer ≡ Refuses r) ↔ FirstToFail (allowTable n list (length a) (length c) (length w) (length u)) r
   unfolding allowCall allowTable table
   refused-when = usual.refused-when Refuses _ _ _ _ same-refuses apart refl
 
-  -- A refusal before 9 changes nothing lent ..
+  -- Theorem. A refusal before 9 changes nothing lent.
   pub refused-leaves : (r : Refusal) → r ≢ Room → allowCall n list a c w u .answer ≡ Refuses r → allowCall n list a c w u ≡ left (Refuses r) a c w u
   unfolding allowCall
   refused-leaves r d e = usual.refused-leaves Refuses _ _ _ _ same-refuses apart r (other-stage d no-stage) e
 
-  -- .. and 9 is given exactly if the tests before it pass and an answer list is too short,
+  -- Theorem. 9 is given exactly if the tests before it pass and an answer list is too short.
   pub room-when : (allowCall n list a c w u .answer ≡ Refuses Room) ↔ (Ready n list (length w) (length u) × ((length a < n) ⊎ (length c < 2 * n)))
   unfolding allowCall
   room-when =
@@ -98,7 +98,7 @@ module _ (n : ℕ) (list a c w u : List ℕ) where
       let q = short-is n (length a) (length c) in
       ((λ e. (p .0 (t .0 e .0), q .0 (t .0 e .1))), λ h. t .1 (p .1 (h .0), q .1 (h .1)))
 
-  -- and leaves both answer lists all zeros, and both scratches.
+  -- Theorem. On 9 both answer lists and both scratches are all zeros.
   pub room-leaves : allowCall n list a c w u .answer ≡ Refuses Room → allowCall n list a c w u ≡ left (Refuses Room) (cleared 0 a) (cleared 0 c) (cleared 0 w) (cleared 0 u)
   unfolding allowCall
   room-leaves e = usual.later-leaves Refuses _ _ _ _ same-refuses apart Room _ (never-room n list (length w) (length u)) (this-stage no-stage) e
@@ -121,16 +121,16 @@ module _ (n : ℕ) (list a c w u : List ℕ) where
     pub ends : Ends n (records list)
     ends = listed-ends (all-pass .0 .listed)
 
-  -- It is done exactly if the number of variables, the records and both scratches are as the table asks and both answer lists have room.
+  -- Theorem. It is done exactly if the number of variables, the records and both scratches are as the table asks and both answer lists have room.
   pub done-when : ((r : Refusal) → allowCall n list a c w u .answer ≡ Refuses r → ⊥) ↔ (Ready n list (length w) (length u) × ((n ≤ length a) × (2 * n ≤ length c)))
   done-when = (all-pass, λ h r e. apart r (sym (passed .1 h) ∙ e))
 
   module _ (done : (r : Refusal) → allowCall n list a c w u .answer ≡ Refuses r → ⊥) where
-    -- Then both scratches are all zeros,
+    -- Theorem. When it is done, both scratches are all zeros.
     pub done-leaves : allowCall n list a c w u ≡ left (allowCall n list a c w u .answer) (allowCall n list a c w u .lent .assignment) (allowCall n list a c w u .lent .counts) (cleared 0 w) (cleared 0 u)
     done-leaves = rw (all-left done)
 
-    -- and what stands past the n values and the 2n counts is unchanged.
+    -- Theorem. What stands past the n values and the 2n counts is unchanged.
     pub past-unchanged : (drop n (allowCall n list a c w u .lent .assignment) ≡ drop n a) × (drop (2 * n) (allowCall n list a c w u .lent .counts) ≡ drop (2 * n) c)
     unfolding countsOf
     past-unchanged = rw (all-left done) (over-rest _ a (assigned-length (rules list) n), over-rest _ c (counts-length (reaches (rules list) n) (2 * n) (2 * n)))
@@ -143,7 +143,7 @@ module _ (n : ℕ) (list a c w u : List ℕ) where
         ∙ over-at (countsOf (rules list) n) c (2 * i + v) 0 (omega (arith, counts-length (reaches (rules list) n) (2 * n) (2 * n)))
         ∙ counts-at (reaches (rules list) n) (2 * n) (2 * n) (2 * i + v) (omega arith)
 
-    -- The count of literal (i, v) is the number of literals that it reaches.
+    -- Theorem. The count of literal (i, v) is the number of literals that it reaches.
     pub counts-reached : (i v : ℕ) → i < n → v < 2 → CountIs (λ b. Reach (rules list) i v (b / 2) (b % 2)) (2 * n) (countAt n list a c w u i v)
     unfolding countsOf
     counts-reached i v hi hv =
@@ -171,7 +171,7 @@ module _ (n : ℕ) (list a c w u : List ℕ) where
   no-apart i r e = let z : _≡_ {A = ℕ} 0 1 = cc in omega arith
 
   module _ (e : allowCall n list a c w u .answer ≡ Yes) where
-    -- Yes comes with the least assignment that meets every record:
+    -- Theorem. Yes comes with the least assignment that meets every record:
     -- each variable, in rising order, is 0 wherever some assignment with the earlier choices still allows it.
     pub yes-least : Least (records list) n (assigned n list a c w u)
     yes-least = go (answered e yes-apart)
@@ -179,12 +179,12 @@ module _ (n : ℕ) (list a c w u : List ℕ) where
         go : {l : List ℕ} → Answers (rules list) n Yes l → Least (records list) n l
         go (is-yes h) = picked-least (records list) (ends (done e yes-apart)) h
 
-    -- a variable is 0 exactly where some assignment with the earlier choices is 0 there,
+    -- Theorem. With yes, a variable is 0 exactly where some assignment with the earlier choices is 0 there.
     pub yes-zero : (i : ℕ) → i < n
         → (getD (assigned n list a c w u) i 0 ≡ 0) ↔ ((y : List ℕ) × (MeetsAll (records list) n y × (SameBelow i (assigned n list a c w u) y × (getD y i 0 ≡ 0))))
     yes-zero = least-zero yes-least
 
-    -- and no other assignment is such.
+    -- Theorem. No other assignment is the least.
     pub yes-one : {x : List ℕ} → Least (records list) n x → x ≡ assigned n list a c w u
     yes-one h = least-one h yes-least
 
@@ -195,23 +195,23 @@ module _ (n : ℕ) (list a c w u : List ℕ) where
         go : {j : ℕ} {l : List ℕ} → Answers (rules list) n (No j) l → (j ≡ named (rules list) n) × (j < n) × (l ≡ replicate n 2)
         go (is-no h) = (refl, h, refl)
 
-    -- No names a variable each of whose literals reaches the other,
+    -- Theorem. No names a variable each of whose literals reaches the other.
     pub no-contradictory : (i < n) × Contradictory (rules list) i
     no-contradictory = (no-named .1, rw (no-named .0) (named-both (records list) (ends (done e (no-apart i))) (omega (arith, no-named .0, no-named .1))))
 
-    -- the lowest one,
+    -- Theorem. No variable below the one named has literals that reach each other.
     pub no-lowest : (j : ℕ) → j < i → Contradictory (rules list) j → ⊥
     no-lowest j h = named-lowest (records list) (ends (done e (no-apart i))) j (omega (arith, no-named .0))
 
-    -- with 2 for every variable;
+    -- Theorem. No comes with 2 for every variable.
     pub no-twos : assigned n list a c w u ≡ replicate n 2
     no-twos = no-named .2
 
-    -- and no assignment meets every record.
+    -- Theorem. With no, no assignment meets every record.
     pub no-none : (x : List ℕ) → MeetsAll (records list) n x → ⊥
     no-none = named-none (records list) (ends (done e (no-apart i))) (omega (arith, no-named .0, no-named .1))
 
-  -- Yes is answered exactly if nothing is refused and some assignment meets every record.
+  -- Theorem. Yes is answered exactly if nothing is refused and some assignment meets every record.
   pub yes-when : (allowCall n list a c w u .answer ≡ Yes)
       ↔ (((r : Refusal) → allowCall n list a c w u .answer ≡ Refuses r → ⊥) × ((x : List ℕ) × MeetsAll (records list) n x))
   yes-when = (λ e. (done e yes-apart, (assigned n list a c w u, yes-least e .meets-all)), λ h. go (allowCall n list a c w u .answer) refl (h .0) (h .1))
@@ -221,7 +221,7 @@ module _ (n : ℕ) (list a c w u : List ℕ) where
       go (No i) e d s = absurd (no-none e (s .0) (s .1))
       go (Refuses r) e d s = absurd (d r e)
 
-  -- Where nothing is refused and none does, it is no.
+  -- Theorem. Where nothing is refused and none does, it is no.
   pub no-when : ((r : Refusal) → allowCall n list a c w u .answer ≡ Refuses r → ⊥) → ((x : List ℕ) → MeetsAll (records list) n x → ⊥) → (i : ℕ) × (allowCall n list a c w u .answer ≡ No i)
   no-when d h = go (allowCall n list a c w u .answer) refl
     where
@@ -230,7 +230,7 @@ module _ (n : ℕ) (list a c w u : List ℕ) where
       go (No i) e = (i, refl)
       go (Refuses r) e = absurd (d r e)
 
-  -- Yes is answered exactly if nothing is refused and no variable has literals that reach each other,
+  -- Theorem. Yes is answered exactly if nothing is refused and no variable has literals that reach each other.
   pub yes-never : (allowCall n list a c w u .answer ≡ Yes)
       ↔ (((r : Refusal) → allowCall n list a c w u .answer ≡ Refuses r → ⊥) × ((i : ℕ) → i < n → Contradictory (rules list) i → ⊥))
   yes-never = (
@@ -238,7 +238,7 @@ module _ (n : ℕ) (list a c w u : List ℕ) where
     λ h. yes-when .1 (h .0, allowed-exactly (records list) (ends (h .0)) .1 (h .1)),
   )
 
-  -- and no with i exactly if nothing is refused and i is the lowest variable each of whose literals reaches the other.
+  -- Theorem. No with i is answered exactly if nothing is refused and i is the lowest variable each of whose literals reaches the other.
   pub no-exactly : {i : ℕ} → (allowCall n list a c w u .answer ≡ No i)
       ↔ (((r : Refusal) → allowCall n list a c w u .answer ≡ Refuses r → ⊥) × ((i < n) × (Contradictory (rules list) i × ((j : ℕ) → j < i → Contradictory (rules list) j → ⊥))))
   no-exactly {i} = (

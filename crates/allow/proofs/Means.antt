@@ -18,7 +18,7 @@ use Rattle.constraints.specs.Record.{room}
 use Rattle.propagation.proofs.Means.{listed-is}
 use Rattle.allow.specs.Call.{allowTests, Ready, fits}
 
--- 1, 7 and 8
+-- Theorem. 1, 7 and 8 pass exactly if the variables are few, the records fit and both scratches are long enough.
 pub ready-is : (n : ℕ) (list : List ℕ) (longs words : ℕ) → (tested (allowTests n list longs words) ≡ Passed) ↔ Ready n list longs words
 unfolding allowTests wordsFit
 ready-is n list longs words =

@@ -13,7 +13,7 @@ use Rattle.allow.specs.declared.Allowed.the-variants.{Yes, No}
 abbrev pub named : List Implication → ℕ → ℕ
 named E n = firstContradictory (reaches E n) n
 
--- no where there is one, else yes
+-- The answer: no with the lowest variable each of whose literals reaches the other, and yes where there is none.
 unfoldable pub allowedOf : List Implication → ℕ → Allowed
 allowedOf E n = cond (ltb (named E n) n) (No (named E n)) Yes
 

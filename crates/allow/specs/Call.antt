@@ -26,20 +26,22 @@ allowedNumber Yes = 0
 allowedNumber (No i) = 0
 allowedNumber (Refuses r) = numberOf r
 
--- the four lent lists
+-- What is lent to `allow`: the assignment, the counts, the u64 words and the u32 words.
 pub record Lent : Type 0 where
   pub assignment : List ℕ
   pub counts : List ℕ
   pub longs : List ℕ
   pub words : List ℕ
 
+-- The lent lists of `allow` in one record: the assignment, the counts, the u64 words and the u32 words.
 abbrev pub lent : List ℕ → List ℕ → List ℕ → List ℕ → Lent
 lent a c w u = record { assignment = a; counts = c; longs = w; words = u }
 
--- the answer, and the four lent lists afterwards
+-- The answer of `allow`, and its four lent lists afterwards.
 abbrev pub Left : Type 0
 Left = any.Left Allowed Lent
 
+-- What the call `allow` leaves, made of its answer and its four lent lists.
 abbrev pub left : Allowed → List ℕ → List ℕ → List ℕ → List ℕ → Left
 left r a c w u = any.left r (lent a c w u)
 
@@ -52,7 +54,7 @@ allowTests n list longs words =
     ∷ test Scratch (wordsFit n (room list) words)
     ∷ []
 
--- what passing them leaves
+-- What passing 1, 7 and 8 leaves: few variables, a list of fitting records, and both scratches long enough.
 pub record Ready (n : ℕ) (list : List ℕ) (longs words : ℕ) : Type 0 where
   pub few : n ≤ 1024
   pub listed : Listed n list
@@ -63,7 +65,7 @@ pub record Ready (n : ℕ) (list : List ℕ) (longs words : ℕ) : Type 0 where
 unfoldable pub fits : ℕ → ℕ → ℕ → Bool
 fits n places numbers = leb n places && leb (2 * n) numbers
 
--- 1, 7, 8 and 9
+-- The whole table of `allow`: 1, 7, 8 and 9.
 unfoldable pub allowTable : ℕ → List ℕ → ℕ → ℕ → ℕ → ℕ → List Test
 allowTable n list places numbers longs words = allowTests n list longs words ++ test Room (fits n places numbers) ∷ []
 
@@ -76,9 +78,10 @@ allowCall n list a c w u =
     (stage Room (fits n (length a) (length c)) (lent (cleared 0 a) (cleared 0 c) (cleared 0 w) (cleared 0 u)) ∷ [])
     (left (allowedOf (rules list) n) (over (assignmentOf (rules list) n) a) (over (countsOf (rules list) n) c) (cleared 0 w) (cleared 0 u)))
 
--- the assignment that is left, of n variables, and the count of literal (i, v)
+-- The assignment of n variables that the call leaves at the front of its list.
 abbrev pub assigned : ℕ → List ℕ → List ℕ → List ℕ → List ℕ → List ℕ → List ℕ
 assigned n list a c w u = take n (allowCall n list a c w u .lent .assignment)
 
+-- How many literals the literal (i, v) reaches, as the call leaves it in the list of counts.
 abbrev pub countAt : ℕ → List ℕ → List ℕ → List ℕ → List ℕ → List ℕ → ℕ → ℕ → ℕ
 countAt n list a c w u i v = getD (allowCall n list a c w u .lent .counts) (2 * i + v) 0

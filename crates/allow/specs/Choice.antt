@@ -11,7 +11,7 @@ use Rattle.bit_rows.specs.Rows.{bitIn}
 use Rattle.allow.specs.declared.Allowed.{Allowed}
 use Rattle.allow.specs.Answer.{allowedOf, assignmentOf, countsTo, countsOf}
 
--- row 2n is empty
+-- Row 2n, in which the literals that the choices lead to are gathered, is still empty.
 abbrev pub Blank : ℕ → List ℕ → Type 0
 Blank n w = (b : ℕ) → b < 2048 → bitIn w (2 * n) b ≡ false
 
@@ -33,13 +33,13 @@ pub record Seeking (r : ℕ → ℕ → Bool) (n i : ℕ) : Type 0 where
   pub within : i ≤ n
   pub none : firstContradictory r i ≡ i
 
--- where the counts stand
+-- Where the loop over the counts stands: the first a counts are laid over the list.
 pub record Numbering (r : ℕ → ℕ → Bool) (m : ℕ) (c₀ : List ℕ) (a : ℕ) (c : List ℕ) : Type 0 where
   pub within : a ≤ m
   pub as-long : length c ≡ length c₀
   pub list : c ≡ over (countsTo r 2048 a) c₀
 
--- where the loop that writes 2 stands
+-- Where the loop that writes 2 stands: the first i places of the list are 2.
 pub record Twos (n : ℕ) (a₀ : List ℕ) (i : ℕ) (a : List ℕ) : Type 0 where
   pub within : i ≤ n
   pub as-long : length a ≡ length a₀

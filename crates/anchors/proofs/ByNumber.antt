@@ -35,25 +35,25 @@ use Rattle.anchors.proofs.Demands.{done-when, done-leaves, anchors-by-r
 
 -- ---- one variable
 
--- Its sum is invalid exactly if 4c, a q, a 2q of the diagonal or an f64 sum on the way is not finite.
+-- Theorem. Its sum is invalid exactly if 4c, a q, a 2q of the diagonal or an f64 sum on the way is not finite.
 pub invalid-by-overflow : (F : Field) (i : ℕ) → (balanceOf F i ≡ invalid) ↔ Overflows (terms F i)
 invalid-by-overflow = number.balance-invalid
 
 module _ {F : Field} (S : Shaped F) (fine : Finite F) (h : HeldField F) (i : ℕ) (hi : i < variables F) where
-  -- Where it is valid its parts add up to the number: 4c and q of each entry, 2q on the diagonal.
+  -- Theorem. Where it is valid its parts add up to the number: 4c and q of each entry, 2q on the diagonal.
   pub sum-by-number : Totals (balanceOf F i) (sumOf F i)
   sum-by-number = number.balance-number S fine h i hi
 
-  -- So it is symmetric exactly if no sum overflows and the number is 0.
+  -- Theorem. So it is symmetric exactly if no sum overflows and the number is 0.
   pub symmetric-by-number : (balanced F i ≡ true) ↔ (Valid (terms F i) × Zero (sumOf F i))
   symmetric-by-number = number.balanced-number S fine h i hi
 
--- A sum of one variable has at most m + 1 parts: after any t of its entries there are no more.
+-- Theorem. A sum of one variable has at most m + 1 parts: after any t of its entries there are no more.
 pub parts-at-most : {F : Field} → Shaped F → (i t : ℕ) {r : List Float}
     → balanceOver F (plus (mul binary64 four64 (linearOf F i)) (parts [])) (take t (places (F .rows) (F .cols) i)) ≡ parts r → length r ≤ entries F + 1
 parts-at-most = number.balance-short
 
--- On an exact field the plain f64 sum of 4c and any first t of its entries is that number of half units, exactly.
+-- Theorem. On an exact field the plain f64 sum of 4c and any first t of its entries is that number of half units, exactly.
 pub plain-sums-exact : {u : ℕ} {F : Field} → Shaped F → ExactIn u F → (i : ℕ) → i < variables F → (t : ℕ)
     → Worth u (plainOver F (mul binary64 four64 (linearOf F i)) (take t (places (F .rows) (F .cols) i)))
     (wholeOf u F .linear i ⊙ 4 ⊕ gather (λ k. wholeOf u F .weight k ⊙ 2) (take t (places (F .rows) (F .cols) i)))
@@ -87,6 +87,7 @@ module _ (F : Field) (s : List ℕ) (least : ℕ) (list : List ℕ) (f : List Fl
   admitted : Admitted F s (length f) (length u)
   admitted = done-when F s least list f u .0 (ap (λ (x : Left). x .answer) (done-leaves F s least list f u g k e)) .0
 
+  -- Theorem. The listed anchors are those of the components that the numbers, and no rounded sums, say are symmetric.
   pub anchors-by-number : AnchorsBy (TurnsByNumber F s least) (Leads F) (components F false (opened true s)) (take k (anchorsCall F s least list f u .lent .list))
   anchors-by-number =
       let a = admitted in

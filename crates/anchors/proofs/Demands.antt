@@ -47,7 +47,7 @@ use Rattle.anchors.proofs.Turning.{either-stands}
 use Rattle.anchors.proofs.Balance.{balanced-is, plain-sum-tells}
 use Rattle.anchors.proofs.Certain.{balance-certain, balance-exactly}
 
--- any two results that the promise permits are equal
+-- Theorem. Any two results that the promise permits are equal.
 pub one-result : (F : Field) (s : List ℕ) (least : ℕ) (list : List ℕ) (f : List Float) (u : List ℕ) (x y : Left) → x ≡ anchorsCall F s least list f u → y ≡ anchorsCall F s least list f u → x ≡ y
 one-result F s least list f u = any.one-result (anchorsCall F s least list f u)
 
@@ -57,17 +57,17 @@ same-count : {g h : Grade} {k l : ℕ} → Counts g k ≡ Counts h l → (g ≡ 
 same-count {g} {h} {k} {l} e = let a : g ≡ h = cc in let b : k ≡ l = cc in (a, b)
 
 module _ (F : Field) (s : List ℕ) (least : ℕ) (list : List ℕ) (f : List Float) (u : List ℕ) where
-  -- DEMAND 1. The call is refused with r exactly if the tests before r's own pass, and its own fails: 9 is the last, for more anchors than the list has places.
+  -- Theorem. DEMAND 1. The call is refused with r exactly if the tests before r's own pass, and its own fails: 9 is the last, for more anchors than the list has places.
   pub refused-when : (r : Refusal) → (anchorsCall F s least list f u .answer ≡ Refuses r) ↔ FirstToFail (anchorTable F s least list (length f) (length u)) r
   unfolding anchorsCall table
   refused-when = usual.refused-when Refuses _ _ _ _ same-refuses counts-apart refl
 
-  -- A refusal by another test changes nothing lent.
+  -- Theorem. A refusal by another test changes nothing lent.
   pub refused-leaves : (r : Refusal) → r ≢ Room → anchorsCall F s least list f u .answer ≡ Refuses r → anchorsCall F s least list f u ≡ left (Refuses r) list f u
   unfolding anchorsCall
   refused-leaves r n e = usual.refused-leaves Refuses _ _ _ _ same-refuses counts-apart r (other-stage n no-stage) e
 
-  -- It is 9 exactly if all other tests pass and there are more anchors than places,
+  -- Theorem. It is 9 exactly if all other tests pass and there are more anchors than places.
   pub room-when : (anchorsCall F s least list f u .answer ≡ Refuses Room) ↔ (Admitted F s (length f) (length u) × (length list < length (anchorsOf F s least)))
   unfolding anchorsCall
   room-when =
@@ -75,12 +75,12 @@ module _ (F : Field) (s : List ℕ) (least : ℕ) (list : List ℕ) (f : List Fl
       let p = admitted-passes F s (length f) (length u) in
       ((λ e. (p .0 (t .0 e .0), leb-false _ _ (t .0 e .1))), λ h. t .1 (p .1 (h .0), lt-leb _ _ (h .1)))
 
-  -- and then the list and both scratches are all zeros.
+  -- Theorem. On 9 the list and both scratches are all zeros.
   pub room-leaves : anchorsCall F s least list f u .answer ≡ Refuses Room → anchorsCall F s least list f u ≡ left (Refuses Room) (cleared 0 list) (cleared zero64 f) (cleared 0 u)
   unfolding anchorsCall
   room-leaves e = usual.later-leaves Refuses _ _ _ _ same-refuses counts-apart Room _ (never-room F s (length f) (length u)) (this-stage no-stage) e
 
-  -- It is done exactly if the field, the start values and both scratches are as the table asks, and the list has room; it then gives the grade and the count.
+  -- Theorem. It is done exactly if the field, the start values and both scratches are as the table asks, and the list has room; it then gives the grade and the count.
   pub done-when : (anchorsCall F s least list f u .answer ≡ Counts (gradeOf F) (length (anchorsOf F s least))) ↔ (Admitted F s (length f) (length u) × (length (anchorsOf F s least) ≤ length list))
   unfolding anchorsCall table
   done-when =
@@ -88,7 +88,7 @@ module _ (F : Field) (s : List ℕ) (least : ℕ) (list : List ℕ) (f : List Fl
       (group-is (openTests F s (length f) (length u)) _ (admitted-passes F s (length f) (length u)) (last-is Room _ (le-is (length (anchorsOf F s least)) (length list))))
 
   module _ (g : Grade) (k : ℕ) (e : anchorsCall F s least list f u .answer ≡ Counts g k) where
-    -- Then the anchors stand at the front of the list, what is past the last is unchanged, and both scratches are all zeros.
+    -- Theorem. Then the anchors stand at the front of the list, what is past the last is unchanged, and both scratches are all zeros.
     pub done-leaves : anchorsCall F s least list f u ≡ left (Counts (gradeOf F) (length (anchorsOf F s least))) (over (anchorsOf F s least) list) (cleared zero64 f) (cleared 0 u)
     unfolding anchorsCall
     done-leaves = usual.done-leaves Refuses _ _ _ _ same-refuses counts-apart (λ r z. counts-apart r (sym e ∙ z))
@@ -106,7 +106,7 @@ module _ (F : Field) (s : List ℕ) (least : ℕ) (list : List ℕ) (f : List Fl
     pub items : take k (anchorsCall F s least list f u .lent .list) ≡ anchorsOf F s least
     items = ap (λ (x : Left). take k (x .lent .list)) done-leaves ∙ over-front (anchorsOf F s least) list (told .1)
 
-    -- DEMAND 2. They are those that the rule gives: of the components, in the order of their lowest variables, each that is symmetric, without a start value and large enough
+    -- Theorem. DEMAND 2. They are those that the rule gives: of the components, in the order of their lowest variables, each that is symmetric, without a start value and large enough
     -- has one, the variable with the greatest weight, then the lowest index.
     pub anchors-by-rule : AnchorsOf F s least (components F false (opened true s)) (take k (anchorsCall F s least list f u .lent .list))
     anchors-by-rule = rw items (anchors-ruled (fit .shaped) s (fit .start .long) least (fit .finite-weights))
@@ -115,7 +115,7 @@ module _ (F : Field) (s : List ℕ) (least : ℕ) (list : List ℕ) (f : List Fl
 pub one-list : {F : Field} → Shaped F → Finite F → {s : List ℕ} {least : ℕ} {Ks : List (List ℕ)} {l r : List ℕ} → AnchorsOf F s least Ks l → AnchorsOf F s least Ks r → l ≡ r
 one-list S fine = rule-one S fine
 
--- DEMAND 3. On an exact field each anchor alone is 0 in some best completion and 1 in another.
+-- Theorem. DEMAND 3. On an exact field each anchor alone is 0 in some best completion and 1 in another.
 pub anchor-stands : (F : Field) (s : List ℕ) (least : ℕ) (list : List ℕ) (f : List Float) (u : List ℕ) (k : ℕ) → anchorsCall F s least list f u .answer ≡ Counts Exact k
     → {unit : ℕ} → Serves unit F → (j : ℕ) → j < k → (v : ℕ) → v < 2 → Safe (wholeOf unit F) s (set s (getD (anchorsCall F s least list f u .lent .list) j 0) v)
 anchor-stands F s least list f u k e serving j h v small =
@@ -135,10 +135,10 @@ module _ {F : Field} (S : Shaped F) (h : HeldWeights F) (i : ℕ) where
   pub symmetric-exactly : {r : List Float} → balanceOf F i ≡ parts r → (balanced F i ≡ true) ↔ Zero (total (terms F i))
   symmetric-exactly = balance-exactly S h i
 
--- On an exact field it is the balance of rule 9.2, in whole numbers.
+-- Theorem. On an exact field it is the balance of rule 9.2, in whole numbers.
 pub symmetric-exact-field : {u : ℕ} {F : Field} → Shaped F → ExactIn u F → (i : ℕ) → i < variables F → (balanced F i ≡ true) ↔ Zero (balance (wholeOf u F) i)
 symmetric-exact-field S x i = balanced-is S x i
 
--- There a plain sum, 4c and then each q, is exact, and tells the same.
+-- Theorem. There a plain sum, 4c and then each q, is exact, and tells the same.
 pub plain-exact-field : {u : ℕ} {F : Field} → Shaped F → ExactIn u F → (i : ℕ) → i < variables F → eq (plainSum F i) zero64 ≡ balanced F i
 plain-exact-field S x i = plain-sum-tells S x i

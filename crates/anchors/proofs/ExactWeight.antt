@@ -62,6 +62,7 @@ module _ {u : ℕ} {F : Field} (S : Shaped F) (x : Serves u F) where
   edge-is : (i k : ℕ) → k < entries F → only (touches F i k) (sizeAt k) ≈ edge W i k
   edge-is i k h = rw (off-diagonal k h) refl
 
+  -- Theorem. On an exact field the edge weight that is added in f64 is the edge weight in whole numbers.
   pub weight-worth : (i : ℕ) → Worth (suc u) (weightOf F i) (edge-weight (wholeOf u F) i)
   unfolding weightOf
   weight-worth i =
@@ -94,7 +95,7 @@ module _ {u : ℕ} {F : Field} (S : Shaped F) (x : Serves u F) where
       from (inl h) = inl (lighter a i ∙ lt-ltb (weight i .plus + weight a .less) (weight a .plus + weight i .less) (omega arith))
       from (inr h) = inr (level a i ∙ eq-eqb (weight i .plus + weight a .less) (weight a .plus + weight i .less) (omega (arith, h .0)), h .1)
 
-  -- the leader of a part is its member of greatest weight in whole numbers, then of lowest index
+  -- Theorem. The leader of a part is its member of greatest weight in whole numbers, then of lowest index.
   pub leads-exact : (K : List ℕ) (a : ℕ) → Leads F K a ↔ LeadsByWeight (wholeOf u F) K a
   leads-exact K a = (
     (λ l. record { member = l .member; first = λ i h. before-exact a i .0 (l .first i h) }),

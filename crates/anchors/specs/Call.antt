@@ -27,19 +27,21 @@ fits F s least list = leb (length (anchorsOf F s least)) (length list)
 abbrev pub anchorTable : Field → List ℕ → ℕ → List ℕ → ℕ → ℕ → List Test
 anchorTable F s least list floats words = openTests F s floats words ++ test Room (fits F s least list) ∷ []
 
--- the three lent lists
+-- What is lent to `anchors`: the list of anchors, the floats and the words.
 pub record Lent : Type 0 where
   pub list : List ℕ
   pub floats : List Float
   pub words : List ℕ
 
+-- The lent lists of `anchors` in one record: the list of anchors, the floats and the words.
 abbrev pub lent : List ℕ → List Float → List ℕ → Lent
 lent l f u = record { list = l; floats = f; words = u }
 
--- the answer, and the three lent lists afterwards
+-- The answer of `anchors`, and its three lent lists afterwards.
 abbrev pub Left : Type 0
 Left = any.Left Counted Lent
 
+-- What the call `anchors` leaves, made of its answer and its three lent lists.
 abbrev pub left : Counted → List ℕ → List Float → List ℕ → Left
 left r l f u = any.left r (lent l f u)
 

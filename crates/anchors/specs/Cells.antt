@@ -11,10 +11,11 @@ use Rattle.places.specs.Places.{Adjacent}
 use Rattle.parts.specs.Cells.{membersBase, marksIn, cells, Placed}
 use Rattle.anchors.specs.Model.{newAt, marksAt, anchorsOf}
 
+-- The members of a component as they stand in the words: `count` variables, in the order of the walk.
 abbrev pub membersIn : Field → ℕ → List ℕ → List ℕ
 membersIn F count u = region (membersBase F) count u
 
--- what a loop over them asks
+-- What a loop over the members of a component asks: they stand in the words, and each is a variable.
 pub record Members (F : Field) (count : ℕ) (u : List ℕ) : Type 0 where
   pub shaped : Shaped F
   pub adjacent : Adjacent (variables F) (F .rows) (F .cols) u

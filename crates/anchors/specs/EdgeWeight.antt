@@ -13,14 +13,15 @@ use Rattle.parts.specs.Part.{has}
 abbrev pub edge : Field → ℕ → ℕ → Whole
 edge F i k = only (not (eqb (F .row k) (F .column k)) && (eqb (F .row k) i || eqb (F .column k) i)) (size (F .weight k))
 
--- the sum of |q| over the entries at i that are off the diagonal
+-- The sum of |q| over the entries at i that are off the diagonal, in whole numbers.
 abbrev pub edge-weight : Field → ℕ → Whole
 edge-weight F i = sum (F .m) (edge F i)
 
--- a stands before i: its sum is greater, or equal with an index that is not greater
+-- By edge weight in whole numbers a stands before i: its sum is greater, or equal and its index not greater.
 abbrev pub Outweighs : Field → ℕ → ℕ → Type 0
 Outweighs F a i = Above0 (edge-weight F a ⊖ edge-weight F i) ⊎ ((edge-weight F a ≈ edge-weight F i) × (a ≤ i))
 
+-- a is the member of K with the greatest edge weight in whole numbers, the lowest of those that have it.
 pub record LeadsByWeight (F : Field) (K : List ℕ) (a : ℕ) : Type 0 where
   pub member : has K a ≡ true
   pub first : (i : ℕ) → has K i ≡ true → Outweighs F a i

@@ -29,7 +29,7 @@ pub record TurnsByNumber (F : Field) (s : List ℕ) (least : ℕ) (K : List ℕ)
   pub valid : (i : ℕ) → has K i ≡ true → Valid (terms F i)
   pub zero : (i : ℕ) → has K i ≡ true → Zero (sumOf F i)
 
--- every weight is an f64
+-- Every weight of the field, c and q alike, is one that an f64 holds.
 pub record HeldField (F : Field) : Type 0 where
   pub linear : (i : ℕ) → i < variables F → T (fits binary64 (linearOf F i))
   pub quad : HeldWeights F

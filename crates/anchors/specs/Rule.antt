@@ -17,6 +17,7 @@ use Rattle.anchors.specs.Sums.{onDiagonal, doubled, balanced, weightOf}
 abbrev pub Before : Field → ℕ → ℕ → Type 0
 Before F a i = (lt (weightOf F i) (weightOf F a) ≡ true) ⊎ ((eq (weightOf F i) (weightOf F a) ≡ true) × (a ≤ i))
 
+-- a is a member of the part K that stands before every other by weight, then by index.
 pub record Leads (F : Field) (K : List ℕ) (a : ℕ) : Type 0 where
   pub member : has K a ≡ true
   pub first : (i : ℕ) → has K i ≡ true → Before F a i
@@ -33,22 +34,25 @@ pub data AnchorsBy (turns : List ℕ → Type 0) (leads : List ℕ → ℕ → T
   anchored : {K : List ℕ} {Ks : List (List ℕ)} {a : ℕ} {l : List ℕ} → turns K → leads K a → AnchorsBy turns leads Ks l → AnchorsBy turns leads (K ∷ Ks) (a ∷ l)
   passed-over : {K : List ℕ} {Ks : List (List ℕ)} {l : List ℕ} → (turns K → ⊥) → AnchorsBy turns leads Ks l → AnchorsBy turns leads (K ∷ Ks) l
 
+-- The anchors of these parts by the rule: of each part that turns, the member that leads it.
 abbrev pub AnchorsOf : Field → List ℕ → ℕ → List (List ℕ) → List ℕ → Type 0
 AnchorsOf F s least = AnchorsBy (Turns F s least) (Leads F)
 
 -- ---- what is added at a variable
 
--- 4c, then q of each entry in order, 2q where it is on the diagonal (rule 9.2)
+-- What entry k adds to the balance of a variable: 2q on the diagonal, q elsewhere unless it is 0.
 unfoldable pub termsAt : Field → ℕ → List Float
 termsAt F k = cond (onDiagonal F k) (doubled F k ∷ []) (cond (ne (quadOf F k) zero64) (quadOf F k ∷ []) [])
 
+-- What a list of entries adds to the balance of a variable, in their order.
 unfoldable pub termsOver : Field → List ℕ → List Float
 termsOver F [] = []
 termsOver F (k ∷ ks) = termsAt F k ++ termsOver F ks
 
+-- All that is added at variable i: 4c, then q of each of its entries in order, 2q on the diagonal (rule 9.2).
 unfoldable pub terms : Field → ℕ → List Float
 terms F i = mul binary64 four64 (linearOf F i) ∷ termsOver F (places (F .rows) (F .cols) i)
 
--- every entry's weight is an f64
+-- The weight q of every entry is one that an f64 holds.
 abbrev pub HeldWeights : Field → Type 0
 HeldWeights F = (k : ℕ) → k < entries F → T (fits binary64 (quadOf F k))

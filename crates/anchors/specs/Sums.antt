@@ -15,7 +15,7 @@ use Rattle.places.specs.Places.{places, Adjacent}
 abbrev pub onDiagonal : Field → ℕ → Bool
 onDiagonal F k = eqb (rowEnd F k) (columnEnd F k)
 
--- its 2q
+-- The 2q that an entry on the diagonal adds to a balance, in f64.
 abbrev pub doubled : Field → ℕ → Float
 doubled F k = mul binary64 two64 (quadOf F k)
 
@@ -23,6 +23,7 @@ doubled F k = mul binary64 two64 (quadOf F k)
 unfoldable pub balanceAt : Field → Expansion → ℕ → Expansion
 balanceAt F e k = cond (onDiagonal F k) (plus (doubled F k) e) (cond (ne (quadOf F k) zero64) (plus (quadOf F k) e) e)
 
+-- The error-free sum after each of these entries has been added in order.
 unfoldable pub balanceOver : Field → Expansion → List ℕ → Expansion
 balanceOver F e [] = e
 balanceOver F e (k ∷ ks) = balanceOver F (balanceAt F e k) ks
@@ -31,32 +32,35 @@ balanceOver F e (k ∷ ks) = balanceOver F (balanceAt F e k) ks
 unfoldable pub balanceOf : Field → ℕ → Expansion
 balanceOf F i = balanceOver F (plus (mul binary64 four64 (linearOf F i)) (parts [])) (places (F .rows) (F .cols) i)
 
--- the sum is valid, and 0
+-- The error-free sum of variable i is valid, and it is 0: the variable is symmetric.
 unfoldable pub balanced : Field → ℕ → Bool
 balanced F i = comesToZero (balanceOf F i)
 
--- the same, rounded: what the code adds up on an exact field, where no sum is
+-- q of each of these entries added in f64, in order, as the code does on an exact field.
 unfoldable pub plainOver : Field → Float → List ℕ → Float
 plainOver F x [] = x
 plainOver F x (k ∷ ks) = plainOver F (add binary64 x (quadOf F k)) ks
 
+-- 4c of i and q of each entry at i added in f64: the balance, on an exact field, where no sum rounds.
 unfoldable pub plainSum : Field → ℕ → Float
 plainSum F i = plainOver F (mul binary64 four64 (linearOf F i)) (places (F .rows) (F .cols) i)
 
--- |q| of an entry off the diagonal goes into the weight
+-- The edge weight after entry k: |q| is added where the entry is off the diagonal and not 0.
 unfoldable pub weightAt : Field → Float → ℕ → Float
 weightAt F w k = cond (onDiagonal F k) w (cond (ne (quadOf F k) zero64) (add binary64 w (magnitude (quadOf F k))) w)
 
+-- The edge weight after |q| of each of these entries has been added in order.
 unfoldable pub weightOver : Field → Float → List ℕ → Float
 weightOver F w [] = w
 weightOver F w (k ∷ ks) = weightOver F (weightAt F w k) ks
 
+-- The edge weight of variable i: |q| of its entries off the diagonal, added in f64 in entry order.
 unfoldable pub weightOf : Field → ℕ → Float
 weightOf F i = weightOver F zero64 (places (F .rows) (F .cols) i)
 
 -- ---- the code's view of it
 
--- entry k goes into the sum
+-- Adding entry k at a variable does to the code's sum what it does to the model's.
 pub record AddsAt (F : Field) (k : ℕ) (s : ExactSum) (f f′ : List Float) (r : ExactSum) : Type 0 where
   pub sum : sumIn r f′ ≡ balanceAt F (sumIn s f) k
   pub grows : countOf r ≤ countOf s + 1

@@ -59,7 +59,7 @@ fn visit(
     found + 1
 }
 
-// Every start, rising.
+// Looks at every start, rising: the anchor of each component goes into the list, and their count is answered.
 pub fn search(
     c: &[f64],
     rows: &[u16],

@@ -43,13 +43,13 @@ pub sound-text : (t : Told) → Sound (fieldTold t) (t .start) → toldText t �
 unfolding fieldText checkedText
 sound-text t sound = rw (standard-passes (fieldTold t) (t .start) .1 sound)
 
--- any other: the number of the first of the tests that fails
+-- Theorem. What fails a test gets the number of the first of the tests that fails.
 pub failed-text : (t : Told) {r : Refusal} → FirstToFail (standardTests (fieldTold t) (t .start)) r → toldText t ≡ refusedText (numberOf r)
 unfolding fieldText checkedText
 failed-text t first = rw (first-refuses first)
 
 module _ (s : List ℕ) (bytes : (i : ℕ) → getD s i 0 < 256) where
-  -- THE ANSWER
+  -- Theorem. THE ANSWER: a well-formed input gets the text of what it tells, and any other `refused 11`.
   pub answer-exactly : Answered s (answerBytes s)
   unfolding answerBytes
   answer-exactly = record {
@@ -83,7 +83,7 @@ module _ (F : Field) (s : List ℕ) where
       by (Failed r) e = absurd (omega (arith, ap (λ (l : List ℕ). getD l 0 0) e))
 
 module _ (s : List ℕ) (bytes : (i : ℕ) → getD s i 0 < 256) (u : Told) (w : WellFormed s u) where
-  -- DEMAND 2. Where the answer is `grade exact`, its x lines are the gradient closure over whole numbers, no more and no fewer.
+  -- Theorem. DEMAND 2. Where the answer is `grade exact`, its x lines are the gradient closure over whole numbers, no more and no fewer.
   pub exact-shows : take 12 (answerBytes s) ≡ gradeLine Exact → ShowsClosure (fieldTold u) (u .start) (answerBytes s)
   exact-shows e =
       let text : answerBytes s ≡ toldText u = answer-exactly s bytes .told u w in
@@ -99,7 +99,7 @@ module _ (s : List ℕ) (bytes : (i : ℕ) → getD s i 0 < 256) (u : Told) (w :
 -- ---- the longest input
 
 module _ (s : List ℕ) (bytes : (i : ℕ) → getD s i 0 < 256) where
-  -- 256 weights, 1,024 entries and 256 given values
+  -- Theorem. No well-formed input is longer than 256 weights, 1,024 entries, 256 given values and the end.
   pub longest : (u : Told) → WellFormed s u → length s ≤ longestInput
   longest u w = omega (arith, longest-field w)
 
@@ -112,7 +112,7 @@ take-bytes (suc n) [] bytes i = omega arith
 take-bytes (suc n) (x ∷ s) bytes zero = bytes zero
 take-bytes (suc n) (x ∷ s) bytes (suc i) = take-bytes n s (λ j. bytes (suc j)) i
 
--- one byte more than the longest well-formed input decides: what follows changes nothing
+-- Theorem. One byte more than the longest well-formed input decides: what follows changes nothing.
 pub answer-decided : (s : List ℕ) → ((i : ℕ) → getD s i 0 < 256) → (n : ℕ) → longestInput < n → answerBytes (take n s) ≡ answerBytes s
 answer-decided s bytes n enough = by (ltb n (length s)) refl
   where
@@ -148,7 +148,7 @@ start-small : {t u : Told} {items : List Item} → Tells t items u → ((k : ℕ
 start-small none h = h
 start-small (next {t} {u} {i} f rest) h = start-small rest (item-small t i f h)
 
--- the limits of records are narrower than those of tests 1 and 2, and their start values pass test 6: 14 to 17, 4 and 5 are left
+-- Theorem. The limits of records are narrower than those of tests 1 and 2, and their start values pass test 6: 14 to 17, 4 and 5 are left.
 pub only-six : (s : List ℕ) → ((i : ℕ) → getD s i 0 < 256) → (u : Told) {r : Refusal} → WellFormed s u → FirstToFail (standardTests (fieldTold u) (u .start)) r
     → Fault (length (u .linear)) (u .rows) (u .cols) r ⊎ ((r ≡ Diagonal) ⊎ (r ≡ Weights))
 unfolding standardTests shapeTests
@@ -188,7 +188,7 @@ not-eleven (Failed r) F s e = by (numberOf r) (number-most r) (number-other r .1
             let above : 10 ≤ n = ltb-false n 10 l in
             other (omega (arith, simp (l, lt-ltb (n / 10) 10 (omega arith)) at q))
 
--- `refused 11` is printed exactly if the input is not well-formed
+-- Theorem. `refused 11` is printed exactly if the input is not well-formed.
 pub eleven-exactly : (s : List ℕ) → ((i : ℕ) → getD s i 0 < 256) → (answerBytes s ≡ refusedText 11) ↔ ((u : Told) → WellFormed s u → ⊥)
 unfolding fieldText
 eleven-exactly s bytes = ((λ e u w. not-eleven _ (fieldTold u) (u .start) (sym (answer-exactly s bytes .told u w) ∙ e)), answer-exactly s bytes .other)

@@ -18,6 +18,7 @@ use Rattle.text.specs.Text.{digits, decimal, gradeLine, forcedLine, endLine, fo
 use Rattle.answering.specs.Answer.{checkedText, fieldText, answerBytes}
 use Rattle.answering.specs.CaseG.{input-g, output-g}
 
+-- Theorem. The bytes of case g's records give the bytes of its answer, worked by hand.
 pub case-g : answerBytes input-g ≡ output-g
 unfolding answerBytes parsed readFrom taken readAt markedAt weightAt entryAt givenAt floatAt numberAt valueOf fieldText checkedText tested
     standardTests shapeTests fewVariables listsMatch inOrder offDiagonal weightsFinite startFits endsBelow allRise allFinite bytesSmall allBelow

@@ -30,7 +30,7 @@ checkedText (Failed r) F s = refusedText (numberOf r)
 unfoldable pub fieldText : Field → List ℕ → List ℕ
 fieldText F s = checkedText (tested (standardTests F s)) F s
 
--- the text for the field that is told and its start values
+-- The text for what an input tells: its field and its start values.
 abbrev pub toldText : Told → List ℕ
 toldText t = fieldText (fieldTold t) (t .start)
 
@@ -38,6 +38,7 @@ toldText t = fieldText (fieldTold t) (t .start)
 abbrev pub outcomeText : ℕ → Outcome → List ℕ
 outcomeText size o = cond (o .whole && eqb (o .end) size) (toldText (o .told)) (refusedText 11)
 
+-- What the program prints for an input, as one function of the input's bytes.
 unfoldable pub answerBytes : List ℕ → List ℕ
 answerBytes s = outcomeText (length s) (parsed s)
 

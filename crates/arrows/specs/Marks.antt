@@ -11,7 +11,7 @@ use Rattle.constraints.specs.Record.{room, records}
 use Rattle.reaching.specs.Via.{arrow, reaches}
 use Rattle.bit_rows.specs.Rows.{bitIn, Holding}
 
--- the bits r with the arrows of E
+-- The bits r together with a bit for each arrow of the implications E.
 unfoldable pub more : List Implication → (ℕ → ℕ → Bool) → ℕ → ℕ → Bool
 more E r a b = r a b || arrow E a b
 
@@ -35,7 +35,7 @@ pub record Between (i j : ℕ) (w : List ℕ) : Type 0 where
   pub first-room : i * 64 + 64 ≤ length w
   pub second-room : j * 64 + 64 ≤ length w
 
--- where the loop over records stands
+-- Where the loop over the records stands: the arrows of the first t are marked.
 pub record Marking (list w₀ : List ℕ) (t : ℕ) (w : List ℕ) : Type 0 where
   pub within : t ≤ room list
   pub marked : Marked (rulesOf (take t (records list))) w₀ w

@@ -17,7 +17,7 @@ digit x k = eqb (x / 2 ^ k % 2) 1
 abbrev pub wordOf : ℕ → ℕ → ℕ
 wordOf a b = a * 32 + b / 64
 
--- bit b of row a
+-- Bit b of row a, as it stands in the list of words.
 unfoldable pub bitIn : List ℕ → ℕ → ℕ → Bool
 unfolding digit
 bitIn w a b = digit (getD w (wordOf a b) 0) (b % 64)
@@ -44,12 +44,12 @@ joined r a k c d = cond (eqb c a) (r a d || r k d) (r c d)
 unfoldable pub through : (ℕ → ℕ → Bool) → ℕ → ℕ → ℕ → Bool
 through r k c d = r c d || (r c k && r k d)
 
--- the bits after this is done to row a
+-- The bits after row a alone has gone through k: joined to row k where it has bit k.
 unfoldable pub stepped : (ℕ → ℕ → Bool) → ℕ → ℕ → ℕ → ℕ → Bool
 unfolding through
 stepped r k a c d = cond (eqb c a) (through r k a d) (r c d)
 
--- and to the rows below i
+-- The bits after every row below i has gone through k, which is part of a stage.
 unfoldable pub stage : (ℕ → ℕ → Bool) → ℕ → ℕ → ℕ → ℕ → Bool
 unfolding through
 stage r k i c d = cond (ltb c i) (through r k c d) (r c d)
@@ -65,17 +65,17 @@ pub record Joining (a k : ℕ) (w₀ : List ℕ) (i : ℕ) (w : List ℕ) : Type
   pub done : (t : ℕ) → t < i → getD w (a * 32 + t) 0 ≡ bitOr (getD w₀ (a * 32 + t) 0) (getD w₀ (k * 32 + t) 0)
   pub rest : (p : ℕ) → (p < a * 32) ⊎ (a * 32 + i ≤ p) → getD w p 0 ≡ getD w₀ p 0
 
--- where the loop over rows stands
+-- Where the loop over the rows of one stage stands: those below i have gone through k.
 pub record Staging (r : ℕ → ℕ → Bool) (k n : ℕ) (w₀ : List ℕ) (i : ℕ) (w : List ℕ) : Type 0 where
   pub within : i ≤ n
   pub held : Holding (stage r k i) w₀ w
 
--- where the loop over stages stands
+-- Where the loop over the stages stands: the rows say what leads where by way of numbers below k.
 pub record Closing (r : ℕ → ℕ → Bool) (n : ℕ) (w₀ : List ℕ) (k : ℕ) (w : List ℕ) : Type 0 where
   pub within : k ≤ n
   pub held : Holding (closed r n k) w₀ w
 
--- where the count of a row stands
+-- Where the count of row a stands: the bits of its first i words are counted.
 pub record Counting (w : List ℕ) (a i sum : ℕ) : Type 0 where
   pub within : i ≤ 32
   pub so-far : sum ≡ countBelow (bitIn w a) (i * 64)

@@ -8,7 +8,7 @@ ghost use Rattle.scratch.specs.Cleared.{cleared};
 ghost use Rattle.reaching.specs.Via.{countBelow};
 ghost use Rattle.bit_rows.specs.Rows.{bitIn, Rows, Holding, marked, joined, stepped, stage, closed};
 
-// Sets every word to 0.
+// Sets every word of the rows to 0, so that no number leads to another.
 pub fn clear(w: &mut [u64])
     ensures { λ _. ⌜ after w ≡ cleared 0 (before w) ⌝ }
 {
@@ -89,7 +89,7 @@ fn in_word(x: u64) -> usize
     u64::count_ones(x) as usize
 }
 
-// The number of bits of row a.
+// How many bits of row a are set, over all of its 32 words.
 pub fn ones(w: &[u64], a: usize) -> usize
     requires { ⌜ a * 32 + 32 ≤ length (now w) ⌝ }
     ensures { λ r. ⌜ r ≡ countBelow (bitIn (before w) a) 2048 ⌝ }

@@ -142,7 +142,7 @@ module _ {A L : Type 0} (c : Call A L) (same : (r t : Refusal) → c .refuse r �
   answers : {x : Left A L} → called c ≡ x → x .answer ≡ called c .answer
   answers e = ap (λ (x : Left A L). x .answer) (sym e)
 
-  -- by stage: it is refused with r and leaves l exactly if the stages before one pass, and it fails with r and leaves l
+  -- Theorem. By stage: it is refused with r and leaves l exactly if the stages before one pass, and it fails with r and leaves l.
   pub stopped-when : (r : Refusal) (l : L) → (called c ≡ left (c .refuse r) l) ↔ Stops (c .stages) r l
   unfolding called
   stopped-when r l = (to way, run-stops (c .refuse) (c .done))
@@ -154,7 +154,7 @@ module _ {A L : Type 0} (c : Call A L) (same : (r t : Refusal) → c .refuse r �
           rw (sym er, sym el) h
       to (ended a w) e = absurd (apart r (ap (λ (x : Left A L). x .answer) (sym w ∙ e)))
 
-  -- it is refused with r exactly if the stages before one of r's pass, and that fails
+  -- Theorem. It is refused with r exactly if the stages before one of r's pass, and that fails.
   pub refused-when : (r : Refusal) → (called c .answer ≡ c .refuse r) ↔ FirstToFail (table (c .stages)) r
   unfolding called
   refused-when r = (to way, λ h. let z = first-stops (c .stages) h in sym (answers (run-stops (c .refuse) (c .done) (z .1))))
@@ -163,7 +163,7 @@ module _ {A L : Type 0} (c : Call A L) (same : (r t : Refusal) → c .refuse r �
       to (stopped {r = t} h w) e = let er : t ≡ r = same t r (answers w ∙ e) in rw (sym er) (stops-first h)
       to (ended a w) e = absurd (apart r (answers w ∙ e))
 
-  -- and then leaves what the stages of r leave
+  -- Theorem. A call refused with r leaves what the stages of r leave.
   pub refused-leaves : (r : Refusal) (l : L) → Leave r l (c .stages) → called c .answer ≡ c .refuse r → called c ≡ left (c .refuse r) l
   refused-leaves r l h e = go way
     where
@@ -183,7 +183,7 @@ module _ {A L : Type 0} (c : Call A L) (same : (r t : Refusal) → c .refuse r �
       to (stopped {r = t} h w) e = absurd (apart t (sym (answers w ∙ e)))
       to (ended a w) e = passed-exactly (table (c .stages)) .1 a
 
-  -- and any answer but a refusal says so, and leaves what it says
+  -- Theorem. Any answer but a refusal says that the call is done, and leaves what it says.
   pub done-leaves : ((r : Refusal) → called c .answer ≡ c .refuse r → ⊥) → called c ≡ c .done
   done-leaves n = go way
     where

@@ -27,17 +27,17 @@ pub counts-tell : (count : Field → List ℕ → ℕ) → Tells (counts count)
 counts-tell count = record { same = same-refuses; apart = λ F s. counts-apart }
 
 module _ {A : Type 0} {says : Says A} (tells : Tells says) (values : Values) (F : Field) (s : List ℕ) (f : List Float) (u : List ℕ) where
-  -- the call is refused with r exactly if the tests before r's own pass, and its own fails
+  -- Theorem. The call is refused with r exactly if the tests before r's own pass, and its own fails.
   pub refused-when : (r : Refusal) → (valuesBy says values F s f u .answer ≡ says .refuse r) ↔ FirstToFail (readyTests F s (length f) (length u)) r
   unfolding valuesBy table
   refused-when = usual.refused-when (says .refuse) _ _ [] _ (tells .same) (tells .apart F s) (append-nil (readyTests F s (length f) (length u)))
 
-  -- a refusal changes nothing lent
+  -- Theorem. A refusal changes nothing lent.
   pub refused-leaves : (r : Refusal) → valuesBy says values F s f u .answer ≡ says .refuse r → valuesBy says values F s f u ≡ any.left (says .refuse r) (lent s f u)
   unfolding valuesBy
   refused-leaves r e = usual.refused-leaves (says .refuse) _ _ [] _ (tells .same) (tells .apart F s) r no-stage e
 
-  -- it is done exactly if the field, the start values and both scratches are as the table asks
+  -- Theorem. It is done exactly if the field, the start values and both scratches are as the table asks.
   pub done-when : (valuesBy says values F s f u .answer ≡ says .done F s) ↔ Ready F s (length f) (length u)
   unfolding valuesBy table
   done-when =
@@ -46,6 +46,7 @@ module _ {A : Type 0} {says : Says A} (tells : Tells says) (values : Values) (F 
 
   -- any answer but a refusal says so, and the values are in the start values, and both scratches are all zeros
   module _ {a : A} (e : valuesBy says values F s f u .answer ≡ a) (no-refusal : (r : Refusal) → a ≡ says .refuse r → ⊥) where
+    -- Theorem. Where the answer is no refusal, it is what is said when done, with the values in place and scratch all zeros.
     pub done-leaves : valuesBy says values F s f u ≡ any.left (says .done F s) (lent (values F s) (cleared zero64 f) (cleared 0 u))
     unfolding valuesBy
     done-leaves = usual.done-leaves (says .refuse) _ _ [] _ (tells .same) (tells .apart F s) (λ r z. no-refusal r (sym e ∙ z))
@@ -56,6 +57,7 @@ module _ {A : Type 0} {says : Says A} (tells : Tells says) (values : Values) (F 
     pub ready : Ready F s (length f) (length u)
     ready = done-when .0 (e ∙ sym done-answer)
 
+    -- Theorem. Where the answer is no refusal, the start values are then the values of the call.
     pub values-are : valuesBy says values F s f u .lent .values ≡ values F s
     values-are = ap (λ (l : any.Left A Lent). l .lent .values) done-leaves
 

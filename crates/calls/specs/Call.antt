@@ -7,11 +7,12 @@ use Rattle.field.specs.declared.Refusal.{Refusal}
 use Rattle.field.specs.Answers.{numberOf}
 use Rattle.field.specs.Table.{Test, test}
 
--- the answer, and what is lent afterwards
+-- What any call leaves: its answer, and all that is lent as it is afterwards.
 pub record Left (A L : Type 0) : Type 0 where
   pub answer : A
   pub lent : L
 
+-- What a call leaves, made of its answer and of what is lent afterwards.
 abbrev pub left : {A L : Type 0} → A → L → Left A L
 left a l = record { answer = a; lent = l }
 
@@ -21,6 +22,7 @@ pub record Stage (L : Type 0) : Type 0 where
   pub passes : Bool
   pub leaves : L
 
+-- A stage made of its refusal, whether it passes, and what it leaves where it is the first that does not.
 abbrev pub stage : {L : Type 0} → Refusal → Bool → L → Stage L
 stage r b l = record { refusal = r; passes = b; leaves = l }
 
@@ -35,7 +37,7 @@ unfoldable pub run : {A L : Type 0} → (Refusal → A) → List (Stage L) → L
 run refuse [] done = done
 run refuse (t ∷ ts) done = cond (t .passes) (run refuse ts done) (left (refuse (t .refusal)) (t .leaves))
 
--- what a call answers and leaves
+-- What a call answers and leaves: its stages run in order, up to the first that does not pass.
 unfoldable pub called : {A L : Type 0} → Call A L → Left A L
 called c = run (c .refuse) (c .stages) (c .done)
 
@@ -68,7 +70,7 @@ abbrev pub Each : {L : Type 0} → (Refusal → Type 0) → List (Stage L) → T
 Each Q [] = Unit {0}
 Each Q (t ∷ ts) = Q (t .refusal) × Each Q ts
 
--- no test's number is r's
+-- Whether no test of the list has the number of the refusal r.
 unfoldable pub without : Refusal → List Test → Bool
 without r [] = true
 without r (t ∷ ts) = not (eqb (numberOf (t .refusal)) (numberOf r)) && without r ts

@@ -17,19 +17,21 @@ use Rattle.field.specs.Grade.{gradeOf}
 use Rattle.calls.specs.Call as any
 use Rattle.calls.specs.Call.{called, usual}
 
--- the three lent lists
+-- The three lent lists of a call that answers in the start values: these, the floats and the words.
 pub record Lent : Type 0 where
   pub values : List ℕ
   pub floats : List Float
   pub words : List ℕ
 
+-- The three lent lists in one record: the start values, the float scratch and the word scratch.
 abbrev pub lent : List ℕ → List Float → List ℕ → Lent
 lent s f u = record { values = s; floats = f; words = u }
 
--- the answer, and the three lent lists afterwards
+-- The answer of a call on start values, and its three lent lists afterwards.
 abbrev pub Left : Type 0
 Left = any.Left Answer Lent
 
+-- What a call on start values leaves, made of its answer and the three lent lists.
 abbrev pub left : Answer → List ℕ → List Float → List ℕ → Left
 left r s f u = any.left r (lent s f u)
 
@@ -51,7 +53,7 @@ pub record Tells {A : Type 0} (says : Says A) : Type 0 where
 abbrev pub grades : Says Answer
 grades = record { refuse = Refused; done = λ F s. Done (gradeOf F) }
 
--- and a count beside it
+-- The call says the grade and a count beside it when it is done.
 abbrev pub counts : (Field → List ℕ → ℕ) → Says Counted
 counts count = record { refuse = Refuses; done = λ F s. Counts (gradeOf F) (count F s) }
 
@@ -61,6 +63,6 @@ unfoldable pub valuesBy : {A : Type 0} → Says A → Values → Field → List 
 valuesBy says values F s f u =
     called (usual (says .refuse) (lent s f u) (readyTests F s (length f) (length u)) [] (any.left (says .done F s) (lent (values F s) (cleared zero64 f) (cleared 0 u))))
 
--- with the grade alone
+-- A call that answers in the start values and says the grade alone.
 abbrev pub valuesCall : Values → Field → List ℕ → List Float → List ℕ → Left
 valuesCall = valuesBy grades

@@ -145,7 +145,7 @@ fn in_list(
     refused(ABSENT)
 }
 
-// Makes the call, if it is one of these.
+// Makes the call that the head of a case names, if it is one of those that this crate makes.
 pub fn make(
     head: Head,
     c: &[f64],

@@ -54,6 +54,7 @@ fn mend_field(
     put_mended(out, used, outcome, contents, c, rows, cols, q, list, f, u)
 }
 
+// Makes the call `mend` on the field of a case, in lists of its own, and writes the line of its answer.
 pub fn answer_mend(
     head: Head,
     contents: &[u8],

@@ -60,6 +60,7 @@ fn read_case(head: Head, contents: &mut [u8], out: &mut [u8], used: usize) -> Ne
     Next::Stop
 }
 
+// Reads the next case of the stream, its head and its contents; stops where there is none that fits.
 pub fn next_case(contents: &mut [u8], out: &mut [u8], used: usize) -> Next
     ensures { λ r. ⌜ Ready r (length (after contents)) ⌝ }
 {

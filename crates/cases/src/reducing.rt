@@ -78,6 +78,7 @@ fn reduce_field(
     )
 }
 
+// Makes the call `sub_problem` on the field of a case, in lists of its own, and writes the line of its answer.
 pub fn answer_sub_problem(
     head: Head,
     contents: &[u8],

@@ -35,6 +35,7 @@ fn shift_field(
     put(out, fielded, b'\n')
 }
 
+// Makes the call `shift` on the field of a case, in lists of its own, and writes the line of its answer.
 pub fn answer_shift(head: Head, contents: &[u8], out: &mut [u8], used: usize) -> usize
     requires { ⌜ Fits head (length (now contents)) ⌝ }
     ensures { λ r. ⌜ r ≤ length (after out) ⌝ }

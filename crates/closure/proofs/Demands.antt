@@ -35,34 +35,35 @@ unfolding closure
 count-few F {s} start = omega (arith, flat-few (closureRun F s .values) (closureRun F s .rows) (length (closureRun F s .values)), run.closure-valid F start .long)
 
 module _ (F : Field) (s : List ℕ) (f : List Float) (u : List ℕ) where
-  -- any two results that the promise permits are equal
+  -- Theorem. Any two results that the promise permits are equal.
   pub one-result : (x y : Left) → x ≡ closureCall F s f u → y ≡ closureCall F s f u → x ≡ y
   one-result x y p q = p ∙ sym q
 
-  -- DEMAND 1. The call is refused with r exactly if the tests before r's own pass, and its own fails.
+  -- Theorem. DEMAND 1. The call is refused with r exactly if the tests before r's own pass, and its own fails.
   pub refused-when : (r : Refusal) → (closureCall F s f u .answer ≡ Refuses r) ↔ FirstToFail (readyTests F s (length f) (length u)) r
   refused-when = values.refused-when (counts-tell flat) closure F s f u
 
-  -- A refusal changes nothing lent.
+  -- Theorem. A refusal changes nothing lent.
   pub refused-leaves : (r : Refusal) → closureCall F s f u .answer ≡ Refuses r → closureCall F s f u ≡ left (Refuses r) s f u
   refused-leaves = values.refused-leaves (counts-tell flat) closure F s f u
 
-  -- It is done exactly if the field, the start values and both scratches are as the table asks, and then gives the grade and the count.
+  -- Theorem. It is done exactly if the field, the start values and both scratches are as the table asks, and then gives the grade and the count.
   pub done-when : (closureCall F s f u .answer ≡ Counts (gradeOf F) (flat F s)) ↔ Ready F s (length f) (length u)
   done-when = values.done-when (counts-tell flat) closure F s f u
 
   module _ (g : Grade) (k : ℕ) (e : closureCall F s f u .answer ≡ Counts g k) where
-    -- Then the closure is in the start values, and both scratches are all zeros.
+    -- Theorem. Then the closure is in the start values, and both scratches are all zeros.
     pub done-leaves : closureCall F s f u ≡ left (Counts (gradeOf F) (flat F s)) (closure F s) (cleared zero64 f) (cleared 0 u)
     done-leaves = values.done-leaves (counts-tell flat) closure F s f u e counts-apart
 
-    -- The values are those of the run, which no count changes.
+    -- Theorem. The values are those of the run, which no count changes.
     pub values-are : closureCall F s f u .lent .values ≡ closure F s
     values-are = values.values-are (counts-tell flat) closure F s f u e counts-apart
 
     answered : Counts (gradeOf F) (flat F s) ≡ Counts g k
     answered = values.done-answer (counts-tell flat) closure F s f u e counts-apart
 
+    -- Theorem. The count beside the grade is how many free variables have a flat row at the end of the run.
     pub count-is : k ≡ flat F s
     count-is = let a = answered in let z : k ≡ flat F s = cc in z
 
@@ -75,26 +76,26 @@ module _ (F : Field) (s : List ℕ) (f : List Float) (u : List ℕ) where
       (r .shaped, (exact-means F (r .shaped .rows-long) .0 g, r .start))
 
 module _ (F : Field) (s : List ℕ) (f : List Float) (u : List ℕ) (k : ℕ) (e : closureCall F s f u .answer ≡ Counts Exact k) where
-  -- The grade exact says that a unit serves, and the smallest is named. What follows holds in every unit that serves.
+  -- Theorem. The grade exact says that a unit serves, and the smallest is named. What follows holds in every unit that serves.
   pub unit-serves : Serves (unitOf F) F
   unit-serves = exact-field F s f u k e .1 .0
 
-  -- DEMAND 2. On an exact field the values are the gradient closure over whole numbers, no more and no fewer.
+  -- Theorem. DEMAND 2. On an exact field the values are the gradient closure over whole numbers, no more and no fewer.
   pub values-close : {unit : ℕ} → Serves unit F → Closure (Forces (wholeOf unit F)) s (closureCall F s f u .lent .values)
   values-close v = let x = exact-field F s f u k e in rw (values-are F s f u Exact k e) (run.closure-is-closure (x .0) (v .exact) (x .1 .1))
 
-  -- The count is the number of free variables with low = high = 0, at the values that the call leaves.
+  -- Theorem. The count is the number of free variables with low = high = 0, at the values that the call leaves.
   pub flat-exact : {unit : ℕ} → Serves unit F → k ≡ flats (wholeOf unit F) (closureCall F s f u .lent .values)
   unfolding closure
   flat-exact v =
       let x = exact-field F s f u k e in
       rw (values-are F s f u Exact k e) (count-is F s f u Exact k e ∙ flat-rows-exact (run.closure-run-closes (x .0) (v .exact) (x .1 .1)))
 
-  -- DEMAND 3. Every best completion of the start values obeys every one of them.
+  -- Theorem. DEMAND 3. Every best completion of the start values obeys every one of them.
   pub best-obeys : {unit : ℕ} → Serves unit F → {x : List ℕ} → Best (wholeOf unit F) s x → Extends (closureCall F s f u .lent .values) x
   best-obeys v b = let x = exact-field F s f u k e in rw (values-are F s f u Exact k e) (run.closure-obeyed (x .0) (v .exact) (x .1 .1) b)
 
-  -- Further start values that contradict none of them keep each.
+  -- Theorem. Further start values that contradict none of them keep each.
   pub further-keep : (s′ : List ℕ) (f′ : List Float) (u′ : List ℕ) (k′ : ℕ) → closureCall F s′ f′ u′ .answer ≡ Counts Exact k′
       → Extends s s′ → Agrees s′ (closureCall F s f u .lent .values) → Extends (closureCall F s f u .lent .values) (closureCall F s′ f′ u′ .lent .values)
   further-keep s′ f′ u′ k′ e′ = let x = exact-field F s f u k e in let y = exact-field F s′ f′ u′ k′ e′ in

@@ -12,6 +12,7 @@ use Rattle.run.specs.Run.{closureRun, closure, flatRows}
 abbrev pub Left : Type 0
 Left = any.Left Counted Lent
 
+-- What the call `closure` leaves, made of its answer, the start values and both scratches.
 abbrev pub left : Counted → List ℕ → List Float → List ℕ → Left
 left r s f u = any.left r (lent s f u)
 

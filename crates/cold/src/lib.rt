@@ -63,7 +63,7 @@ fn probe_some(
     settle(c, rows, cols, q, start, values, constraints, f, u, count)
 }
 
-// What both probes of every free variable find goes into the values and the constraints; a refusal before 9 changes nothing.
+// What both probes of every free variable find, with rows made afresh, goes into both lists; a refusal before 9 changes nothing.
 pub fn cold_probe(
     c: &[f64],
     rows: &[u16],
@@ -87,7 +87,7 @@ pub fn cold_probe(
     probe_all(c, rows, cols, q, start, values, constraints, f, u)
 }
 
-// The same of up to `candidates` free variables, by falling edge mass, then rising index.
+// The same of up to `candidates` free variables, by falling edge mass, then rising index, with rows made afresh.
 pub fn cold_probe_limited(
     c: &[f64],
     rows: &[u16],

@@ -76,7 +76,7 @@ fn gather(
     walk(c, rows, cols, q, start, values, constraints, f, u, count)
 }
 
-// What the candidates find goes into the answer lists, if there is room.
+// What the candidates find, with rows made afresh, goes into the answer lists, if there is room.
 pub fn settle(
     c: &[f64],
     rows: &[u16],

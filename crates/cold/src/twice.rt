@@ -67,7 +67,7 @@ fn pass(
     last
 }
 
-// The probes of a variable at 0 and at 1, and what they find; where the gathered numbers end now.
+// The probes of a variable at 0 and at 1, with rows made afresh, and what they find; where the gathered numbers end now.
 pub fn both(
     c: &[f64],
     rows: &[u16],

@@ -33,55 +33,55 @@ use Rattle.components.proofs.Bridge.{parts-extend, parts-safe}
 use Rattle.components.proofs.Small as small
 
 module _ (F : Field) (s : List ℕ) (f : List Float) (u : List ℕ) where
-  -- any two results that the promise permits are equal
+  -- Theorem. Any two results that the promise permits are equal.
   pub one-result : (x y : Left) → x ≡ componentsCall F s f u → y ≡ componentsCall F s f u → x ≡ y
   one-result = values.one-result _ F s f u
 
-  -- DEMAND 1. The call is refused with r exactly if the tests before r's own pass, and its own fails.
+  -- Theorem. DEMAND 1. The call is refused with r exactly if the tests before r's own pass, and its own fails.
   pub refused-when : (r : Refusal) → (componentsCall F s f u .answer ≡ Refused r) ↔ FirstToFail (readyTests F s (length f) (length u)) r
   refused-when = values.refused-when _ F s f u
 
-  -- A refusal changes nothing lent.
+  -- Theorem. A refusal changes nothing lent.
   pub refused-leaves : (r : Refusal) → componentsCall F s f u .answer ≡ Refused r → componentsCall F s f u ≡ left (Refused r) s f u
   refused-leaves = values.refused-leaves _ F s f u
 
-  -- It is done exactly if the field, the start values and both scratches are as the table asks, and then gives the grade.
+  -- Theorem. It is done exactly if the field, the start values and both scratches are as the table asks, and then gives the grade.
   pub done-when : (componentsCall F s f u .answer ≡ Done (gradeOf F)) ↔ Ready F s (length f) (length u)
   done-when = values.done-when _ F s f u
 
   module _ (g : Grade) (e : componentsCall F s f u .answer ≡ Done g) where
-    -- Then the values of the small components are in the start values, and both scratches are all zeros.
+    -- Theorem. Then the values of the small components are in the start values, and both scratches are all zeros.
     pub done-leaves : componentsCall F s f u ≡ left (Done (gradeOf F)) (smallParts F s) (cleared zero64 f) (cleared 0 u)
     done-leaves = values.done-leaves _ F s f u g e
 
     pub values-are : componentsCall F s f u .lent .values ≡ smallParts F s
     values-are = values.values-are _ F s f u g e
 
-    -- Whatever the grade, they extend the start values.
+    -- Theorem. Whatever the grade, they extend the start values.
     pub values-extend : Extends s (componentsCall F s f u .lent .values)
     values-extend = let S = values.ready _ F s f u g e .sound in rw values-are (parts-extend (S .shaped) (S .start) .0)
 
-    -- A free variable of a component of at most 10 has a value afterwards,
+    -- Theorem. A free variable of a component of at most 10 has a value afterwards.
     pub small-valued : {i : ℕ} → Open s i → {mine : List ℕ} → Component F true s i mine → length mine ≤ 10 → getD (componentsCall F s f u .lent .values) i 0 < 2
     small-valued free C few = let S = values.ready _ F s f u g e .sound in rw values-are (small.small-valued (S .shaped) s (S .start .long) free C few)
 
-    -- and one of a larger component is still free.
+    -- Theorem. A free variable of a component of more than 10 is still free.
     pub large-kept : {i : ℕ} → Open s i → {mine : List ℕ} → Component F true s i mine → 10 < length mine → getD (componentsCall F s f u .lent .values) i 0 ≡ 2
     large-kept free C many = let S = values.ready _ F s f u g e .sound in rw values-are (small.large-kept (S .shaped) s (S .start .long) free C many)
 
-    -- Of equal sums the lowest mask wins: its bits, in pop order, are the values of a component of at most 10, whatever the sums are.
+    -- Theorem. Of equal sums the lowest mask wins: its bits, in pop order, are the values of a component of at most 10, whatever the sums are.
     pub lowest-first : (p : ℕ) → p < length (components F true s) → (let K = getD (components F true s) p [] in
         length K ≤ 10 → (mask : ℕ) × (First (objective (termsOf F s K)) (2 ^ length K) mask × HasBits (componentsCall F s f u .lent .values) K mask))
     lowest-first p h few = let S = values.ready _ F s f u g e .sound in rw values-are (small.lowest-first (S .shaped) s (S .start .long) p h few)
 
--- DEMAND 3, for values that hold in one best completion. On an exact field some best completion of the start values agrees with all of them.
+-- Theorem. DEMAND 3, for values that hold in one best completion. On an exact field some best completion of the start values agrees with all of them.
 pub some-best-agrees : (F : Field) (s : List ℕ) (f : List Float) (u : List ℕ) → componentsCall F s f u .answer ≡ Done Exact
     → {unit : ℕ} → Serves unit F → Safe (wholeOf unit F) s (componentsCall F s f u .lent .values)
 some-best-agrees F s f u e v =
     let x = values.exact-field _ F s f u e in
     rw (values-are F s f u Exact e) (parts-safe (x .0) (x .1 .1) (omega (arith, v .to)) (v .exact))
 
--- Of the masks of a component of at most 10 the values are those of the lowest that is best, whatever completion the values of a mask are put into.
+-- Theorem. Of the masks of a component of at most 10 the values are those of the lowest that is best, whatever completion the values of a mask are put into.
 pub lowest-of-best : (F : Field) (s : List ℕ) (f : List Float) (u : List ℕ) → componentsCall F s f u .answer ≡ Done Exact → {unit : ℕ} → Serves unit F
     → (p : ℕ) → p < length (components F true s) → (let K = getD (components F true s) p [] in length K ≤ 10
     → (mask : ℕ) × (((x : List ℕ) → Completion s x → Won (λ m. twice-f (wholeOf unit F) (putTo x K m (length K))) (2 ^ length K) mask) × HasBits (componentsCall F s f u .lent .values) K mask))

@@ -46,6 +46,7 @@ module _ {F : Field} {s u : List ℕ} (S : Solvable F s u) {u₁ : List ℕ} (B 
   pub begun-standing : Standing F s u₁
   begun-standing = record { placed = begun-placed (S .shaped) (S .adjacent) (S .room) B; values-long = S .values-long }
 
+  -- Theorem. One pass over all starts leaves the values of all small components, each enumerated.
   pub all-solved : {s′ u′ : List ℕ} → Staged F (λ g. stageTo F g (variables F)) s u₁ s′ u′ → Solved F s u s′ u′
   unfolding smallParts components stageOf
   all-solved D = record {

@@ -73,6 +73,7 @@ module _ (F : Field) (s members : List ℕ) where
   pairs-unmet zero = unmet-none
   pairs-unmet (suc b) = unmet-then (pairs-unmet b) (column-unmet b (length members))
 
+  -- Theorem. The mask of no bit has the objective 0.0, since no term counts in it.
   pub zeroth-sum : objective (termsOf F s members) 0 ≡ zero64
   unfolding termsOf
   zeroth-sum = unmet-then (linear-unmet (length members)) (pairs-unmet (length members)) .sum zero64
@@ -102,7 +103,7 @@ zeroth-best f z zero h = first-best (f 0) z
 zeroth-best f z (suc n) h =
     still-best (f (suc n)) (suc n) (bestOf f (suc n)) (zeroth-best f z n (λ m p l. h m p (omega arith))) (not-below-zero (f (suc n)) (h (suc n) (omega arith) (omega arith)))
 
--- where all sums but that of mask 0, which is 0.0, are NaN or plus infinity, mask 0 wins
+-- Theorem. Where all sums but that of mask 0, which is 0.0, are NaN or plus infinity, mask 0 wins.
 pub zeroth-wins : (F : Field) (s members : List ℕ) → ((m : ℕ) → 0 < m → m < 2 ^ length members → lt (objective (termsOf F s members) m) top ≡ false) → maskOf F s members ≡ 0
 unfolding maskOf
 zeroth-wins F s members h = by (2 ^ length members) (pow-pos (length members)) h
@@ -113,7 +114,7 @@ zeroth-wins F s members h = by (2 ^ length members) (pow-pos (length members)) h
 
 -- ---- the call
 
--- A component of at most 10 of which every mask but 0 sums to NaN or plus infinity gets 0 everywhere.
+-- Theorem. A component of at most 10 of which every mask but 0 sums to NaN or plus infinity gets 0 everywhere.
 pub all-zero : (F : Field) (s : List ℕ) (f : List Float) (u : List ℕ) (g : Grade) → componentsCall F s f u .answer ≡ Done g
     → (p : ℕ) → p < length (components F true s) → (let K = getD (components F true s) p [] in length K ≤ 10
     → ((m : ℕ) → 0 < m → m < 2 ^ length K → lt (objective (termsOf F s K) m) top ≡ false) → HasBits (componentsCall F s f u .lent .values) K 0)

@@ -11,18 +11,20 @@ use Rattle.parts.specs.Walk.{membersFrom, marksFrom}
 use Rattle.parts.specs.Cells.{cells, past, marksIn, Placed}
 use Rattle.components.specs.Small.{solvedPart, smallParts}
 
+-- Where the pass over the starts stands: the marks of the variables seen, and the values so far.
 pub record Stage : Type 0 where
   pub marks : List ℕ
   pub values : List ℕ
 
+-- The state of the pass over the starts, made of its marks and its values.
 abbrev pub stage : List ℕ → List ℕ → Stage
 stage marks values = record { marks = marks; values = values }
 
--- start i: its component, if i is open
+-- The pass at start i: where i is open, its component is found and, if it is small, enumerated.
 unfoldable pub stageAt : Field → Stage → ℕ → Stage
 stageAt F g i = cond (eqb (getD (g .marks) i 0) 2) (stage (marksFrom F true (g .marks) i) (solvedPart F (g .values) (membersFrom F true (g .marks) i))) g
 
--- the starts below i
+-- The pass over all starts below i, from a first stage on.
 unfoldable pub stageTo : Field → Stage → ℕ → Stage
 stageTo F g zero = g
 stageTo F g (suc i) = stageAt F (stageTo F g i) i

@@ -7,7 +7,7 @@ use Rattle.constraints.specs.declared.Kind.the-variants.{AtLeastOne, Exa
 use Rattle.constraints.specs.declared.Coded.the-variants.{Known, Unknown}
 use Rattle.constraints.specs.Codes.{codeOf, kindOf}
 
--- the code of a kind names it
+-- Theorem. The code of a kind names it.
 pub kind-of-code : (k : Kind) → kindOf (codeOf k) ≡ Known k
 kind-of-code AtLeastOne = refl
 kind-of-code ExactlyOne = refl
@@ -16,7 +16,7 @@ kind-of-code GreaterThan = refl
 kind-of-code LessThan = refl
 kind-of-code Equal = refl
 
--- the kind that a code names has that code
+-- Theorem. The kind that a code names has that code.
 pub code-of-kind : (code : ℕ) (k : Kind) → kindOf code ≡ Known k → codeOf k ≡ code
 code-of-kind zero k e = let z : k ≡ AtLeastOne = cc in ap codeOf z
 code-of-kind (suc zero) k e = let z : k ≡ ExactlyOne = cc in ap codeOf z
@@ -57,6 +57,6 @@ unknown-above (suc (suc (suc (suc zero)))) e = let z : _≡_ {A = ℕ} 0 1 = cc 
 unknown-above (suc (suc (suc (suc (suc zero))))) e = let z : _≡_ {A = ℕ} 0 1 = cc in absurd (omega arith)
 unknown-above (suc (suc (suc (suc (suc (suc n)))))) e = omega arith
 
--- two kinds of one code are one
+-- Theorem. Two kinds of one code are one.
 pub code-names : (k l : Kind) → codeOf k ≡ codeOf l → k ≡ l
 code-names k l e = let z : Known k ≡ Known l = sym (kind-of-code k) ∙ ap kindOf e ∙ kind-of-code l in let y : k ≡ l = cc in y

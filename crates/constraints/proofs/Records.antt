@@ -26,7 +26,7 @@ whole-records (a ∷ b ∷ c ∷ l) = let h = whole-records l in omega arith
 pub length-records : (l : List ℕ) → length (records l) ≡ room l
 length-records l = omega (arith, whole-records l, div-add-mod' (length l) 3, mod-lt (length l) {m = 3} (omega arith))
 
--- there is room for record number t exactly if its last place is in the list
+-- Theorem. There is room for record number t exactly if its last place is in the list.
 pub has-room : (l : List ℕ) (t : ℕ) → (t < room l) ↔ (3 * t + 2 < length l)
 has-room l t =
     let d = div-add-mod' (length l) 3 in
@@ -109,7 +109,7 @@ module _ (items : List Record) (list : List ℕ) where
   unfolding filled
   length-filled h = length-over (flat items) list (omega (arith, length-flat items))
 
-  -- nothing behind the last item is written
+  -- Theorem. Nothing behind the last item is written.
   pub filled-rest : drop (3 * length items) (filled items list) ≡ drop (3 * length items) list
   unfolding filled
   filled-rest = over-rest (flat items) list (length-flat items)
@@ -124,7 +124,7 @@ module _ (items : List Record) (list : List ℕ) where
   records-filled =
       records-append items (drop (length (flat items)) list) ∙ ap (λ (k : ℕ). items ++ records (drop k list)) (length-flat items)
 
-  -- to put x behind the last item is to fill with one item more
+  -- Theorem. To put x behind the last item is to fill with one item more.
   pub filled-put : (x : Record) → 3 * length items + 2 < length list → stored (filled items list) (length items) x ≡ filled (items ++ x ∷ []) list
   unfolding stored filled flat
   filled-put x h =

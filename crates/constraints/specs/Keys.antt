@@ -4,11 +4,11 @@ use mathlib.Core.List.{List}
 use lib.ListN.{length, getD}
 use Rattle.meaning.specs.Records.{Record, recordOn, Proper}
 
--- the number, below 2^28
+-- The number of a record, below 2^28: lower variable, higher variable and set, in order.
 abbrev pub keyOf : Record → ℕ
 keyOf x = (x .lower * 4096 + x .higher) * 16 + x .set
 
--- what a number stands for
+-- The record that a number stands for: what `keyOf` makes of it is the number again.
 abbrev pub unkey : ℕ → Record
 unkey k = recordOn (k / 16 / 4096) (k / 16 % 4096) (k % 16)
 

@@ -14,7 +14,7 @@ flat (x ∷ items) = x .lower ∷ x .higher ∷ x .set ∷ flat items
 abbrev pub room : List ℕ → ℕ
 room list = length list / 3
 
--- record number t
+-- Record number t of a flat list, read from its three elements.
 abbrev pub recordAt : List ℕ → ℕ → Record
 recordAt list t = recordOn (getD list (3 * t) 0) (getD list (3 * t + 1) 0) (getD list (3 * t + 2) 0)
 

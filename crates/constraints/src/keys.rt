@@ -11,7 +11,7 @@ ghost use Rattle.constraints.specs.Codes.{meant};
 ghost use Rattle.constraints.specs.Record.{stored};
 ghost use Rattle.constraints.specs.Keys.{keyOf, unkey};
 
-// The number of a record.
+// The number of a record: lower variable, higher variable and set in one u32 below 2^28.
 pub fn number(lower: u16, higher: u16, set: u16) -> u32
     requires { ⌜ lower < 4096 ⌝ }
     requires { ⌜ higher < 4096 ⌝ }

@@ -27,18 +27,25 @@ pub enum Coded {
 }
 
 impl Kind {
+    // The code of the kind that forbids 00: at least one of the two ends is 1.
     pub const AT_LEAST_ONE: u16 = 0;
 
+    // The code of the kind that forbids 00 and 11: one end is 1 and the other is 0.
     pub const EXACTLY_ONE: u16 = 1;
 
+    // The code of the kind that forbids 11: at most one of the two ends is 1.
     pub const NO_MORE_THAN_ONE: u16 = 2;
 
+    // The code of the kind that forbids 01: the first end is not below the second.
     pub const GREATER_THAN: u16 = 3;
 
+    // The code of the kind that forbids 10: the first end is not above the second.
     pub const LESS_THAN: u16 = 4;
 
+    // The code of the kind that forbids 01 and 10: both ends have the same value.
     pub const EQUAL: u16 = 5;
 
+    // The code of this kind, 0 to 5; a record carries the set of its kind, and not the code.
     pub fn code(self) -> u16
         ensures { λ r. ⌜ r ≡ codeOf self ⌝ }
     {

@@ -4,7 +4,7 @@ use mathlib.Core.List.{List, [], _∷_}
 use lib.ListN.{take, drop}
 use lib.Ieee.{Float, binary64, ofBits}
 
--- the lowest byte stands first
+-- The number that bytes are, the lowest byte first.
 unfoldable pub valueOf : List ℕ → ℕ
 valueOf [] = 0
 valueOf (b ∷ bs) = b + 256 * valueOf bs
@@ -17,7 +17,7 @@ numberAt k s at = valueOf (take k (drop at s))
 unfoldable pub floatAt : List ℕ → ℕ → Float
 floatAt s at = ofBits binary64 (numberAt 8 s at)
 
--- a number in k bytes
+-- The k bytes of a number, the lowest byte first; what does not fit them is left out.
 unfoldable pub bytesOf : ℕ → ℕ → List ℕ
 bytesOf zero n = []
 bytesOf (suc k) n = n % 256 ∷ bytesOf k (n / 256)

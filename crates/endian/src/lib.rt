@@ -32,6 +32,7 @@ pub fn number(bytes: &[u8], at: usize, width: usize) -> u64
     value
 }
 
+// The u16 in the two bytes from index `at` on, the lowest byte first.
 pub fn short(bytes: &[u8], at: usize) -> u16
     requires { ⌜ at + 2 ≤ length (now bytes) ⌝ }
     ensures { λ r. ⌜ r ≡ numberAt 2 (before bytes) at ⌝ }
@@ -39,6 +40,7 @@ pub fn short(bytes: &[u8], at: usize) -> u16
     number(bytes, at, 2) as u16
 }
 
+// The u32 in the four bytes from index `at` on, the lowest byte first.
 pub fn word(bytes: &[u8], at: usize) -> u32
     requires { ⌜ at + 4 ≤ length (now bytes) ⌝ }
     ensures { λ r. ⌜ r ≡ numberAt 4 (before bytes) at ⌝ }

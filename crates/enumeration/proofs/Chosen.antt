@@ -32,7 +32,7 @@ all-fit F s u at count few room e₀ R A B =
       required-long = omega (arith, A .ends, B .ends, A .required-long, B .required-long, R .required-long);
     }
 
--- the lowest mask of least objective by the linear terms and then those of pairs is the mask that wins
+-- Theorem. The lowest mask of least objective by the linear terms and then those of pairs is the mask that wins.
 pub chosen : (F : Field) (s u : List ℕ) (at count : ℕ) {L₀ L₁ L₂ : Lists} {size r : ℕ} → at + count ≤ length u → L₀ .end ≡ 0
     → Listed (linearTerms F s (region at count u) count) L₀ L₁ → Listed (pairTerms F (region at count u) count) L₁ L₂ → size ≡ 2 ^ count
     → r ≡ lowest (objective (termsOn (L₂ .values) (L₂ .required) (L₂ .end))) size → r ≡ maskOf F s (region at count u)

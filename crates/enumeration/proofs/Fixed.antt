@@ -86,6 +86,7 @@ module _ {u : ℕ} {F : Field} (shaped : Shaped F) (exact : ExactIn u F) {t : Li
       by true m more = more (linearAt F t i x k) (at-place k (omega arith) X m)
       by false m more = more x (pass k X m)
 
+  -- Theorem. On an exact field the linear part of a member is 2c and the weights to variables that are 1, in whole numbers.
   pub part-worth : Worth u (linearPart F t i) (fixedPart u F t i)
   unfolding linearPart places sum
   part-worth = from (entries F) 0 _ (omega arith) (as-worth (linear-worth exact i hi) (omega arith))

@@ -86,6 +86,7 @@ module _ {u : ℕ} {F : Field} (unit : u ≤ 2044) (shaped : Shaped F) (exact : 
   pairs-adds zero = adds-bound (omega arith) adds-none
   pairs-adds (suc c) = adds-bound (omega arith) (adds-then (pairs-adds c) (adds-bound {b′ = 2 ^ 31 * 10} (omega arith) (column-adds c (length ms))))
 
+  -- Theorem. On an exact field the objective of a mask is what its bits weigh, in whole numbers: no sum rounds.
   pub objective-worth : Worth u (objective (termsOf F t ms) mask) (weighed u F t ms mask)
   unfolding termsOf
   objective-worth =

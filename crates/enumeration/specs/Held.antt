@@ -16,6 +16,7 @@ pub record Placed (F : Field) (u : List ℕ) : Type 0 where
   pub shaped : Shaped F
   pub adjacent : Adjacent (variables F) (F .rows) (F .cols) u
 
+-- The field has its shape, the adjacency is in its place, and there is a value for each variable.
 pub record Held (F : Field) (s u : List ℕ) : Type 0 where
   pub placed : Placed F u
   pub values-long : length s ≡ variables F

@@ -111,7 +111,7 @@ fn list_column(
     end
 }
 
-// All of them, by columns in pop order.
+// Lists the terms of all entries between members, by columns in pop order.
 pub fn list_pairs(
     c: &[f64],
     rows: &[u16],

@@ -1,4 +1,10 @@
 -- THE PARTS DO NOT OVERLAP: each lies below a power of two of which all later ones are multiples. So a sum that is 0 leaves no part. Assumes nothing.
+-- The idea. A number x that is carried past a part y leaves two floats in place of both: their rounded sum, which is carried on, and what rounding
+-- left over, which stays as a part. Nothing is lost, and what is left over lies below a power of two of which the rounded sum is a multiple; it is
+-- also not larger than y, and both are multiples of whatever power of two x and y were multiples of. So the parts stay a ladder: each of them
+-- is below a power of two, its rung, of which every later part is a multiple.
+-- Suppose that the parts of a ladder add up to 0. Then the first is as large as the sum of the others, which is a multiple of its rung. But it is
+-- below its rung, so it is 0, and no part is. So there is no part: the test for no parts says exactly whether what was added comes to 0.
 use mathlib.Core.Path.{_≡_, refl, sym, _∙_}
 use mathlib.Core.Logic.{_⊎_, inl, inr, _↔_}
 use mathlib.Core.Bool.{Bool, true, false, cond, false≢true}

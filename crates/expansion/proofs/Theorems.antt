@@ -20,7 +20,7 @@ use Rattle.expansion.proofs.Overflow as overflow
 pub one-add : (x : Float) {e : Expansion} {a : Whole} → T (fits binary64 x) → Totals e a → Totals (plus x e) (a ⊕ read 0 x)
 one-add = exact.plus-totals
 
--- The parts add up to the true sum of what was added, while no sum has overflowed.
+-- Theorem. The parts add up to the true sum of what was added, while no sum has overflowed.
 pub parts-add-up : {l : List Float} → AllHeld l → Totals (addAll (parts []) l) (total l)
 parts-add-up = ladder.sum-from-none
 
@@ -28,14 +28,15 @@ parts-add-up = ladder.sum-from-none
 pub zero-certain : {l : List Float} → AllHeld l → comesToZero (addAll (parts []) l) ≡ true → Zero (total l)
 zero-certain = ladder.sum-certain
 
+-- Theorem. Where no sum has overflowed, no part is left exactly if what was added comes to 0.
 pub zero-exactly : {l r : List Float} → AllHeld l → addAll (parts []) l ≡ parts r → (comesToZero (addAll (parts []) l) ≡ true) ↔ Zero (total l)
 zero-exactly = ladder.sum-exactly
 
--- It is invalid exactly if a number added, or an f64 sum on its way, is not finite: nothing else makes it so, and nothing hides it.
+-- Theorem. It is invalid exactly if a number added, or an f64 sum on its way, is not finite: nothing else makes it so, and nothing hides it.
 pub invalid-exactly : (l : List Float) → (addAll (parts []) l ≡ invalid) ↔ Overflows l
 invalid-exactly = overflow.invalid-when
 
--- There is at most one part for each number added.
+-- Theorem. There is at most one part for each number added.
 pub one-part-each : (l : List Float) {r : List Float} → addAll (parts []) l ≡ parts r → length r ≤ length l
 one-part-each = overflow.parts-few
 

@@ -15,21 +15,22 @@ pub record Number (x : Float) : Type 0 where
   pub held : T (fits binary64 x)
   pub finite-one : T (finite x)
 
+-- Every float of the list is a finite f64, as the parts of a valid sum are.
 pub data Numbers : List Float → Type 0 where
   none : Numbers []
   more : {x : Float} {l : List Float} → Number x → Numbers l → Numbers (x ∷ l)
 
--- each is an f64
+-- Every float of the list is one that an f64 holds, be it finite or not.
 pub data AllHeld : List Float → Type 0 where
   none-held : AllHeld []
   more-held : {x : Float} {l : List Float} → T (fits binary64 x) → AllHeld l → AllHeld (x ∷ l)
 
--- their sum
+-- The sum of all floats of the list, as a whole number of the unit 2^-1074.
 unfoldable pub total : List Float → Whole
 total [] = nothing
 total (x ∷ l) = read 0 x ⊕ total l
 
--- each added in order
+-- The expansion that is left when the floats of the list are added in order.
 unfoldable pub addAll : Expansion → List Float → Expansion
 addAll e [] = e
 addAll e (x ∷ l) = addAll (plus x e) l

@@ -21,6 +21,7 @@ unfoldable pub sumsFrom : List Float → List Float → List Float
 sumsFrom ps [] = []
 sumsFrom ps (x ∷ l) = sumsAlong x ps ++ sumsFrom (partsAlong x ps) l
 
+-- Whether every float of the list is finite, so that none of these sums has overflowed.
 unfoldable pub allFinite : List Float → Bool
 allFinite [] = true
 allFinite (x ∷ l) = finite x && allFinite l
@@ -29,6 +30,6 @@ allFinite (x ∷ l) = finite x && allFinite l
 abbrev pub Valid : List Float → Type 0
 Valid l = allFinite (sumsFrom [] l) ≡ true
 
--- or one is not
+-- A number that is added to no parts, or a sum on the way, is not finite.
 abbrev pub Overflows : List Float → Type 0
 Overflows l = allFinite (sumsFrom [] l) ≡ false

@@ -23,14 +23,15 @@ pub data Expansion : Type 0 where
 abbrev pub twoSum : Float → Float → Split
 twoSum x y = record { high = add binary64 x y; low = sub binary64 y (sub binary64 (add binary64 x y) x) }
 
--- the larger in magnitude first
+-- x + y as a rounded sum and what rounding left over, with the larger in magnitude taken first.
 unfoldable pub splitOf : Float → Float → Split
 splitOf x y = cond (lt (magnitude x) (magnitude y)) (twoSum y x) (twoSum x y)
 
--- x in front, unless it is 0
+-- The list with x in front, unless x is 0: a part that is 0 is not kept.
 unfoldable pub kept : Float → List Float → List Float
 kept x l = cond (ne x zero64) (x ∷ l) l
 
+-- The expansion with x as its first part, unless x is 0; an invalid one stays invalid.
 unfoldable pub inFront : Float → Expansion → Expansion
 inFront x (parts l) = parts (kept x l)
 inFront x invalid = invalid
@@ -40,6 +41,7 @@ unfoldable pub carried : Float → List Float → Expansion
 carried x [] = parts (kept x [])
 carried x (y ∷ ys) = cond (finite (splitOf x y .high)) (inFront (splitOf x y .low) (carried (splitOf x y .high) ys)) invalid
 
+-- One number added: x is carried through the parts, and where it is not finite the sum is invalid.
 unfoldable pub plus : Float → Expansion → Expansion
 plus x (parts l) = cond (finite x) (carried x l) invalid
 plus x invalid = invalid
@@ -57,10 +59,12 @@ unfoldable pub sumIn : ExactSum → List Float → Expansion
 sumIn (Parts k) f = parts (take k f)
 sumIn Invalid f = invalid
 
+-- How many parts the code holds at the front of its lent list; 0 once the sum is invalid.
 abbrev pub countOf : ExactSum → ℕ
 countOf (Parts k) = k
 countOf Invalid = 0
 
+-- Whether the code's sum is valid and has no part, and so what was added comes to 0.
 unfoldable pub isZero : ExactSum → Bool
 isZero (Parts k) = eqb k 0
 isZero Invalid = false
@@ -71,6 +75,7 @@ pub record Keeps (x : Float) (k : ℕ) (f f′ : List Float) (r : ℕ) : Type 0 
   pub rest : drop (k + 1) f′ ≡ drop (k + 1) f
   pub grows : r ≤ k + 1
 
+-- The call that carries x through k parts leaves the model's expansion, with at most one part more.
 pub record Carried (x : Float) (k : ℕ) (f f′ : List Float) (r : ExactSum) : Type 0 where
   pub sum : sumIn r f′ ≡ carried x (take k f)
   pub grows : countOf r ≤ k + 1

@@ -65,7 +65,7 @@ fn carry(parts: &mut [f64], count: usize, x: f64) -> ExactSum
 }
 
 impl ExactSum {
-    // At most one part more than before.
+    // Adds x without error; the sum has then at most one part more than before.
     pub fn add(self, parts: &mut [f64], x: f64) -> ExactSum
         requires { ⌜ countOf self < length (now parts) ⌝ }
         ensures { λ r. ⌜ Adds x self (before parts) (after parts) r ⌝ }
@@ -79,6 +79,7 @@ impl ExactSum {
         ExactSum::Invalid
     }
 
+    // Whether what was added comes to 0: no part is left, and no sum has overflowed.
     pub fn is_zero(self) -> bool
         ensures { λ r. ⌜ r ≡ isZero self ⌝ }
     {

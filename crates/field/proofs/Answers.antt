@@ -32,7 +32,7 @@ named-number Inexact = refl
 named-number Unforced = refl
 named-number Sum = refl
 
--- equal numbers and equal positions name one refusal
+-- Theorem. Equal numbers and equal positions name one refusal.
 pub number-names : (r s : Refusal) → numberOf r ≡ numberOf s → positionOf r ≡ positionOf s → r ≡ s
 number-names r s e p = sym (named-number r) ∙ ap (λ k. named k (positionOf r)) e ∙ ap (named (numberOf s)) p ∙ named-number s
 
@@ -55,6 +55,7 @@ number-most Inexact = omega arith
 number-most Unforced = omega arith
 number-most Sum = omega arith
 
+-- Theorem. No refusal has the number 3, which is not given any more, or 11, which is the record program's own.
 pub number-other : (r : Refusal) → (numberOf r ≢ 3) × (numberOf r ≢ 11)
 number-other Variables = ((λ e. omega arith), λ e. omega arith)
 number-other Lists = ((λ e. omega arith), λ e. omega arith)

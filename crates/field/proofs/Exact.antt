@@ -124,7 +124,7 @@ graded-exact : (b : Bool) → (cond b Exact Inexact ≡ Exact) ↔ (b ≡ true)
 graded-exact true = ((λ e. refl), λ e. refl)
 graded-exact false = ((λ e. let z : false ≡ true = cc in z), λ e. absurd (false≢true e))
 
--- THE UNIT: it is at most any that serves
+-- Theorem. THE UNIT: it is at most any that serves.
 pub unit-least : {u : ℕ} {F : Field} → Serves u F → unitOf F ≤ u
 unfolding unitOf
 unit-least {u} {F} h =
@@ -145,7 +145,7 @@ module _ (F : Field) (long : length (F .rows) ≡ entries F) where
       let t = both-is (offDiagonal (F .rows) (F .cols)) (leb (unitOf F) coarsest) (diagonal-means (F .rows) (F .cols)) (le-is (unitOf F) coarsest) in
       ((λ e. let p = t .0 (graded-exact _ .0 e) in ((λ k l. p .0 k (omega arith)), p .1)), λ h. graded-exact _ .1 (t .1 ((λ k l. h .0 k (omega arith)), h .1)))
 
-  -- THE GRADE: exact exactly if the unit that is named serves, which is so exactly if some unit does
+  -- Theorem. THE GRADE: exact exactly if the unit that is named serves, which is so exactly if some unit does.
   pub exact-means : (gradeOf F ≡ Exact) ↔ Serves (unitOf F) F
   exact-means = ((λ e. to (grade-parts .0 e)), λ h. grade-parts .1 (h .exact .standard, h .to))
     where
@@ -155,6 +155,7 @@ module _ (F : Field) (long : length (F .rows) ≡ entries F) where
       to : Standard F × (unitOf F ≤ coarsest) → Serves (unitOf F) F
       to h = record { from = unit-from F; to = h .1; exact = serves-means (unitOf F) F (omega (arith, h .1)) (h .0) .0 (passes (h .1)) }
 
+  -- Theorem. The grade is exact exactly if some unit of 2^-20 to 2^20 serves the field.
   pub some-serves : (gradeOf F ≡ Exact) ↔ ((u : ℕ) × Serves u F)
   some-serves = ((λ e. (unitOf F, exact-means .0 e)), λ h. grade-parts .1 (h .1 .exact .standard, omega (arith, unit-least (h .1), h .1 .to)))
 

@@ -276,7 +276,7 @@ module _ (n : ℕ) (rows cols : List ℕ) where
       ),
     )
 
-    -- a list that was refused with 3 gets exactly one number and one position, and no other list gets any
+    -- Theorem. A list that was refused with 3 gets exactly one number and one position, and no other list gets any.
     pub formerly-three : (inOrder n rows cols ≡ false) ↔ OneFault n rows cols
     formerly-three = (
       (λ e. record { refusal = faultOf n rows cols; given = fault-means (faultOf n rows cols) .0 (e, refl); only = λ r x. sym (fault-means r .1 x .1) }),
@@ -302,7 +302,7 @@ unfolding faultOf
 fault-other n rows cols number small =
     ne-eqb (numberOf (faultOf n rows cols)) number (λ e. omega (arith, e, wrong-other n rows cols (firstFrom (isFine n rows cols) 0 (length rows))))
 
--- the position is that of an entry
+-- Theorem. The position is that of an entry.
 pub fault-position : {n : ℕ} {rows cols : List ℕ} {r : Refusal} → Fault n rows cols r → positionOf r < length rows
 fault-position (row R r) = R .entry
 fault-position (column R r c) = R .entry
@@ -316,7 +316,7 @@ module _ (F : Field) where
   fault-by (passes _ (fails e)) L = absurd (true≢false (sym (lists-mean (F .rows) (F .cols) (F .quad) .1 (L .rows-long, (L .cols-long, L .few-entries))) ∙ e))
   fault-by (passes _ (passes _ (fails e))) L = fault-means (variables F) (F .rows) (F .cols) (L .rows-long ∙ sym (L .cols-long)) _ .0 (e, refl)
 
-  -- 14 to 17: past tests 1 and 2 each is given exactly if every entry before its position is fine, and the entry there has this fault and none tested earlier
+  -- Theorem. 14 to 17: past tests 1 and 2 each is given exactly if every entry before its position is fine, and the entry there has this fault and none tested earlier.
   pub fault-exactly : Listed F → (r : Refusal) → (tested (shapeTests F) ≡ Failed r) ↔ Fault (variables F) (F .rows) (F .cols) r
   unfolding shapeTests
   fault-exactly L r = (
@@ -358,22 +358,27 @@ near-group ts us first rest r e = go (tested ts) refl
     go Passed q = rest r (group-ok ts us q refl ∙ e)
     go (Failed s) q = subst (λ (t : Refusal). positionOf t < 32768) (same-refusal (group-no ts us q ∙ e)) (first s q)
 
+-- Theorem. Any position that the tests of the shape name is below 32,768.
 pub shapes-near : (F : Field) → Near (shapeTests F)
 shapes-near F r e = shape-near F (refused-exactly (shapeTests F) r .0 e)
 
+-- Theorem. Any position that the tests of a field with a diagonal name is below 32,768.
 pub loose-near : (F : Field) → Near (looseTests F)
 unfolding looseTests
 loose-near F = near-group _ _ (shapes-near F) (near-test Weights _ _ (omega arith) near-none)
 
+-- Theorem. Any position that these tests with start values and scratch name is below 32,768.
 pub open-near : (F : Field) (s : List ℕ) (floats words : ℕ) → Near (openTests F s floats words)
 unfolding openTests
 open-near F s floats words =
     near-group _ _ (loose-near F) (near-test Start _ _ (omega arith) (near-test Scratch _ _ (omega arith) (near-test Scratch _ _ (omega arith) near-none)))
 
+-- Theorem. Any position that the tests of standard form name is below 32,768.
 pub standard-near : (F : Field) (s : List ℕ) → Near (standardTests F s)
 unfolding standardTests
 standard-near F s = near-group _ _ (shapes-near F) (near-test Diagonal _ _ (omega arith) (near-test Weights _ _ (omega arith) (near-test Start _ _ (omega arith) near-none)))
 
+-- Theorem. Any position that all the tests of a field, its start values and scratch name is below 32,768.
 pub ready-near : (F : Field) (s : List ℕ) (floats words : ℕ) → Near (readyTests F s floats words)
 unfolding readyTests
 ready-near F s floats words = near-group _ _ (standard-near F s) (near-test Scratch _ _ (omega arith) (near-test Scratch _ _ (omega arith) near-none))

@@ -19,12 +19,12 @@ use Rattle.field.proofs.Table.{pass-is, last-is, group-is}
 
 -- ---- each test
 
--- 1 is not given exactly if n is at most 4,096
+-- Theorem. 1 is not given exactly if n is at most 4,096.
 pub few-means : (n : ℕ) → (fewVariables n ≡ true) ↔ (n ≤ 4096)
 unfolding fewVariables
 few-means n = le-is n 4096
 
--- 2: exactly if the lists are of one length, at most 32,768
+-- Theorem. 2: exactly if the lists are of one length, at most 32,768.
 pub lists-mean : (rows cols : List ℕ) (q : List Float)
     → (listsMatch rows cols q ≡ true) ↔ ((length rows ≡ length q) × ((length cols ≡ length q) × (length q ≤ 32768)))
 unfolding listsMatch
@@ -41,13 +41,13 @@ rise-means rows cols =
     every-is (risesAt rows cols) (λ k. Before (getD rows k 0) (getD cols k 0) (getD rows (k + 1) 0) (getD cols (k + 1) 0)) _
     (λ k. either-is _ _ (lt-is _ _) (both-is _ _ (eq-is _ _) (lt-is _ _)))
 
--- 14 to 17: none exactly if every row and column is below n, and each entry stands before the next
+-- Theorem. 14 to 17: none exactly if every row and column is below n, and each entry stands before the next.
 pub order-means : (n : ℕ) (rows cols : List ℕ)
     → (inOrder n rows cols ≡ true) ↔ (((k : ℕ) → k < length rows → getD rows k 0 < n) × (((k : ℕ) → k < length cols → getD cols k 0 < n) × ((k : ℕ) → k < length rows - 1 → Before (getD rows k 0) (getD cols k 0) (getD rows (k + 1) 0) (getD cols (k + 1) 0))))
 unfolding inOrder
 order-means n rows cols = both-is _ _ (below-means n rows) (both-is _ _ (below-means n cols) (rise-means rows cols))
 
--- 4: exactly if no entry has its row equal to its column
+-- Theorem. 4: exactly if no entry has its row equal to its column.
 pub diagonal-means : (rows cols : List ℕ) → (offDiagonal rows cols ≡ true) ↔ ((k : ℕ) → k < length rows → getD rows k 0 ≢ getD cols k 0)
 unfolding offDiagonal
 diagonal-means rows cols = every-is _ (λ k. getD rows k 0 ≢ getD cols k 0) _ (λ k. ne-is _ _)
@@ -56,7 +56,7 @@ pub all-finite-means : (w : List Float) → (allFinite w ≡ true) ↔ ((k : ℕ
 unfolding allFinite
 all-finite-means w = every-is _ (λ k. T (finite (getD w k nan))) _ (λ k. true-is _)
 
--- 5: exactly if every weight is finite
+-- Theorem. 5: exactly if every weight is finite.
 pub finite-means : (c q : List Float)
     → (weightsFinite c q ≡ true) ↔ (((i : ℕ) → i < length c → T (finite (getD c i nan))) × ((k : ℕ) → k < length q → T (finite (getD q k nan))))
 unfolding weightsFinite
@@ -72,24 +72,26 @@ everywhere [] h i = omega arith
 everywhere (x ∷ s) h zero = h zero (omega arith)
 everywhere (x ∷ s) h (suc i) = everywhere s (λ j l. h (suc j) (omega arith)) i
 
--- 6: exactly if the start values are n bytes, none above 2
+-- Theorem. 6: exactly if the start values are n bytes, none above 2.
 pub start-means : (n : ℕ) (s : List ℕ) → (startFits n s ≡ true) ↔ StartFor n s
 unfolding startFits
 start-means n s =
     let t = both-is _ _ (eq-is (length s) n) (bytes-mean s) in
     ((λ e. record { long = t .0 e .0; small = everywhere s (t .0 e .1) }), λ h. t .1 (h .long, λ i l. h .small i))
 
--- 8: exactly if the scratch is as long as the table asks
+-- Theorem. 8: exactly if the scratch is as long as the table asks.
 pub floats-mean : (n m floats : ℕ) → (floatsFit n m floats ≡ true) ↔ (8 * n + 4 * m + 16 ≤ floats)
 unfolding floatsFit
 floats-mean n m floats = le-is _ _
 
+-- Theorem. 8: exactly if the u32 scratch is as long as the table asks, 16n + 8m + 16.
 pub words-mean : (n m words : ℕ) → (wordsFit n m words ≡ true) ↔ (16 * n + 8 * m + 16 ≤ words)
 unfolding wordsFit
 words-mean n m words = le-is _ _
 
 -- ---- the groups
 
+-- Theorem. Tests 1, 2 and 14 to 17 pass exactly if the field has its shape.
 pub shape-passes : (F : Field) → (tested (shapeTests F) ≡ Passed) ↔ Shaped F
 unfolding shapeTests
 shape-passes F = ((λ e. to (t .0 e)), λ h. t .1 (from h))
@@ -128,6 +130,7 @@ shape-passes F = ((λ e. to (t .0 e)), λ h. t .1 (from h))
       ),
     )
 
+-- Theorem. These and 5 pass exactly if the field has its shape and every weight is finite.
 pub loose-passes : (F : Field) → (tested (looseTests F) ≡ Passed) ↔ Loose F
 unfolding looseTests
 loose-passes F =
@@ -136,6 +139,7 @@ loose-passes F =
       λ h. t .1 (h .shaped, (h .finite-weights .linear, h .finite-weights .quad)),
     )
 
+-- Theorem. `openTests` pass exactly if shape, weights, start values and scratch are as asked; a diagonal is allowed.
 pub admitted-passes : (F : Field) (s : List ℕ) (floats words : ℕ) → (tested (openTests F s floats words) ≡ Passed) ↔ Admitted F s floats words
 unfolding openTests
 admitted-passes F s floats words =
@@ -151,6 +155,7 @@ admitted-passes F s floats words =
 pub admitted-loose : {F : Field} {s : List ℕ} {floats words : ℕ} → Admitted F s floats words → Loose F
 admitted-loose A = record { shaped = A .shaped; finite-weights = A .finite-weights }
 
+-- Theorem. `standardTests` pass exactly if the field is in standard form and finite, and the start values fit it.
 pub standard-passes : (F : Field) (s : List ℕ) → (tested (standardTests F s) ≡ Passed) ↔ Sound F s
 unfolding standardTests
 standard-passes F s =
@@ -172,6 +177,7 @@ standard-passes F s =
 pub sound-loose : {F : Field} {s : List ℕ} → Sound F s → Loose F
 sound-loose S = record { shaped = S .shaped; finite-weights = S .finite-weights }
 
+-- Theorem. `readyTests` pass exactly if the field and its start values are sound and both scratches are long enough.
 pub ready-passes : (F : Field) (s : List ℕ) (floats words : ℕ) → (tested (readyTests F s floats words) ≡ Passed) ↔ Ready F s floats words
 unfolding readyTests
 ready-passes F s floats words =

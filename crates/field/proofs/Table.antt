@@ -32,7 +32,7 @@ unfolding tested
 first-refuses (fails p) = rw p
 first-refuses (passes p f) = rw p (first-refuses f)
 
--- THE TABLE: a refusal is given exactly if every test before its own passes, and its own fails
+-- Theorem. THE TABLE: a refusal is given exactly if every test before its own passes, and its own fails.
 pub refused-exactly : (ts : List Test) (r : Refusal) → (tested ts ≡ Failed r) ↔ FirstToFail ts r
 refused-exactly ts r = (refused-by ts r, first-refuses)
 
@@ -50,7 +50,7 @@ unfolding tested
 passed-all none = refl
 passed-all (more p a) = rw p (passed-all a)
 
--- no refusal is given exactly if every test passes
+-- Theorem. No refusal is given exactly if every test passes.
 pub passed-exactly : (ts : List Test) → (tested ts ≡ Passed) ↔ AllPass ts
 passed-exactly ts = (all-passed ts, passed-all)
 

@@ -30,7 +30,7 @@ ones {x} w t =
     let same : w .ledger ≈ r ⊙ 2 = same-worth (w .worth) (finer-worth 1 h) in
     record { ledger = r; worth = h; at-most = omega (arith, w .at-most); at-least = omega (arith, w .at-least) }
 
--- WHAT TURNS INEXACT: a field that was exact stays so exactly if every |c| is at most 2^30, or every 2c and q is even
+-- Theorem. WHAT TURNS INEXACT: a field that was exact stays so exactly if every |c| is at most 2^30, or every 2c and q is even.
 pub stays-exact : (F : Field) → length (F .rows) ≡ entries F → InHalves F → (gradeOf F ≡ Exact) ↔ (Low F ⊎ Even F)
 stays-exact F long old = ((λ e. let s = some-serves F long .0 e in go (s .0) (s .1)), λ h. some-serves F long .1 (⊎-elim low even h))
   where

@@ -59,5 +59,6 @@ exact-between low high l h = record {
   quad = λ k b. weighs-between (low .quad k b) (high .quad k b) (omega arith) (omega arith);
 }
 
+-- Theorem. A unit between two that serve a field serves it too, so that those that serve are an interval.
 pub serves-between : {u v w : ℕ} {F : Field} → Serves u F → Serves v F → u ≤ w → w ≤ v → Serves w F
 serves-between low high l h = record { from = omega (arith, low .from); to = omega (arith, high .to); exact = exact-between (low .exact) (high .exact) l h }

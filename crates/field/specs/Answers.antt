@@ -9,6 +9,7 @@ use Rattle.field.specs.declared.Answer.the-variants.{Done, Refused}
 use Rattle.field.specs.declared.Counted.{Counted}
 use Rattle.field.specs.declared.Counted.the-variants.{Counts, Refuses}
 
+-- The table's number of a refusal: 1, 2, 4 to 10 and 12 to 18, each for one refusal alone.
 abbrev pub numberOf : Refusal → ℕ
 numberOf Variables = 1
 numberOf Lists = 2
@@ -46,14 +47,17 @@ positionOf Inexact = 0
 positionOf Unforced = 0
 positionOf Sum = 0
 
+-- The number that a group of tests answers: 0 where all pass, else that of the refusal.
 abbrev pub checkedNumber : Checked → ℕ
 checkedNumber Passed = 0
 checkedNumber (Failed r) = numberOf r
 
+-- The number that a call answers with a grade: 0 where it is done, else that of the refusal.
 abbrev pub answerNumber : Answer → ℕ
 answerNumber (Done g) = 0
 answerNumber (Refused r) = numberOf r
 
+-- The number that a call answers with a grade and a count: 0 where it is done, else that of the refusal.
 abbrev pub countedNumber : Counted → ℕ
 countedNumber (Counts g k) = 0
 countedNumber (Refuses r) = numberOf r

@@ -10,7 +10,7 @@ use Rattle.field.specs.Answers.{positionOf}
 use Rattle.field.specs.Table.{Test, tested}
 use Rattle.field.specs.Field.{Field, variables, entries, Before}
 
--- entry k has nothing wrong: its row and its column are below n, and it stands after the entry before
+-- Entry k has nothing wrong, as a statement: its ends are below n, and it stands after the entry before.
 pub record Fine (n : ℕ) (rows cols : List ℕ) (k : ℕ) : Type 0 where
   pub row-below : getD rows k 0 < n
   pub column-below : getD cols k 0 < n
@@ -30,7 +30,7 @@ pub data Fault (n : ℕ) (rows cols : List ℕ) : Refusal → Type 0 where
   back : {k : ℕ} → Reached n rows cols k → getD rows k 0 < n → getD cols k 0 < n
       → 0 < k → Before (getD rows k 0) (getD cols k 0) (getD rows (k - 1) 0) (getD cols (k - 1) 0) → Fault n rows cols (Order k)
 
--- tests 1 and 2 pass
+-- Tests 1 and 2 pass: few variables, and entry lists of one length, not too long.
 pub record Listed (F : Field) : Type 0 where
   pub few-variables : variables F ≤ 4096
   pub rows-long : length (F .rows) ≡ entries F

@@ -9,39 +9,46 @@ use denote.Ref.{RefT, now}
 use denote.Triple.Both.{Both}
 use Rattle.scratch.specs.Lent.{before}
 
+-- The four lists of a field: the linear weights, and of each entry the row, the column and the pair weight.
 pub record Field : Type 0 where
   pub linear : List Float
   pub rows : List ℕ
   pub cols : List ℕ
   pub quad : List Float
 
+-- The field of the linear weights c, the rows, the columns and the pair weights q.
 abbrev pub fieldOf : List Float → List ℕ → List ℕ → List Float → Field
 fieldOf c rows cols q = record { linear = c; rows = rows; cols = cols; quad = q }
 
--- n and m
+-- n, how many variables the field has: one for each linear weight.
 abbrev pub variables : Field → ℕ
 variables F = length (F .linear)
 
+-- m, how many entries the field has: one for each pair weight.
 abbrev pub entries : Field → ℕ
 entries F = length (F .quad)
 
--- c of variable i, and the two ends and q of entry k
+-- The linear weight c of variable i; a NaN where there is no such variable.
 abbrev pub linearOf : Field → ℕ → Float
 linearOf F i = getD (F .linear) i nan
 
+-- The row of entry k, which is the variable at its one end; 0 where there is no such entry.
 abbrev pub rowEnd : Field → ℕ → ℕ
 rowEnd F k = getD (F .rows) k 0
 
+-- The column of entry k, which is the variable at its other end; 0 where there is no such entry.
 abbrev pub columnEnd : Field → ℕ → ℕ
 columnEnd F k = getD (F .cols) k 0
 
+-- The pair weight q of entry k; a NaN where there is no such entry.
 abbrev pub quadOf : Field → ℕ → Float
 quadOf F k = getD (F .quad) k nan
 
--- words for contracts: the field behind four slices, at a call and in it
+-- The field behind four lent slices as a call is given it, for its contract.
 abbrev pub given : {W X Y Z : Type 0} → Both (RefT (List Float)) W → Both (RefT (List ℕ)) X → Both (RefT (List ℕ)) Y → Both (RefT (List Float)) Z → Field
 given c rows cols q = fieldOf (before c) (before rows) (before cols) (before q)
 
+-- The field behind four lent slices as they stand now, for what is said inside a call.
 abbrev pub lent : RefT (List Float) → RefT (List ℕ) → RefT (List ℕ) → RefT (List Float) → Field
 lent c rows cols q = fieldOf (now c) (now rows) (now cols) (now q)
 

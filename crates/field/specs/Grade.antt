@@ -21,6 +21,7 @@ use Rattle.field.specs.Tests.{offDiagonal}
 abbrev pub finest : ℕ
 finest = 1053
 
+-- The half of the largest unit that may serve, 2^20, as a number u that stands for 2^(u - 1074).
 abbrev pub coarsest : ℕ
 coarsest = 1093
 
@@ -28,6 +29,7 @@ coarsest = 1093
 unfoldable pub weighs : ℕ → Float → Bool
 weighs u x = wholeIn binary64 u x && leb (plus binary64 u x + minus binary64 u x) (2 ^ 31)
 
+-- Whether every weight of the list is a whole number of the unit u, and at most 2^31 of them either way.
 unfoldable pub allWeigh : ℕ → List Float → Bool
 allWeigh u w = allBelow (λ k. weighs u (getD w k nan)) (length w)
 
@@ -44,10 +46,11 @@ firstOf p u (suc k) = cond (p u) u (firstOf p (suc u) k)
 unfoldable pub unitOf : Field → ℕ
 unitOf F = firstOf (λ u. serves u F) finest 41
 
--- in standard form, and some unit serves
+-- Whether the field is in standard form and some unit of the 41 serves.
 unfoldable pub isExact : Field → Bool
 isExact F = offDiagonal (F .rows) (F .cols) && leb (unitOf F) coarsest
 
+-- The grade of a field: exact where it is in standard form and some unit serves, else inexact.
 unfoldable pub gradeOf : Field → Grade
 gradeOf F = cond (isExact F) Exact Inexact
 

@@ -8,12 +8,13 @@ use lib.Ieee.{Float, nan}
 use Rattle.weights.specs.Pattern.{limitOf}
 use Rattle.field.specs.Grade.{finest, coarsest, Weighs}
 
--- r is the lesser of a and b, or the greater
+-- r is the lesser of a and b, as the smallest unit bound of a list is kept.
 pub record Lesser (a b r : ℕ) : Type 0 where
   pub first : r ≤ a
   pub second : r ≤ b
   pub one : (r ≡ a) ⊎ (r ≡ b)
 
+-- r is the greater of a and b, as the largest magnitude of a list is kept.
 pub record Greater (a b r : ℕ) : Type 0 where
   pub first : a ≤ r
   pub second : b ≤ r

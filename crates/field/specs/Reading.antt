@@ -4,7 +4,7 @@ use Rattle.meaning.specs.Field as meaning
 use Rattle.weights.specs.Worth.{read}
 use Rattle.field.specs.Field.{Field, variables, entries, linearOf, rowEnd, columnEnd, quadOf}
 
--- in units with the half u, 2c and q
+-- The field in whole numbers: 2c and q counted in the unit whose half is u.
 abbrev pub wholeOf : ℕ → Field → meaning.Field
 wholeOf u F = record {
   n = variables F;

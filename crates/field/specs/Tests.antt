@@ -14,21 +14,27 @@ use Rattle.field.specs.Table.{Test, test}
 
 -- ---- tests at every position
 
+-- Whether each of these rows, or of these columns, is a variable, which is a number below n.
 unfoldable pub endsBelow : ℕ → List ℕ → Bool
 endsBelow n ends = allBelow (λ k. ltb (getD ends k 0) n) (length ends)
 
+-- Whether the entry at (r, c) stands before one at (r₂, c₂): by column, then by row.
 abbrev pub isBefore : ℕ → ℕ → ℕ → ℕ → Bool
 isBefore r c r₂ c₂ = ltb c c₂ || (eqb c c₂ && ltb r r₂)
 
+-- Whether entry k stands before entry k + 1 by column, then by row.
 abbrev pub risesAt : List ℕ → List ℕ → ℕ → Bool
 risesAt rows cols k = isBefore (getD rows k 0) (getD cols k 0) (getD rows (k + 1) 0) (getD cols (k + 1) 0)
 
+-- Whether every entry stands before the next, so that no two have the same row and column.
 unfoldable pub allRise : List ℕ → List ℕ → Bool
 allRise rows cols = allBelow (risesAt rows cols) (length rows - 1)
 
+-- Whether every weight of the list is finite, and so neither a NaN nor an infinity.
 unfoldable pub allFinite : List Float → Bool
 allFinite w = allBelow (λ k. finite (getD w k nan)) (length w)
 
+-- Whether every byte of the start values is 0, 1, or 2 for free, none above it.
 unfoldable pub bytesSmall : List ℕ → Bool
 bytesSmall s = allBelow (λ i. leb (getD s i 0) 2) (length s)
 
@@ -81,16 +87,17 @@ weightsFinite c q = allFinite c && allFinite q
 unfoldable pub startFits : ℕ → List ℕ → Bool
 startFits n s = eqb (length s) n && bytesSmall s
 
--- 8: f64 scratch shorter than 8n+4m+16, or u32 scratch shorter than 16n+8m+16
+-- 8: f64 scratch shorter than 8n+4m+16, for a field of n variables and m entries.
 unfoldable pub floatsFit : ℕ → ℕ → ℕ → Bool
 floatsFit n m floats = leb (8 * n + 4 * m + 16) floats
 
+-- 8: u32 scratch shorter than 16n+8m+16, for a field of n variables and m entries.
 unfoldable pub wordsFit : ℕ → ℕ → ℕ → Bool
 wordsFit n m words = leb (16 * n + 8 * m + 16) words
 
 -- ---- groups, in the table's order
 
--- 1, 2 and 14 to 17, which are one test
+-- The tests of a field's shape: 1, 2, and 14 to 17, which are one test.
 unfoldable pub shapeTests : Field → List Test
 shapeTests F =
     test Variables (fewVariables (variables F))
@@ -111,7 +118,7 @@ openTests F s floats words =
     ∷ test Scratch (wordsFit (variables F) (entries F) words)
     ∷ []
 
--- 1, 2, 14 to 17, and 4 to 6
+-- The tests of a field in standard form with its start values: 1, 2, 14 to 17, and 4 to 6.
 unfoldable pub standardTests : Field → List ℕ → List Test
 standardTests F s =
     shapeTests F
@@ -120,7 +127,7 @@ standardTests F s =
     ∷ test Start (startFits (variables F) s)
     ∷ []
 
--- these and 8
+-- The tests of a field in standard form with start values and scratch: 1, 2, 14 to 17, 4 to 6, and 8.
 unfoldable pub readyTests : Field → List ℕ → ℕ → ℕ → List Test
 readyTests F s floats words =
     standardTests F s
@@ -130,14 +137,17 @@ readyTests F s floats words =
 
 -- ---- what passing leaves
 
+-- Every linear weight and every pair weight of the field is finite: what passing test 5 leaves.
 pub record Finite (F : Field) : Type 0 where
   pub linear : (i : ℕ) → i < variables F → T (finite (linearOf F i))
   pub quad : (k : ℕ) → k < entries F → T (finite (quadOf F k))
 
+-- What passing `looseTests` leaves: the field has its shape and finite weights; a diagonal is allowed.
 pub record Loose (F : Field) : Type 0 where
   pub shaped : Shaped F
   pub finite-weights : Finite F
 
+-- What passing `openTests` leaves: shape, finite weights, start values and scratch; a diagonal is allowed.
 pub record Admitted (F : Field) (s : List ℕ) (floats words : ℕ) : Type 0 where
   pub shaped : Shaped F
   pub finite-weights : Finite F
@@ -145,12 +155,14 @@ pub record Admitted (F : Field) (s : List ℕ) (floats words : ℕ) : Type 0 whe
   pub floats-room : 8 * variables F + 4 * entries F + 16 ≤ floats
   pub words-room : 16 * variables F + 8 * entries F + 16 ≤ words
 
+-- What passing `standardTests` leaves: a field in standard form with finite weights, and its start values.
 pub record Sound (F : Field) (s : List ℕ) : Type 0 where
   pub shaped : Shaped F
   pub standard : Standard F
   pub finite-weights : Finite F
   pub start : StartFor (variables F) s
 
+-- What passing `readyTests` leaves: a sound field with start values, and scratch of the lengths asked for.
 pub record Ready (F : Field) (s : List ℕ) (floats words : ℕ) : Type 0 where
   pub sound : Sound F s
   pub floats-room : 8 * variables F + 4 * entries F + 16 ≤ floats

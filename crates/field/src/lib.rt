@@ -34,6 +34,7 @@ pub enum Refusal {
 }
 
 impl Refusal {
+    // The table's number of this refusal, by which C and the record program name it.
     pub fn number(self) -> u32
         ensures { λ r. ⌜ r ≡ numberOf self ⌝ }
     {
@@ -95,6 +96,7 @@ pub enum Answer {
 }
 
 impl Answer {
+    // The table's number of this answer: 0 where the call is done.
     pub fn number(self) -> u32
         ensures { λ r. ⌜ r ≡ answerNumber self ⌝ }
     {

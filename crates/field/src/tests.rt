@@ -15,14 +15,14 @@ ghost use Rattle.field.specs.Field.{given};
 ghost use Rattle.field.specs.Table.{tested};
 ghost use Rattle.field.specs.Tests.{fewVariables, listsMatch, inOrder, weightsFinite, startFits, floatsFit, wordsFit, shapeTests, looseTests, openTests, standardTests, readyTests};
 
-// 1
+// Test 1: n is at most 4,096.
 pub fn few_variables(n: usize) -> bool
     ensures { λ r. ⌜ r ≡ fewVariables n ⌝ }
 {
     n <= 4096
 }
 
-// 2
+// Test 2: the three entry lists are of one length, at most 32,768.
 pub fn lists_match(rows: &[u16], cols: &[u16], q: &[f64]) -> bool
     ensures { λ r. ⌜ r ≡ listsMatch (before rows) (before cols) (before q) ⌝ }
 {
@@ -49,7 +49,7 @@ fn in_order(n: usize, rows: &[u16], cols: &[u16]) -> bool
     all_rise(rows, cols)
 }
 
-// 5
+// Test 5: every linear weight and every pair weight is finite.
 pub fn weights_finite(c: &[f64], q: &[f64]) -> bool
     ensures { λ r. ⌜ r ≡ weightsFinite (before c) (before q) ⌝ }
 {
@@ -59,7 +59,7 @@ pub fn weights_finite(c: &[f64], q: &[f64]) -> bool
     all_finite(q)
 }
 
-// 6
+// Test 6: the start values are n bytes, none of them above 2.
 pub fn start_fits(n: usize, start: &[u8]) -> bool
     ensures { λ r. ⌜ r ≡ startFits n (before start) ⌝ }
 {
@@ -69,7 +69,7 @@ pub fn start_fits(n: usize, start: &[u8]) -> bool
     bytes_small(start)
 }
 
-// 8, of the f64 scratch
+// Test 8 of the f64 scratch: it has 8n+4m+16 elements or more.
 pub fn floats_fit(n: usize, m: usize, floats: usize) -> bool
     requires { ⌜ (n ≤ 4096) × (m ≤ 65536) ⌝ }
     ensures { λ r. ⌜ r ≡ floatsFit n m floats ⌝ }
@@ -77,7 +77,7 @@ pub fn floats_fit(n: usize, m: usize, floats: usize) -> bool
     8 * n + 4 * m + 16 <= floats
 }
 
-// 8, of the u32 scratch
+// Test 8 of the u32 scratch: it has 16n+8m+16 elements or more.
 pub fn words_fit(n: usize, m: usize, words: usize) -> bool
     requires { ⌜ (n ≤ 4096) × (m ≤ 65536) ⌝ }
     ensures { λ r. ⌜ r ≡ wordsFit n m words ⌝ }
@@ -143,7 +143,7 @@ pub fn admitted(
     Checked::Passed
 }
 
-// 1, 2, 14 to 17, and 4 to 6
+// Makes tests 1, 2, 14 to 17, and 4 to 6, in this order; the first that fails is answered.
 pub fn standard(c: &[f64], rows: &[u16], cols: &[u16], q: &[f64], start: &[u8]) -> Checked
     ensures { λ r. ⌜ r ≡ tested (standardTests (given c rows cols q) (before start)) ⌝ }
 {
@@ -163,7 +163,7 @@ pub fn standard(c: &[f64], rows: &[u16], cols: &[u16], q: &[f64], start: &[u8]) 
     Checked::Passed
 }
 
-// These and 8
+// Makes all the tests of a field in standard form, its start values and both scratches, 8 as the last.
 pub fn ready(
     c: &[f64],
     rows: &[u16],

@@ -12,6 +12,7 @@ pub struct Measure {
     pub size: u64,
 }
 
+// Whether every weight of the slice is finite; all are looked at, whatever the first ones are.
 pub fn all_finite(w: &[f64]) -> bool
     ensures { λ r. ⌜ r ≡ allFinite (before w) ⌝ }
 {
@@ -22,12 +23,14 @@ pub fn all_finite(w: &[f64]) -> bool
     fine
 }
 
+// The lesser of two numbers, for the units in which all weights are whole.
 pub fn lesser(a: u64, b: u64) -> u64
     ensures { λ r. ⌜ Lesser a b r ⌝ }
 {
     if b < a { b } else { a }
 }
 
+// The greater of two numbers, for the magnitude of the largest weight.
 pub fn greater(a: u64, b: u64) -> u64
     ensures { λ r. ⌜ Greater a b r ⌝ }
 {

@@ -156,6 +156,7 @@ to-is g l (suc k) x m = ⊎-elim
 
 -- where nothing is found of what was not entered, the probe values and the constraints are those of all variables
 module _ {g : ℕ → Finding} {n at : ℕ} {X : ℕ → Type 0} {a b : Bench} (E : Enters g n at X a b) (rest : (j : ℕ) → j < n → X j ⊎ (g j ≡ nothing)) where
+  -- Theorem. Where nothing is found of what was not entered, each probe value is that of all findings.
   pub enters-values : (j : ℕ) → j < n → getD (b .words) (at + j) 0 ≡ wins (g j) (getD (a .words) (at + j) 0)
   enters-values j h = ⊎-elim (E .won j h) (λ e. ⊎-elim (λ z. z ∙ wins-none (g j) (getD (a .words) (at + j) 0) e) (λ z. z) (E .old-or-won j h)) (rest j h)
 
@@ -174,6 +175,7 @@ module _ {g : ℕ → Finding} {n at : ℕ} {X : ℕ → Type 0} {a b : Bench} (
         (to-is g S n y m);
   }
 
+  -- Theorem. Where nothing is found of what was not entered, the gathered numbers stand for all constraints found.
   pub enters-gathers : {S : List Record} {lo held : ℕ} {list₀ list : List ℕ} → at + n ≤ lo → Gathering S lo (a .end) held list₀ list (a .words)
       → Gathering (recordsTo g S n) lo (b .end) held list₀ list (b .words)
   enters-gathers {S} l G = gathering-as (E .gathers l G) (enters-same S)

@@ -31,6 +31,7 @@ pub record Bench : Type 0 where
   pub words : List ℕ
   pub end : ℕ
 
+-- The words together with where the gathered numbers end in them.
 abbrev pub bench : List ℕ → ℕ → Bench
 bench u end = record { words = u; end = end }
 
@@ -44,10 +45,11 @@ entered d p b = bench
 unfoldable pub findingIn : List ℕ → List ℕ → ℕ → ℕ → List ℕ → ℕ → Finding
 findingIn s t i first u j = found i j (givesAt i j (getD s j 0) (getD u (first + j) 0)) (givesAt i j (getD s j 0) (getD t j 0))
 
+-- The words after what is found of j has been entered, its probe value at `at` + j.
 abbrev pub emitAt : List ℕ → List ℕ → ℕ → ℕ → ℕ → Bench → ℕ → Bench
 emitAt s t i first at b j = entered (findingIn s t i first (b .words) j) (at + j) b
 
--- what one variable asks
+-- What entering the finding about variable j asks: small variables, and all places in their lists.
 pub record Emits (s t u : List ℕ) (i j first at : ℕ) : Type 0 where
   pub small-i : i < 4096
   pub small-j : j < 4096
@@ -69,7 +71,7 @@ emitTo s t i from least first at b (suc k) =
     let c = emitTo s t i from least first at b k in
     emitOf s t i least first at c (getD (c .words) (from + k) 0)
 
--- how many of them are not passed over
+-- How many of the first k variables of the list at `from` have a value of at least `least`.
 unfoldable pub chosenTo : List ℕ → ℕ → List ℕ → ℕ → ℕ → ℕ
 chosenTo t least u from zero = 0
 chosenTo t least u from (suc k) = chosenTo t least u from k + cond (ltb (getD t (getD u (from + k) 0) 0) least) 0 1

@@ -59,16 +59,18 @@ unfoldable pub recordsTo : (ℕ → Finding) → List Record → ℕ → List Re
 recordsTo g l zero = l
 recordsTo g l (suc k) = added (g k) (recordsTo g l k)
 
--- the probe values, where they were old
+-- The probe values after the findings g, where they were `old` before.
 unfoldable pub valuesAfter : (ℕ → Finding) → List ℕ → List ℕ
 valuesAfter g old = upTo (λ j. wins (g j) (getD old j 0)) (length old)
 
 -- ---- the first k candidates of a list, one after the other
 
+-- The records of the constraints that the first k candidates find by the route R, later ones in front.
 unfoldable pub recordsFoundBy : Route → Field → List ℕ → List ℕ → ℕ → List Record
 recordsFoundBy R F s cands zero = []
 recordsFoundBy R F s cands (suc k) = recordsTo (findingBy R F s (getD cands k 0)) (recordsFoundBy R F s cands k) (variables F)
 
+-- The records of the constraints that the first k candidates find, with rows made afresh for each probe.
 abbrev pub recordsOf : Field → List ℕ → List ℕ → ℕ → List Record
 recordsOf = recordsFoundBy cold
 
@@ -77,5 +79,6 @@ unfoldable pub valuesFoundBy : Route → Field → List ℕ → List ℕ → ℕ
 valuesFoundBy R F s cands zero = replicate (variables F) 2
 valuesFoundBy R F s cands (suc k) = valuesAfter (findingBy R F s (getD cands k 0)) (valuesFoundBy R F s cands k)
 
+-- The probe values after the first k candidates, with rows made afresh for each probe.
 abbrev pub valuesOf : Field → List ℕ → List ℕ → ℕ → List ℕ
 valuesOf = valuesFoundBy cold

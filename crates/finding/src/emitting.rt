@@ -50,7 +50,7 @@ fn enter(u: &mut [u32], i: u16, j: u16, v: u32, w: u32, place: usize, end: usize
     end + counts(key)
 }
 
-// What is found of variable j.
+// Enters what two probes find of variable j: a probe value in its place, or a number behind those gathered.
 pub fn emit(
     start: &[u8],
     values: &[u8],

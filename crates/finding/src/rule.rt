@@ -51,7 +51,7 @@ fn after_none(i: u16, j: u16, v: u32) -> u32
     268435456
 }
 
-// The number of the record, or 2^28.
+// The number of the record that two values of j give for i and j, or 2^28 where they give none.
 pub fn number(i: u16, j: u16, v: u32, w: u32) -> u32
     requires { ⌜ i < 4096 ⌝ }
     requires { ⌜ j < 4096 ⌝ }
@@ -97,7 +97,7 @@ pub fn gives(i: u16, j: u16, start: u8, value: u32) -> u32
     if start == 2 { value } else { 2 }
 }
 
-// A byte as a word.
+// A byte as a u32, the same number, as values stand among the words.
 pub fn word(x: u8) -> u32
     ensures { λ r. ⌜ r ≡ x ⌝ }
 {

@@ -11,12 +11,13 @@ use Rattle.found.specs.declared.Merged.{Merged}
 use Rattle.found.specs.declared.Merged.the-variants.{Holds, Full}
 use Rattle.found.specs.Joint.{joint}
 
--- the answer, and the two lent lists afterwards
+-- The answer of a flush, and the list of records and the words afterwards.
 pub record Left : Type 0 where
   pub answer : Merged
   pub list : List ℕ
   pub words : List ℕ
 
+-- What a flush leaves, made of its answer, the list of records and the words.
 abbrev pub left : Merged → List ℕ → List ℕ → Left
 left r list u = record { answer = r; list = list; words = u }
 

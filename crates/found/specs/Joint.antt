@@ -25,7 +25,7 @@ pub record Climbed (lo hi : ℕ) (u : List ℕ) : Type 0 where
   pub keys : Keys lo hi u
   pub rising : Rising (map unkey (slice lo hi u))
 
--- both together, merged by pair
+-- The first records of the list and those that the numbers stand for, merged by pair.
 unfoldable pub joint : ℕ → ℕ → ℕ → List ℕ → List ℕ → List Record
 joint items lo keys list u = mergedList (map unkey (slice lo keys u) ++ front items list)
 

@@ -66,24 +66,24 @@ module _ {F : Field} {s : List ℕ} (S : Sound F s) where
 -- ---- the call
 
 module _ (F : Field) (s : List ℕ) (f : List Float) (u : List ℕ) where
-  -- any two results that the promise permits are equal
+  -- Theorem. Any two results that the promise permits are equal.
   pub one-result : (x y : Left) → x ≡ heavyCall F s f u → y ≡ heavyCall F s f u → x ≡ y
   one-result = values.one-result _ F s f u
 
-  -- The call is refused with r exactly if the tests before r's own pass, and its own fails.
+  -- Theorem. The call is refused with r exactly if the tests before r's own pass, and its own fails.
   pub refused-when : (r : Refusal) → (heavyCall F s f u .answer ≡ Refused r) ↔ FirstToFail (readyTests F s (length f) (length u)) r
   refused-when = values.refused-when _ F s f u
 
-  -- A refusal changes nothing lent.
+  -- Theorem. A refusal changes nothing lent.
   pub refused-leaves : (r : Refusal) → heavyCall F s f u .answer ≡ Refused r → heavyCall F s f u ≡ left (Refused r) s f u
   refused-leaves = values.refused-leaves _ F s f u
 
-  -- It is done exactly if the field, the start values and both scratches are as the table asks, and then gives the grade.
+  -- Theorem. It is done exactly if the field, the start values and both scratches are as the table asks, and then gives the grade.
   pub done-when : (heavyCall F s f u .answer ≡ Done (gradeOf F)) ↔ Ready F s (length f) (length u)
   done-when = values.done-when _ F s f u
 
   module _ (g : Grade) (e : heavyCall F s f u .answer ≡ Done g) where
-    -- Then the values are in the start values, and both scratches are all zeros.
+    -- Theorem. Then the values are in the start values, and both scratches are all zeros.
     pub done-leaves : heavyCall F s f u ≡ left (Done (gradeOf F)) (heavy F s) (cleared zero64 f) (cleared 0 u)
     done-leaves = values.done-leaves _ F s f u g e
 
@@ -93,29 +93,29 @@ module _ (F : Field) (s : List ℕ) (f : List Float) (u : List ℕ) where
     pub sound : Sound F s
     sound = values.ready _ F s f u g e .sound
 
-    -- The start values are kept, a 1 of a variable of no effect too ..
+    -- Theorem. The start values are kept, a 1 of a variable of no effect too.
     pub values-extend : Extends s (heavyCall F s f u .lent .values)
     values-extend = rw values-are (heavy-extends sound)
 
-    -- .. a free variable of no effect ends as 0 ..
+    -- Theorem. A free variable of no effect ends as 0.
     pub idle-ends : (i : ℕ) → i < variables F → NoEntry F i → eq (linearOf F i) zero64 ≡ true → getD s i 0 ≡ 2 → getD (heavyCall F s f u .lent .values) i 0 ≡ 0
     idle-ends i h apart weightless free =
         let z = preprocess-idle sound i h apart weightless free in
         rw values-are (fixed (heavy-preprocess sound .kept i) (omega arith) ∙ z)
 
-    -- .. every value of preprocess is among them, on any field ..
+    -- Theorem. Every value of preprocess is among them, on any field.
     pub preprocess-among : Extends (preprocess F s) (heavyCall F s f u .lent .values)
     preprocess-among = rw values-are (heavy-preprocess sound)
 
-    -- .. and so is every value of the closure.
+    -- Theorem. Every value of the closure is among them, on any field.
     pub closure-among : Extends (closure F s) (heavyCall F s f u .lent .values)
     closure-among = extends-trans (preprocess-closes sound) preprocess-among
 
-    -- The stop leaves what n rounds leave, and a further round adds nothing.
+    -- Theorem. The stop leaves what n rounds leave, and a further round adds nothing.
     pub rounds-end : (heavyCall F s f u .lent .values ≡ allRounds F (variables F) s) × (round F (heavyCall F s f u .lent .values) ≡ heavyCall F s f u .lent .values)
     rounds-end = rw values-are (heavy-all sound, heavy-closed sound)
 
--- DEMAND 3. On an exact field some best completion of the start values agrees with all values.
+-- Theorem. DEMAND 3. On an exact field some best completion of the start values agrees with all values.
 pub some-best-agrees : (F : Field) (s : List ℕ) (f : List Float) (u : List ℕ) → heavyCall F s f u .answer ≡ Done Exact
     → {unit : ℕ} → Serves unit F → Safe (wholeOf unit F) s (heavyCall F s f u .lent .values)
 some-best-agrees F s f u e v = rw (values-are F s f u Exact e) (heavy-stands (sound F s f u Exact e) (values.graded _ F s f u Exact e) v)

@@ -89,18 +89,18 @@ module _ (F : Field) (s : List ℕ) (f : List Float) (u : List ℕ) (g : Grade) 
   still : round F (heavyCall F s f u .lent .values) ≡ heavyCall F s f u .lent .values
   still = rounds-end F s f u g e .1
 
-  -- At the values that it leaves the closure adds none,
+  -- Theorem. At the values that it leaves the closure adds none.
   pub closure-adds-none : closure F (heavyCall F s f u .lent .values) ≡ heavyCall F s f u .lent .values
   closure-adds-none = closure-still ended still
 
-  -- a variable that is still free is of a component of more than 10,
+  -- Theorem. A variable that is still free at the end is of a component of more than 10.
   pub left-large : {i : ℕ} → Open (heavyCall F s f u .lent .values) i → {mine : List ℕ} → Component F true (heavyCall F s f u .lent .values) i mine → 10 < length mine
   left-large = large-left ended still
 
-  -- and the full probe finds no value;
+  -- Theorem. At the values that it leaves the full probe finds no value.
   pub probe-adds-none : (j : ℕ) → j < variables F → getD (probeValues F (heavyCall F s f u .lent .values)) j 0 < 2 → ⊥
   probe-adds-none = none-probed ended still
 
-  -- and every value that it adds comes in some round, from preprocess or from the full probe.
+  -- Theorem. Every value that it adds comes in some round, from preprocess or from the full probe.
   pub value-comes : (i : ℕ) → getD s i 0 ≡ 2 → getD (heavyCall F s f u .lent .values) i 0 ≢ 2 → Comes F s (variables F) i (getD (heavyCall F s f u .lent .values) i 0)
   value-comes i free = rw (rounds-end F s f u g e .0) (comes-in (variables F) (sound F s f u g e) i free)

@@ -106,7 +106,7 @@ module _ {F : Field} where
   unfolding heavy
   heavy-blind A B E = rw (rounds-are (variables F) A, rounds-are (variables F) B) (rounds-same (variables F) A B E)
 
--- The other variables end the same, whether those of no effect are free, 0 or 1 at the start.
+-- Theorem. The other variables end the same, whether those of no effect are free, 0 or 1 at the start.
 pub idle-unseen : (F : Field) (s s′ : List ℕ) (f f′ : List Float) (u u′ : List ℕ) (g g′ : Grade)
     → heavyCall F s f u .answer ≡ Done g → heavyCall F s′ f′ u′ .answer ≡ Done g′
     → SameElsewhere F s s′ → SameElsewhere F (heavyCall F s f u .lent .values) (heavyCall F s′ f′ u′ .lent .values)

@@ -14,7 +14,7 @@ use Rattle.probes.specs.Call.{allValues}
 unfoldable pub laidAt : ℕ → ℕ → ℕ
 laidAt w v = cond (ltb w 2) w v
 
--- the values of t over those of s
+-- The values s, with those of t in their places wherever t has a value.
 unfoldable pub laidOver : List ℕ → List ℕ → List ℕ
 laidOver t s = upTo (λ j. laidAt (getD t j 0) (getD s j 0)) (length s)
 
@@ -31,7 +31,7 @@ unfoldable pub rounds : Field → ℕ → List ℕ → List ℕ
 rounds F zero s = s
 rounds F (suc k) s = let t = round F s in cond (eqb (frees t) (frees s)) s (rounds F k t)
 
--- at most n rounds
+-- The values of the heavy call: at most n rounds, from the start values on.
 unfoldable pub heavy : Field → List ℕ → List ℕ
 heavy F s = rounds F (variables F) s
 

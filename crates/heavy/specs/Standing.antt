@@ -12,7 +12,7 @@ pub record AllProbed (F : Field) (s u′ : List ℕ) : Type 0 where
   pub values : valuesLeft F u′ ≡ probeValues F s
   pub adjacent : Adjacent (variables F) (F .rows) (F .cols) u′
 
--- a round from s
+-- What one round from s leaves: the values of the round, and the adjacency in its place.
 pub record Rounded (F : Field) (s s′ u′ : List ℕ) : Type 0 where
   pub values : s′ ≡ round F s
   pub adjacent : Adjacent (variables F) (F .rows) (F .cols) u′

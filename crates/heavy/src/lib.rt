@@ -110,7 +110,7 @@ fn work(
     );
 }
 
-// The values found go into the start values; a refusal changes nothing.
+// The values that the rounds find go into the start values; a refusal changes nothing.
 pub fn heavy(
     c: &[f64],
     rows: &[u16],

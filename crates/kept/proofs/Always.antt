@@ -58,20 +58,22 @@ module _ (F : Field) (s : List ℕ) (b : List Float) (n : ℕ) (f : List Float) 
   stays = let r = make.lendable F s b n f u e .ready .sound in
       fresh-all (r .shaped) (make.unit-serves F s b n f u e .exact) (rw (make.record-is F s b n f u e) (fresh-made F (r .start))) os
 
-  -- AFTER ANY SEQUENCE the bounds and the number are those worked out afresh,
+  -- Theorem. AFTER ANY SEQUENCE the bounds and the number are those worked out afresh.
   pub kept-always : recordAfter F s b n f u os ≡ made F (recordAfter F s b n f u os .values)
   kept-always = stays .is
 
-  -- as the making call would leave them at the values that stand then,
+  -- Theorem. After any sequence the record is what the making call would leave at the values that stand then.
   pub as-made-anew : (b′ : List Float) (n′ : ℕ) (f′ : List Float) (u′ : List ℕ) {g′ : Grade} → makeCall F (recordAfter F s b n f u os .values) b′ n′ f′ u′ .answer ≡ Done g′
       → recordLeft F (recordAfter F s b n f u os .values) b′ n′ f′ u′ ≡ recordAfter F s b n f u os
   as-made-anew b′ n′ f′ u′ e′ = make.record-is F (now .values) b′ n′ f′ u′ e′ ∙ sym kept-always
 
   -- and the closing call gives the closure at those values.
   module _ (l : List ℕ) (f′ : List Float) (u′ : List ℕ) {g′ : Grade} {k : ℕ} (d : closeCall F (recordAfter F s b n f u os .values) (recordAfter F s b n f u os .bounds) l f′ u′ .answer ≡ Counts g′ k) where
+    -- Theorem. After any operations the closing call leaves the closure of the values that stand then, float by float.
     pub always-closes : closeCall F (recordAfter F s b n f u os .values) (recordAfter F s b n f u os .bounds) l f′ u′ .lent .values ≡ closure F (recordAfter F s b n f u os .values)
     always-closes = close.list-closure F (now .values) (now .bounds) l f′ u′ d (make.unit-serves F s b n f u e) (ap (λ (K : Kept). K .bounds) kept-always)
 
+    -- Theorem. After any operations, on an exact field, what the closing call leaves is the closure over whole numbers.
     pub always-closure : {unit : ℕ} → Serves unit F
         → Closure (Forces (wholeOf unit F)) (recordAfter F s b n f u os .values) (closeCall F (recordAfter F s b n f u os .values) (recordAfter F s b n f u os .bounds) l f′ u′ .lent .values)
     always-closure serving = close.values-close F (now .values) (now .bounds) l f′ u′ d serving (ap (λ (K : Kept). K .bounds) kept-always)

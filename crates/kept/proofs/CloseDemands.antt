@@ -36,21 +36,21 @@ use Rattle.kept.proofs.Tests.{lent-passes, never-room}
 use Rattle.kept.proofs.FromRows.{made-closes, made-closure}
 
 module _ (F : Field) (s : List ℕ) (b : List Float) (l : List ℕ) (f : List Float) (u : List ℕ) where
-  -- any two results that the promise permits are equal
+  -- Theorem. Any two results that the promise permits are equal.
   pub one-result : (x y : Closed) → x ≡ closeCall F s b l f u → y ≡ closeCall F s b l f u → x ≡ y
   one-result = any.one-result (closeCall F s b l f u)
 
-  -- The call is refused with r exactly if the tests before r's own pass, and its own fails: 1 to 6, then 8, then 9.
+  -- Theorem. The call is refused with r exactly if the tests before r's own pass, and its own fails: 1 to 6, then 8, then 9.
   pub refused-when : (r : Refusal) → (closeCall F s b l f u .answer ≡ Refuses r) ↔ FirstToFail (closeTable F s (length b) l (length f) (length u)) r
   unfolding closeCall table
   refused-when = usual.refused-when Refuses _ _ _ _ same-refuses counts-apart refl
 
-  -- A refusal from 1 to 8 changes nothing lent.
+  -- Theorem. A refusal from 1 to 8 changes nothing lent.
   pub refused-leaves : (r : Refusal) → r ≢ Room → closeCall F s b l f u .answer ≡ Refuses r → closeCall F s b l f u ≡ closed (Refuses r) l f u
   unfolding closeCall
   refused-leaves r x e = usual.refused-leaves Refuses _ _ _ _ same-refuses counts-apart r (other-stage x no-stage) e
 
-  -- 9 is given exactly if those tests pass and the list is not n long,
+  -- Theorem. 9 is given exactly if those tests pass and the list is not n long.
   pub room-when : (closeCall F s b l f u .answer ≡ Refuses Room) ↔ (Lendable F s (length b) (length f) (length u) × (length l ≢ variables F))
   unfolding closeCall
   room-when =
@@ -58,12 +58,12 @@ module _ (F : Field) (s : List ℕ) (b : List Float) (l : List ℕ) (f : List Fl
       let p = lent-passes F s (length b) (length f) (length u) in
       ((λ e. (p .0 (w .0 e .0), eqb-false _ _ (w .0 e .1))), λ h. w .1 (p .1 (h .0), ne-eqb _ _ (h .1)))
 
-  -- and leaves the list and both scratches all zeros.
+  -- Theorem. On 9 the list and both scratches are all zeros.
   pub room-leaves : closeCall F s b l f u .answer ≡ Refuses Room → closeCall F s b l f u ≡ closed (Refuses Room) (cleared 0 l) (cleared zero64 f) (cleared 0 u)
   unfolding closeCall
   room-leaves e = usual.later-leaves Refuses _ _ _ _ same-refuses counts-apart Room _ (never-room F s (length b) (length f) (length u)) (this-stage no-stage) e
 
-  -- It is done exactly if the field, the record, both scratches and the list are as the table asks, and then gives the grade and the count.
+  -- Theorem. It is done exactly if the field, the record, both scratches and the list are as the table asks, and then gives the grade and the count.
   pub done-when : (closeCall F s b l f u .answer ≡ Counts (gradeOf F) (flatRows (runFrom F s b))) ↔ (Lendable F s (length b) (length f) (length u) × (length l ≡ variables F))
   unfolding closeCall table
   done-when =
@@ -71,11 +71,12 @@ module _ (F : Field) (s : List ℕ) (b : List Float) (l : List ℕ) (f : List Fl
       (group-is (lentTests F s (length b) (length f) (length u)) _ (lent-passes F s (length b) (length f) (length u)) (last-is Room _ (eq-is (length l) (variables F))))
 
   module _ {g : Grade} {k : ℕ} (e : closeCall F s b l f u .answer ≡ Counts g k) where
-    -- Then what the run from the record's rows reaches is in the list, and both scratches are all zeros.
+    -- Theorem. Then what the run from the record's rows reaches is in the list, and both scratches are all zeros.
     pub done-leaves : closeCall F s b l f u ≡ closed (Counts (gradeOf F) (flatRows (runFrom F s b))) (runFrom F s b .values) (cleared zero64 f) (cleared 0 u)
     unfolding closeCall
     done-leaves = usual.done-leaves Refuses _ _ _ _ same-refuses counts-apart (λ r z. counts-apart r (sym e ∙ z))
 
+    -- Theorem. It is done only where the field, the values, the record and both scratches are as the table asks.
     pub lendable : Lendable F s (length b) (length f) (length u)
     lendable = done-when .0 (ap (λ (x : Closed). x .answer) done-leaves) .0
 
@@ -88,25 +89,25 @@ module _ (F : Field) (s : List ℕ) (b : List Float) (l : List ℕ) (f : List Fl
     -- ---- on an exact field, in every unit that serves, where the bounds are those of the values worked out afresh
 
     module _ {unit : ℕ} (serving : Serves unit F) (made-so : b ≡ made F s .bounds) where
-      -- The list is what the call `closure` leaves in the start values.
+      -- Theorem. The list is what the call `closure` leaves in the start values.
       pub list-closure : closeCall F s b l f u .lent .values ≡ closure F s
       list-closure = let r = lendable .ready .sound in
           list-is ∙ ap (λ (z : List Float). runFrom F s z .values) made-so ∙ made-closure (r .shaped) (serving .exact) (r .start)
 
-      -- DEMAND 2. It is the gradient closure of the values over whole numbers, no more and no fewer.
+      -- Theorem. DEMAND 2. It is the gradient closure of the values over whole numbers, no more and no fewer.
       pub values-close : Closure (Forces (wholeOf unit F)) s (closeCall F s b l f u .lent .values)
       values-close = let r = lendable .ready .sound in rw list-closure (run.closure-is-closure (r .shaped) (serving .exact) (r .start))
 
-      -- The count is the number of free variables with low = high = 0 there.
+      -- Theorem. The count is the number of free variables with low = high = 0 there.
       pub flat-exact : k ≡ flats (wholeOf unit F) (closeCall F s b l f u .lent .values)
       flat-exact = let r = lendable .ready .sound in
           count-is ∙ rw (list-is, made-so) (flat-rows-exact (made-closes (r .shaped) (serving .exact) (r .start)))
 
-      -- DEMAND 3. Every best completion of the values obeys every one of the list.
+      -- Theorem. DEMAND 3. Every best completion of the values obeys every one of the list.
       pub best-obeys : {x : List ℕ} → Best (wholeOf unit F) s x → Extends (closeCall F s b l f u .lent .values) x
       best-obeys best = let r = lendable .ready .sound in rw list-closure (run.closure-obeyed (r .shaped) (serving .exact) (r .start) best)
 
--- Further values that contradict none of the list keep each of it.
+-- Theorem. Further values that contradict none of the list keep each of it.
 pub further-keep : {unit : ℕ} (F : Field) (s s′ : List ℕ) (b b′ : List Float) (l l′ : List ℕ) (f f′ : List Float) (u u′ : List ℕ) {g g′ : Grade} {k k′ : ℕ} → Serves unit F
     → closeCall F s b l f u .answer ≡ Counts g k → b ≡ made F s .bounds → closeCall F s′ b′ l′ f′ u′ .answer ≡ Counts g′ k′ → b′ ≡ made F s′ .bounds
     → Extends s s′ → Agrees s′ (closeCall F s b l f u .lent .values) → Extends (closeCall F s b l f u .lent .values) (closeCall F s′ b′ l′ f′ u′ .lent .values)

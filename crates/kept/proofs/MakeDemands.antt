@@ -56,21 +56,21 @@ inexact-is F = go (isExact F)
     go false = ((λ e. refl), λ e. refl)
 
 module _ (F : Field) (s : List ℕ) (b : List Float) (n : ℕ) (f : List Float) (u : List ℕ) where
-  -- any two results that the promise permits are equal
+  -- Theorem. Any two results that the promise permits are equal.
   pub one-result : (x y : Left) → x ≡ makeCall F s b n f u → y ≡ makeCall F s b n f u → x ≡ y
   one-result = any.one-result (makeCall F s b n f u)
 
-  -- The call is refused with r exactly if the tests before r's own pass, and its own fails: 1 to 6, then 8, then 12.
+  -- Theorem. The call is refused with r exactly if the tests before r's own pass, and its own fails: 1 to 6, then 8, then 12.
   pub refused-when : (r : Refusal) → (makeCall F s b n f u .answer ≡ Refused r) ↔ FirstToFail (makeTable F s (length b) (length f) (length u)) r
   unfolding makeCall table
   refused-when = usual.refused-when Refused _ _ _ _ same-refused done-apart refl
 
-  -- A refusal from 1 to 8 changes nothing lent.
+  -- Theorem. A refusal from 1 to 8 changes nothing lent.
   pub refused-leaves : (r : Refusal) → r ≢ Inexact → makeCall F s b n f u .answer ≡ Refused r → makeCall F s b n f u ≡ left (Refused r) b n f u
   unfolding makeCall
   refused-leaves r x e = usual.refused-leaves Refused _ _ _ _ same-refused done-apart r (other-stage x no-stage) e
 
-  -- 12 is given exactly if those tests pass and the field is inexact,
+  -- Theorem. 12 is given exactly if those tests pass and the field is inexact.
   pub inexact-when : (makeCall F s b n f u .answer ≡ Refused Inexact) ↔ (Lendable F s (length b) (length f) (length u) × (gradeOf F ≡ NotExact))
   unfolding makeCall
   inexact-when =
@@ -79,12 +79,12 @@ module _ (F : Field) (s : List ℕ) (b : List Float) (n : ℕ) (f : List Float) 
       let x = inexact-is F in
       ((λ e. (p .0 (w .0 e .0), x .0 (w .0 e .1))), λ h. w .1 (p .1 (h .0), x .1 (h .1)))
 
-  -- and leaves the record as it was, and both scratches all zeros.
+  -- Theorem. 12 leaves the record as it was, and both scratches all zeros.
   pub inexact-leaves : makeCall F s b n f u .answer ≡ Refused Inexact → makeCall F s b n f u ≡ left (Refused Inexact) b n (cleared zero64 f) (cleared 0 u)
   unfolding makeCall
   inexact-leaves e = usual.later-leaves Refused _ _ _ _ same-refused done-apart Inexact _ (never-inexact F s (length b) (length f) (length u)) (this-stage no-stage) e
 
-  -- It is done exactly if the field, the values, the bounds and both scratches are as the table asks, and the field is exact.
+  -- Theorem. It is done exactly if the field, the values, the bounds and both scratches are as the table asks, and the field is exact.
   pub done-when : (makeCall F s b n f u .answer ≡ Done (gradeOf F)) ↔ (Lendable F s (length b) (length f) (length u) × (gradeOf F ≡ Exact))
   unfolding makeCall table
   done-when =
@@ -92,11 +92,12 @@ module _ (F : Field) (s : List ℕ) (b : List Float) (n : ℕ) (f : List Float) 
       (group-is (lentTests F s (length b) (length f) (length u)) _ (lent-passes F s (length b) (length f) (length u)) (last-is Inexact _ (exact-is F)))
 
   module _ {g : Grade} (e : makeCall F s b n f u .answer ≡ Done g) where
-    -- Then the record of the values is in its place, and both scratches are all zeros.
+    -- Theorem. Then the record of the values is in its place, and both scratches are all zeros.
     pub done-leaves : makeCall F s b n f u ≡ left (Done (gradeOf F)) (made F s .bounds) (made F s .strict) (cleared zero64 f) (cleared 0 u)
     unfolding makeCall
     done-leaves = usual.done-leaves Refused _ _ _ _ same-refused done-apart (λ r z. done-apart r (sym e ∙ z))
 
+    -- Theorem. When it is done, the record that it leaves is the one worked out afresh from the values.
     pub record-is : recordLeft F s b n f u ≡ made F s
     unfolding made
     record-is = ap (λ (x : Left). kept s (x .lent .bounds) (x .lent .strict)) done-leaves
@@ -104,24 +105,25 @@ module _ (F : Field) (s : List ℕ) (b : List Float) (n : ℕ) (f : List Float) 
     lendable-exact : Lendable F s (length b) (length f) (length u) × (gradeOf F ≡ Exact)
     lendable-exact = done-when .0 (ap (λ (x : Left). x .answer) done-leaves)
 
+    -- Theorem. It is done only where the field, the values and the lengths of record and scratch are as the table asks.
     pub lendable : Lendable F s (length b) (length f) (length u)
     lendable = lendable-exact .0
 
-    -- The grade exact says that a unit serves, and the smallest is named. What follows holds in every unit that serves.
+    -- Theorem. The grade exact says that a unit serves, and the smallest is named. What follows holds in every unit that serves.
     pub unit-serves : Serves (unitOf F) F
     unit-serves = exact-means F (lendable .ready .sound .shaped .rows-long) .0 (lendable-exact .1)
 
-    -- The bounds of a free variable are low and high in whole numbers,
+    -- Theorem. The bounds of a free variable are low and high in whole numbers.
     pub bounds-worth : {unit : ℕ} → Serves unit F → (t : ℕ) → getD s t 0 ≡ 2
         → RowWorth unit (rowOn (makeCall F s b n f u .lent .bounds) (variables F) t) (low (wholeOf unit F) s t) (high (wholeOf unit F) s t)
     bounds-worth serving t free =
         rw (ap (λ (x : Left). x .lent .bounds) done-leaves) (row-is-worth (lendable .ready .sound .shaped) (serving .exact) (lendable .ready .sound .start) t free)
 
-    -- those of any other are 0,
+    -- Theorem. The bounds of a variable that is not free are 0.
     pub others-zero : (t : ℕ) → t < variables F → getD s t 0 ≢ 2 → rowOn (makeCall F s b n f u .lent .bounds) (variables F) t ≡ startRow zero64
     others-zero t l d = rw (ap (λ (x : Left). x .lent .bounds) done-leaves) (made-row F s t l ∙ stored-fixed (rowOf F s t) d)
 
-    -- and the number is that of the free variables on which the values force one.
+    -- Theorem. The number of strict rows is that of the free variables on which the values force one.
     pub strict-counts : {unit : ℕ} → Serves unit F → makeCall F s b n f u .lent .strict ≡ stricts (wholeOf unit F) s
     strict-counts serving =
         ap (λ (x : Left). x .lent .strict) done-leaves ∙ strict-is (lendable .ready .sound .shaped) (serving .exact) (lendable .ready .sound .start)

@@ -34,11 +34,11 @@ use Rattle.kept.specs.Kept.{Kept, kept, made, pinned, released}
 unfoldable pub boundsFit : ℕ → ℕ → Bool
 boundsFit n bounds = eqb bounds (n + n)
 
--- 1 to 6
+-- The tests of a record: those of standard form and start values, and 6 of the bounds' length.
 unfoldable pub recordTests : Field → List ℕ → ℕ → List Test
 recordTests F s bounds = standardTests F s ++ test Start (boundsFit (variables F) bounds) ∷ []
 
--- and 8
+-- The tests of `make` and `close`: those of a record, and 8 of both scratches.
 unfoldable pub lentTests : Field → List ℕ → ℕ → ℕ → ℕ → List Test
 lentTests F s bounds floats words =
     recordTests F s bounds ++ test Scratch (floatsFit (variables F) (entries F) floats) ∷ test Scratch (wordsFit (variables F) (entries F) words) ∷ []
@@ -47,6 +47,7 @@ lentTests F s bounds floats words =
 unfoldable pub mayPin : ℕ → List ℕ → ℕ → ℕ → Bool
 mayPin n s i v = ltb i n && (isFree s i && leb v 1)
 
+-- The tests of `pin`: 1 to 6 of the record, and 7 of the variable and its value.
 unfoldable pub pinTests : Field → List ℕ → ℕ → ℕ → ℕ → List Test
 pinTests F s bounds i v = recordTests F s bounds ++ test Argument (mayPin (variables F) s i v) ∷ []
 
@@ -54,24 +55,28 @@ pinTests F s bounds i v = recordTests F s bounds ++ test Argument (mayPin (varia
 unfoldable pub mayRelease : ℕ → List ℕ → ℕ → Bool
 mayRelease n s i = ltb i n && not (isFree s i)
 
+-- The tests of `release`: 1 to 6 of the record, and 7 of the variable.
 unfoldable pub releaseTests : Field → List ℕ → ℕ → ℕ → List Test
 releaseTests F s bounds i = recordTests F s bounds ++ test Argument (mayRelease (variables F) s i) ∷ []
 
--- what passing leaves
+-- What passing 1 to 6 leaves: a sound field with its values, and a record of 2n bounds.
 pub record Recorded (F : Field) (s : List ℕ) (bounds : ℕ) : Type 0 where
   pub sound : Sound F s
   pub long : bounds ≡ variables F + variables F
 
+-- What passing 1 to 6 and 8 leaves: a field and scratch as the closure has them, and a record of 2n bounds.
 pub record Lendable (F : Field) (s : List ℕ) (bounds floats words : ℕ) : Type 0 where
   pub ready : Ready F s floats words
   pub long : bounds ≡ variables F + variables F
 
+-- What passing the tests of `pin` leaves: a record, a free variable, and a value of 0 or 1.
 pub record Pinnable (F : Field) (s : List ℕ) (bounds i v : ℕ) : Type 0 where
   pub recorded : Recorded F s bounds
   pub below : i < variables F
   pub free : getD s i 0 ≡ 2
   pub small : v ≤ 1
 
+-- What passing the tests of `release` leaves: a record, and a variable that has a value.
 pub record Releasable (F : Field) (s : List ℕ) (bounds i : ℕ) : Type 0 where
   pub recorded : Recorded F s bounds
   pub below : i < variables F
@@ -86,12 +91,15 @@ pub record Lent : Type 0 where
   pub floats : List Float
   pub words : List ℕ
 
+-- What `make` writes, in one record: the bounds, the number of strict rows, and both scratches.
 abbrev pub lent : List Float → ℕ → List Float → List ℕ → Lent
 lent b n f u = record { bounds = b; strict = n; floats = f; words = u }
 
+-- The answer of `make`, and afterwards the bounds, the number of strict rows and both scratches.
 abbrev pub Left : Type 0
 Left = any.Left Answer Lent
 
+-- What the call `make` leaves, made of its answer and of all that it writes.
 abbrev pub left : Answer → List Float → ℕ → List Float → List ℕ → Left
 left r b n f u = any.left r (lent b n f u)
 
@@ -102,7 +110,7 @@ makeCall F s b n f u =
     (usual Refused (lent b n f u) (lentTests F s (length b) (length f) (length u)) (stage Inexact (isExact F) (lent b n (cleared zero64 f) (cleared 0 u)) ∷ [])
     (left (Done (gradeOf F)) (made F s .bounds) (made F s .strict) (cleared zero64 f) (cleared 0 u)))
 
--- the whole table
+-- The whole table of `make`: 1 to 6, 8 and 12.
 abbrev pub makeTable : Field → List ℕ → ℕ → ℕ → ℕ → List Test
 makeTable F s bounds floats words = lentTests F s bounds floats words ++ test Inexact (isExact F) ∷ []
 
@@ -112,12 +120,15 @@ recordLeft F s b n f u = kept s (makeCall F s b n f u .lent .bounds) (makeCall F
 
 -- ---- the two operations: tests, then the record as it is changed; a refused operation changes nothing
 
+-- An operation on the record: its tests, then the changed record; a refusal changes nothing.
 abbrev pub operation : Kept → List Test → Kept → any.Left Checked Kept
 operation K tests K′ = called (usual Failed K tests [] (any.left Passed K′))
 
+-- What `pin` answers and leaves: the value in the values, and the record of the values then.
 unfoldable pub pinCall : Field → Kept → ℕ → ℕ → any.Left Checked Kept
 pinCall F K i v = operation K (pinTests F (K .values) (length (K .bounds)) i v) (pinned F i v K)
 
+-- What `release` answers and leaves: the variable free, and the record of the values then.
 unfoldable pub releaseCall : Field → Kept → ℕ → any.Left Checked Kept
 releaseCall F K i = operation K (releaseTests F (K .values) (length (K .bounds)) i) (released F i K)
 
@@ -127,9 +138,11 @@ releaseCall F K i = operation K (releaseTests F (K .values) (length (K .bounds))
 unfoldable pub runFrom : Field → List ℕ → List Float → Run
 runFrom F s b = propagate F s (rowsOn b (variables F))
 
+-- The answer of `close`, and afterwards the list of values and both scratches.
 abbrev pub Closed : Type 0
 Closed = any.Left Counted values.Lent
 
+-- What the call `close` leaves, made of its answer, the list of values and both scratches.
 abbrev pub closed : Counted → List ℕ → List Float → List ℕ → Closed
 closed r l f u = any.left r (values.lent l f u)
 
@@ -140,6 +153,6 @@ closeCall F s b l f u =
     (usual Refuses (values.lent l f u) (lentTests F s (length b) (length f) (length u)) (stage Room (eqb (length l) (variables F)) (values.lent (cleared 0 l) (cleared zero64 f) (cleared 0 u)) ∷ [])
     (closed (Counts (gradeOf F) (flatRows (runFrom F s b))) (runFrom F s b .values) (cleared zero64 f) (cleared 0 u)))
 
--- the whole table
+-- The whole table of `close`: 1 to 6, 8 and 9.
 abbrev pub closeTable : Field → List ℕ → ℕ → List ℕ → ℕ → ℕ → List Test
 closeTable F s bounds l floats words = lentTests F s bounds floats words ++ test Room (eqb (length l) (variables F)) ∷ []

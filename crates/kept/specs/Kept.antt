@@ -22,6 +22,7 @@ pub record Kept : Type 0 where
   pub bounds : List Float
   pub strict : ℕ
 
+-- The record made of the values, the bounds and the number of strict rows.
 abbrev pub kept : List ℕ → List Float → ℕ → Kept
 kept s b n = record { values = s; bounds = b; strict = n }
 
@@ -35,6 +36,7 @@ plain r = record { lower = add binary64 (r .lower) zero64; upper = add binary64 
 unfoldable pub storedRow : ℕ → Row → Row
 storedRow v r = cond (eqb v 2) (plain r) (startRow zero64)
 
+-- The row of t as the record holds it, worked out from the values s alone.
 abbrev pub afresh : Field → List ℕ → ℕ → Row
 afresh F s t = storedRow (getD s t 0) (rowOf F s t)
 
@@ -57,7 +59,7 @@ made F s = counted s (boundsOf (afresh F s) (variables F))
 
 -- ---- the value of i changes from old to new
 
--- i is an end of entry k
+-- Whether variable i is an end of entry k, as a test.
 abbrev pub meets : List ℕ → List ℕ → ℕ → ℕ → Bool
 meets rows cols i k = eqb (getD rows k 0) i || eqb (getD cols k 0) i
 
@@ -71,7 +73,7 @@ turnAt F s i old new b k =
     let t = otherEnd (F .rows) (F .cols) i k in
     cond (meets (F .rows) (F .cols) i k && isFree s t) (putRow b (variables F) t (turned (rowOn b (variables F) t) (coeffOf F k) old new)) b
 
--- the first k entries, in order
+-- The bounds after the first k entries, in order, have had the term of i turned from old to new.
 unfoldable pub turnTo : Field → List ℕ → ℕ → ℕ → ℕ → List Float → ℕ → List Float
 turnTo F s i old new b zero = b
 turnTo F s i old new b (suc k) = turnAt F s i old new (turnTo F s i old new b k) k
@@ -87,9 +89,10 @@ changed F i v K =
 abbrev pub Apart : Field → ℕ → ℕ → Type 0
 Apart F i t = (k : ℕ) → k < entries F → (rowEnd F k ≡ i → columnEnd F k ≢ t) × (columnEnd F k ≡ i → rowEnd F k ≢ t)
 
--- a free variable is pinned, and one with a value released (rule 12.4)
+-- The record after the free variable i is pinned: its value is v, and the rows follow (rule 12.4).
 abbrev pub pinned : Field → ℕ → ℕ → Kept → Kept
 pinned F i v K = changed F i v K
 
+-- The record after the variable i is released: its value is 2 again, and the rows follow.
 abbrev pub released : Field → ℕ → Kept → Kept
 released F i K = changed F i 2 K

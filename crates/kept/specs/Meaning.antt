@@ -13,5 +13,6 @@ unfoldable pub strictsTo : Field → List ℕ → ℕ → ℕ
 strictsTo G s zero = 0
 strictsTo G s (suc i) = strictsTo G s i + cond (isFree s i && not (eqb (verdict G s i) 2)) 1 0
 
+-- How many of all variables are free and have a value forced on them by the values s.
 abbrev pub stricts : Field → List ℕ → ℕ
 stricts G s = strictsTo G s (length s)

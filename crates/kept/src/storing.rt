@@ -13,7 +13,7 @@ ghost use Rattle.rows.specs.Row.{isStrict};
 ghost use Rattle.rows.specs.Stored.{rowOn, Written};
 ghost use Rattle.kept.specs.Kept as model;
 
-// The same bounds, and no -0.0.
+// The bounds of a row as the record stores them: the same numbers, and no -0.0.
 pub fn plain(row: Row) -> Row
     ensures { λ r. ⌜ r ≡ model.plain row ⌝ }
 {
@@ -69,7 +69,7 @@ pub fn strict_rows(values: &[u8], bounds: &[f64]) -> u32
     strict
 }
 
-// The bounds go to the front of f.
+// Copies the bounds of a record to the front of f, where a run has its rows.
 pub fn copy_bounds(bounds: &[f64], f: &mut [f64])
     requires { ⌜ length (now bounds) ≤ length (now f) ⌝ }
     ensures { λ _. ⌜ after f ≡ over (before bounds) (before f) ⌝ }

@@ -29,7 +29,7 @@ fn recorded(
     Checked::Passed
 }
 
-// These and 8
+// Makes the tests of `make` and `close`: 1 to 6 of field, values and bounds, then 8.
 pub fn lendable(
     c: &[f64],
     rows: &[u16],
@@ -80,7 +80,7 @@ fn may_release(n: usize, values: &[u8], variable: usize) -> bool
     values[variable] != 2
 }
 
-// 1 to 7, of a pin
+// Makes the tests of `pin`: 1 to 6 of field, values and bounds, then 7 of the variable and the value.
 pub fn pinnable(
     c: &[f64],
     rows: &[u16],
@@ -103,7 +103,7 @@ pub fn pinnable(
     Checked::Passed
 }
 
-// 1 to 7, of a release
+// Makes the tests of `release`: 1 to 6 of field, values and bounds, then 7 of the variable.
 pub fn releasable(
     c: &[f64],
     rows: &[u16],

@@ -108,7 +108,7 @@ fn put_lists(
     put_lists_left(out, used, number, assignment, counts)
 }
 
-// The whole line.
+// Writes the whole line of an answer of `allow`: the answer, both lists and both scratches.
 pub fn put_allowed(
     out: &mut [u8],
     used: usize,

@@ -25,45 +25,64 @@ ghost use lib.ListN.{length};
 ghost use Rattle.scratch.specs.Lent.{after};
 ghost use Rattle.lines.specs.Outcomes.{among};
 
-// The codes of the calls.
+// The code of the call `closure` in the head of a case; the codes of the others follow.
 pub const CLOSURE: u8 = 1;
 
+// The code of the call `components`, which enumerates the small components.
 pub const COMPONENTS: u8 = 2;
 
+// The code of the call `preprocess`: the closure, the small components and what has no effect.
 pub const PREPROCESS: u8 = 3;
 
+// The code of the call `heavy`: rounds of preprocess and of the probe of all free variables.
 pub const HEAVY: u8 = 4;
 
+// The code of the call `probe_one`, the probe of one variable at one value.
 pub const SINGLE_PROBE: u8 = 5;
 
+// The code of the call `cold_probe_one`, the same probe with rows made afresh.
 pub const COLD_PROBE: u8 = 6;
 
+// The code of the call `probe`, both probes of every free variable.
 pub const PROBE: u8 = 7;
 
+// The code of the call `probe_limited`, both probes of the first candidates by edge mass.
 pub const LIMITED_PROBE: u8 = 8;
 
+// The code of the call `pairs`, which compares the four patterns of each free pair.
 pub const PAIRS: u8 = 9;
 
+// The code of the call `propagate`, which closes start values under constraints.
 pub const PROPAGATION: u8 = 10;
 
+// The code of the call `anchors`, one variable of each complement-symmetric component.
 pub const ANCHORS: u8 = 11;
 
+// The code of the call `no_effect`, which lists the variables with no entry and c = 0.
 pub const NO_EFFECT: u8 = 12;
 
+// The code of the call `shift`, which moves the diagonal into the linear weights.
 pub const SHIFT: u8 = 13;
 
+// The code of the call `sub_problem`, which leaves the field of the free variables.
 pub const SUB_PROBLEM: u8 = 14;
 
+// The code of the call `mend`, which puts a list of entries in order.
 pub const MEND: u8 = 15;
 
+// The code of the call `reason`, which says why a variable has its value in the closure.
 pub const REASON: u8 = 16;
 
+// The code of a case that makes a record, pins and releases in it, and closes from it.
 pub const KEEP: u8 = 17;
 
+// The code of the call `cold_probe`, both probes of every free variable with rows made afresh.
 pub const COLD_FULL: u8 = 18;
 
+// The code of the call `cold_probe_limited`, both probes of the first candidates with rows made afresh.
 pub const COLD_LIMITED: u8 = 19;
 
+// The code of the call `allow`, which says whether some assignment meets every constraint.
 pub const ALLOW: u8 = 20;
 
 // The number of a call that is not here.
@@ -82,15 +101,19 @@ const UNFORCED: u32 = 13;
 // The number of repeats whose sum is not finite.
 const SUM: u32 = 18;
 
-// What lent slices hold before a call; none can be part of an answer.
+// What each float of a lent slice holds before a call; it cannot be part of an answer.
 pub const FLOAT: f64 = 165.5;
 
+// What each u32 of lent scratch holds before a call; it is not 0, so that a word left behind is seen.
 pub const WORD: u32 = 165;
 
+// What each u64 of lent scratch holds before a call; it is not 0, so that a word left behind is seen.
 pub const LONG: u64 = 165;
 
+// What each byte of a lent list holds before a call; it is no value, so that one written is seen.
 pub const BYTE: u8 = 165;
 
+// What each u16 of a lent list holds before a call; it is no variable, so that one written is seen.
 pub const SHORT: u16 = 42_405;
 
 // What a call answered: the number, and on 0 the grade, the count of items, the count of pairs, of the smaller problem and of a mended list its entries, and a reason's ground,
@@ -192,6 +215,7 @@ fn put_values(
     put_promise(out, named, b"kept", is_kept)
 }
 
+// Writes ` count=` and the number of items that a call answered.
 pub fn put_count(out: &mut [u8], used: usize, count: usize) -> usize
     ensures { λ r. ⌜ r ≤ length (after out) ⌝ }
 {
@@ -387,7 +411,7 @@ fn put_words(out: &mut [u8], used: usize, number: u32, u: &[u32]) -> usize
     put_promise(out, named, b"zeros", is_zeros)
 }
 
-// The scratch, and the line's end.
+// Writes how both scratches were left, and the end of the line.
 pub fn put_scratch(
     out: &mut [u8],
     used: usize,

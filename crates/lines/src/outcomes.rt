@@ -8,7 +8,7 @@ use field::Refusal;
 ghost use mathlib.Core.Path.{_≡_};
 ghost use Rattle.lines.specs.Outcomes.{isExact, refused as refusedBy, refusing as refusingBy, answered as answeredBy, checked as checkedBy, counted as countedBy};
 
-// Whether a grade is exact.
+// Whether a grade is exact, as the line of an answer says it.
 pub fn is_exact(grade: Grade) -> bool
     ensures { λ r. ⌜ r ≡ isExact grade ⌝ }
 {
@@ -18,7 +18,7 @@ pub fn is_exact(grade: Grade) -> bool
     }
 }
 
-// A number alone.
+// The outcome that is a number alone, as that of a call that is not here.
 pub fn refused(number: u32) -> Outcome
     ensures { λ r. ⌜ r ≡ refusedBy number ⌝ }
 {

@@ -86,7 +86,7 @@ fn put_closed(out: &mut [u8], used: usize, outcome: Outcome, found: &[u8]) -> us
     put_digits(out, listed, found)
 }
 
-// The line's end, behind the record.
+// Writes the rest of a line of `keep`, behind the record: what closing from it gave, and the line's end.
 pub fn put_closing(
     out: &mut [u8],
     used: usize,

@@ -94,7 +94,7 @@ fn field_kept(contents: &[u8], c: &[f64], rows: &[u16], cols: &[u16], q: &[f64])
     entries_kept(contents, 8 * c.len(), rows, cols, q, 0)
 }
 
-// A field that a refusal left.
+// Writes whether a refused call left the field's lists as the case gives them.
 pub fn put_unchanged(
     out: &mut [u8],
     used: usize,
@@ -112,6 +112,7 @@ pub fn put_unchanged(
     put_promise(out, named, b"kept", is_kept)
 }
 
+// Writes the field that a call leaves in the caller's lists, or, on a refusal, whether the lists are unchanged.
 pub fn put_field(
     out: &mut [u8],
     used: usize,

@@ -15,14 +15,15 @@ use Rattle.constraints.specs.Record.{records}
 abbrev pub rules : List ℕ → List Implication
 rules list = rulesOf (records list)
 
--- the variable at end x, and that at the other end of its record
+-- The variable at end x: the lower one of its record for an even x, the higher one for an odd x.
 unfoldable pub mine : List ℕ → ℕ → ℕ
 mine list x = getD list (3 * (x / 2) + x % 2) 0
 
+-- The variable at the other end of the record that has the end x.
 unfoldable pub other : List ℕ → ℕ → ℕ
 other list x = getD list (3 * (x / 2) + (1 - x % 2)) 0
 
--- the set of its record
+-- The set of the record that has the end x: the pairs of values that it forbids.
 unfoldable pub setAt : List ℕ → ℕ → ℕ
 setAt list x = getD list (3 * (x / 2) + 2) 0
 
@@ -40,12 +41,13 @@ barred pairs false v w = isAmong w v (pairsIn pairs)
 unfoldable pub gives : ℕ → Bool → ℕ → ℕ
 gives pairs forth v = cond (barred pairs forth v 0) (cond (barred pairs forth v 1) 3 1) (cond (barred pairs forth v 1) 0 2)
 
+-- What the value v at end x gives the other end: 0, 1, 2 for nothing, or 3 for both.
 unfoldable pub says : List ℕ → ℕ → ℕ → ℕ
 says list x v = gives (setAt list x) (eqb (x % 2) 0) v
 
 -- ---- chains: each end leads to the last one before it that has the same variable
 
--- no chain begins
+-- No chain of ends begins yet: the place of each variable's first end is 0.
 abbrev pub Unlinked : ℕ → List ℕ → Type 0
 Unlinked n u = (i : ℕ) → i < n → getD u (2 * n + i) 0 ≡ 0
 

@@ -11,6 +11,7 @@ pub record Listed (n : ℕ) (list : List ℕ) : Type 0 where
   pub whole : length list ≡ 3 * room list
   pub fit : (t : ℕ) → t < room list → Fit n (recordAt list t)
 
+-- What propagation starts from: few variables, values of 0, 1 or 2, a list of fitting records, and words enough.
 pub record Ready (s list : List ℕ) (words : ℕ) : Type 0 where
   pub few : length s ≤ 4096
   pub small : (i : ℕ) → getD s i 0 ≤ 2

@@ -18,7 +18,7 @@ pub fn mine(list: &[u16], x: usize) -> usize
     scratch::wide_short(list[at])
 }
 
-// The variable at the other end.
+// Reads, from the list, the variable at the other end of the record that has the end x.
 pub fn other(list: &[u16], x: usize) -> usize
     requires { ⌜ length (now list) ≡ 3 * room (now list) ⌝ }
     requires { ⌜ x < 2 * room (now list) ⌝ }

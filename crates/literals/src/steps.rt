@@ -65,7 +65,7 @@ fn serve_end(start: &[u8], list: &[u16], u: &mut [u32], tail: usize, x: usize) -
     Went::On(last)
 }
 
-// Every end of variable i.
+// Serves every end of variable i: what its value gives is forced at the other end, or clashes there.
 pub fn serve(start: &[u8], list: &[u16], u: &mut [u32], tail: usize, i: usize) -> Went
     requires { ⌜ Listed (length (now start)) (now list) ⌝ }
     requires { ⌜ length (now start) ≤ 4096 ⌝ }

@@ -1,4 +1,10 @@
 -- THE EARLY BREAK changes nothing, on any field: a bound that gives no verdict gives none later, infinities and NaN included. Assumes nothing.
+-- The idea. The walk keeps a low and a high bound of each of two differences, and breaks off once each low bound is at most the tolerance t
+-- and each high bound at least its negative: then the bounds say nothing. A further neighbour adds to a low bound a number that is not above 0,
+-- and to a high bound one that is not below 0, so over whole numbers they would say nothing at the end either.
+-- In floats a sum is rounded, and may be an infinity or a NaN. But t is itself a float, and rounding keeps order: what is not above t, with
+-- a number not above 0 added, is rounded to something not above t. An infinity that is added points the harmless way, and a NaN is above nothing.
+-- High bounds are the same with signs turned. By induction over the neighbours, the bounds at the break and those at the end say the same: nothing.
 use mathlib.Core.Path.{_≡_, refl, sym, ap, _∙_, subst}
 use mathlib.Core.Logic.{_⊎_, inl, inr}
 use mathlib.Core.Bool.{Bool, true, false, not, _&&_, _||_, cond, true≢false}
@@ -377,7 +383,7 @@ quiet-none : (t : Float) (b : Bounds) → Quiet t b → signsOf t b ≡ none-sai
 unfolding signsOf signOf none-said
 quiet-none t b q = rw (q .sum-low, lt-neg (b .sumHigh) t, q .sum-high, q .diff-low, lt-neg (b .diffHigh) t, q .diff-high) refl
 
--- THE BREAK: wherever the source breaks off, what it has then says what all neighbours would, namely nothing
+-- Theorem. THE BREAK: wherever the source breaks off, what it has then says what all neighbours would, namely nothing.
 pub break-changes-nothing : (F : Field) (s : List ℕ) (i j k : ℕ) → k ≤ variables F → T (hopeless (tolerance F i j) (boundsTo F s i j k))
     → signsOf (tolerance F i j) (boundsTo F s i j k) ≡ pairSigns F s i j
 unfolding pairSigns boundsOf

@@ -142,6 +142,7 @@ module _ {u : ℕ} {F : Field} (x : Exact u F) where
       pub linear-part-under : {s : List ℕ} → StartFor (variables F) s → Under (2 ^ 48) (settled (wholeOf u F) s i)
       linear-part-under st = all-under (fixed-adds st) i (linear-worth (x .exact) i h) (linear-under (x .exact) i h)
 
+      -- Theorem. On an exact field the mass of a variable is its mass in whole numbers: no sum rounds.
       pub mass-worth : Worth u (mass F i) (mass-of u F i)
       mass-worth = all-worth magnitude-adds i (magnitude-worth (linear-worth (x .exact) i h)) (omega (arith, linear-under (x .exact) i h))
 

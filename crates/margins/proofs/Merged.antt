@@ -221,7 +221,7 @@ module _ (F : Field) (s : List ℕ) (R : Rows) (a b : ℕ) (rowI : Listed F s (R
         go true e ih = rw e (let z = next-key st e in ih (z .0) (z .1) (omega (arith, falls R w e)))
         go false e ih = rw e (over st et e)
 
-    -- THE WALK, from the rows' beginnings and the start's bounds, says what the model's bounds say
+    -- Theorem. THE WALK, from the rows' beginnings and the start's bounds, says what the model's bounds say.
     pub walk-is : (w : Walk) → w .left ≡ a → w .right ≡ b → w .bounds ≡ boundsTo F s (R .i) (R .j) 0 → signsOf (R .t) (walkAll R w .bounds) ≡ pairSigns F s (R .i) (R .j)
     unfolding walkAll
     walk-is w p q e =

@@ -179,6 +179,7 @@ module _ {u : ℕ} {F : Field} (x : Exact u F) (i j : ℕ) (hi : i < variables F
       go true = masses-huge
       go false = one-huge
 
+  -- Theorem. On an exact field the tolerance of a pair is finite and above 0.
   pub tolerance-positive : T (positive (tolerance F i j))
   unfolding ofBits mul round huge64
   tolerance-positive =

@@ -26,7 +26,7 @@ module _ (u : ℕ) (F : Field) (s : List ℕ) (i j : ℕ) where
     pub worth : Worth u y (difference a b (wholeOf u F) at i j)
     pub least : (x : List ℕ) → Completion s x → difference a b (wholeOf u F) at i j ⊑ difference a b (wholeOf u F) x i j
 
-  -- likewise, and no values give more
+  -- y is f at the pattern less f at the opposite for some values of the other free variables, and no values give more.
   pub record Greatest (a b : Bool) (y : Float) : Type 0 where
     pub at : List ℕ
     pub completion : Completion s at

@@ -12,7 +12,7 @@ pub record Exact (u : ℕ) (F : Field) : Type 0 where
   pub exact : ExactIn u F
   pub shaped : Shaped F
 
--- what entry e counts at i
+-- What entry e adds at i, in whole numbers, where g says what a weight adds.
 abbrev pub counts : ℕ → Field → (Whole → ℕ → Whole) → ℕ → ℕ → Whole
 counts u F g i e = only (eqb (rowEnd F e) i) (g (wholeOf u F .weight e) (columnEnd F e)) ⊕ only (eqb (columnEnd F e) i) (g (wholeOf u F .weight e) (rowEnd F e))
 

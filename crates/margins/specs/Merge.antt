@@ -24,6 +24,7 @@ pub record Rows : Type 0 where
   pub j : ℕ
   pub t : Float
 
+-- The record of the two rows of a pair, made of its seven parts in their order.
 abbrev pub rowsOf : List ℕ → List Float → ℕ → ℕ → ℕ → ℕ → Float → Rows
 rowsOf ks ws ea eb i j t = record { keys = ks; weights = ws; endI = ea; endJ = eb; i = i; j = j; t = t }
 
@@ -38,6 +39,7 @@ pub record Fit (R : Rows) : Type 0 where
 unfoldable pub metBy : Bounds → ℕ → ℕ → ℕ → Float → Float → Bounds
 metBy b i j k wi wj = cond (eqb k i) b (cond (eqb k j) b (cond (meets wi wj) (widen b wi wj) b))
 
+-- One step along the row of i alone: its next neighbour weighs nothing at j.
 abbrev pub stepI : Rows → Walk → Walk
 stepI R w = record {
   left = w .left + 1;
@@ -45,6 +47,7 @@ stepI R w = record {
   bounds = metBy (w .bounds) (R .i) (R .j) (getD (R .keys) (w .left) 0) (getD (R .weights) (w .left) nan) zero64;
 }
 
+-- One step along the row of j alone: its next neighbour weighs nothing at i.
 abbrev pub stepJ : Rows → Walk → Walk
 stepJ R w = record {
   left = w .left;
@@ -52,6 +55,7 @@ stepJ R w = record {
   bounds = metBy (w .bounds) (R .i) (R .j) (getD (R .keys) (w .right) 0) zero64 (getD (R .weights) (w .right) nan);
 }
 
+-- One step along both rows, whose next neighbour is the same variable.
 abbrev pub stepBoth : Rows → Walk → Walk
 stepBoth R w = record {
   left = w .left + 1;
@@ -73,17 +77,20 @@ turnOf R w =
 unfoldable pub going : ℕ → ℕ → Float → Walk → Bool
 going ea eb t w = not (hopeless t (w .bounds)) && (ltb (w .left) ea || ltb (w .right) eb)
 
+-- Whether the walk goes on: some bound may still give a constraint, and a neighbour is left.
 abbrev pub live : Rows → Walk → Bool
 live R w = going (R .endI) (R .endJ) (R .t) w
 
+-- How many places of the two rows the walk has not passed, which bounds the steps to come.
 abbrev pub leftOver : Rows → Walk → ℕ
 leftOver R w = (R .endI - w .left) + (R .endJ - w .right)
 
+-- The walk after so many steps, or fewer where it stops before them.
 unfoldable pub walkOn : Rows → ℕ → Walk → Walk
 walkOn R zero w = w
 walkOn R (suc n) w = cond (live R w) (walkOn R n (turnOf R w)) w
 
--- until it stops
+-- The walk over both rows from w until it stops.
 unfoldable pub walkAll : Rows → Walk → Walk
 walkAll R w = walkOn R (leftOver R w) w
 

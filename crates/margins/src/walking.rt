@@ -120,7 +120,7 @@ fn turn(
     }
 }
 
-// The bounds where the walk stops.
+// Walks along the merged rows of a pair, and answers the bounds where the walk stops.
 pub fn walk_rows(
     keys: &[u32],
     weights: &[f64],

@@ -79,6 +79,6 @@ module _ (f : ℕ → Float) where
         below-top = λ m h k. rw (← e .0) (e .1);
       }
 
-  -- of equal sums the lowest mask wins, and NaN does not
+  -- Theorem. Of equal sums the lowest mask wins, and NaN does not.
   pub lowest-first : (n : ℕ) → First f n (lowest f n)
   lowest-first n = first-of n (bestOf f n) (all-masks n)

@@ -74,14 +74,14 @@ module _ {u : ℕ} (f : ℕ → Float) (g : ℕ → Whole) where
       let W = all-masks n (λ m h. w m (omega arith)) in
       next-mask (suc n) (w (suc n) (omega arith)) (bestOf f (suc n)) (w (bestOf f (suc n) .mask) (omega (arith, W .won .below))) W
 
-  -- where every sum f is worth g, the lowest mask of least g wins
+  -- Theorem. Where every sum f is worth g, the lowest mask of least g wins.
   pub winner : (n : ℕ) → 0 < n → ((m : ℕ) → m < n → Worth u (f m) (g m)) → Won g n (lowest f n)
   winner zero h w = absurd (omega arith)
   winner (suc n) h w = all-masks n w .won
 
 -- ---- whatever the sums are
 
--- where all sums are NaN or plus infinity, mask 0 wins
+-- Theorem. Where all sums are NaN or plus infinity, mask 0 wins.
 pub none-below-top : (f : ℕ → Float) (n : ℕ) → ((m : ℕ) → m < n → lt (f m) top ≡ false) → bestOf f n ≡ record { sum = top; mask = 0 }
 unfolding bestOf
 none-below-top f zero h = refl
@@ -120,7 +120,7 @@ module _ (f : ℕ → Float) (m : ℕ) (bottom : f m ≡ inf true) (first-one : 
       by true e s = ((λ q. true≢false (sym e ∙ ap (λ (x : Float). lt x (bestOf f n .sum)) q ∙ nan-not-below (bestOf f n .sum))), first-one n h)
       by false e s = s
 
-  -- minus infinity is least: the lowest mask of that sum wins
+  -- Theorem. Minus infinity is least: the lowest mask of that sum wins.
   pub bottom-wins : (d : ℕ) → bestOf f (m + suc d) ≡ record { sum = inf true; mask = m }
   unfolding bestOf
   bottom-wins zero =

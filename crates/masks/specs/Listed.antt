@@ -12,6 +12,7 @@ pub record Lists : Type 0 where
   pub values : List Float
   pub required : List ℕ
 
+-- The two lists of terms put into one record, with the end of the terms on them.
 abbrev pub lists : ℕ → List Float → List ℕ → Lists
 lists end values required = record { end = end; values = values; required = required }
 

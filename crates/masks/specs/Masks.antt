@@ -16,6 +16,7 @@ pub record Term : Type 0 where
   pub required : ℕ
   pub value : Float
 
+-- A term made of the bits that it requires and its value, in this order.
 abbrev pub term : ℕ → Float → Term
 term r v = record { required = r; value = v }
 
@@ -32,7 +33,7 @@ unfoldable pub sumAt : ℕ → Float → List Term → Float
 sumAt mask sum [] = sum
 sumAt mask sum (t ∷ ts) = sumAt mask (plus mask sum t) ts
 
--- the objective of a mask
+-- The objective of a mask: the sum of all terms whose required bits it has, from 0.0 on.
 abbrev pub objective : List Term → ℕ → Float
 objective ts mask = sumAt mask zero64 ts
 
@@ -41,7 +42,7 @@ pub record Best : Type 0 where
   pub sum : Float
   pub mask : ℕ
 
--- plus infinity
+-- Plus infinity, which every sum that is a number is at most.
 abbrev pub top : Float
 top = ofBits binary64 0x7ff0_0000_0000_0000
 
@@ -50,6 +51,7 @@ unfoldable pub bestOf : (ℕ → Float) → ℕ → Best
 bestOf g zero = record { sum = top; mask = 0 }
 bestOf g (suc n) = cond (lt (g n) (bestOf g n .sum)) (record { sum = g n; mask = n }) (bestOf g n)
 
+-- The mask of least sum among those below n, the lowest of them where several are equal.
 abbrev pub lowest : (ℕ → Float) → ℕ → ℕ
 lowest g n = bestOf g n .mask
 

@@ -31,7 +31,7 @@ Fits n E = (e : Implication) → List·Memᴰ e E → Fit n e
 abbrev pub Obeys : List ℕ → Implication → Type 0
 Obeys x e = getD x (e .from) 0 ≡ e .when → getD x (e .to) 0 ≡ e .gives
 
--- settled values are one, and exclude a clash
+-- Theorem. Settled values are one, and exclude a clash.
 pub settled-unique : {E : List Implication} {s t u : List ℕ} → Settled E s t → Settled E s u → t ≡ u
 settled-unique {E} {s} {t} {u} p q =
     ext-getD 0 t u (p .as-long ∙ sym (q .as-long)) λ i h.

@@ -42,10 +42,11 @@ module _ (F : Field) (st : Standard F) (fits : Within F) (s : List ℕ) (valid :
   here : (x : List ℕ) → Completion s x → margin a b F x i j ≈ difference a b F x i j
   here x c = gap-is F st fits x (c .full) (c .extends .as-long ∙ long) i j hi hj ne a b
 
-  -- the margin is a lower bound, and one completion reaches it
+  -- Theorem. The margin is a lower bound, and one completion reaches it.
   pub margin-below : (x : List ℕ) → Completion s x → margin a b F s i j ⊑ difference a b F x i j
   margin-below x c = omega (arith, here x c, margin-rises a b F (c .extends) i j)
 
+  -- Theorem. One completion reaches the margin, so that it is the least difference and no mere bound.
   pub margin-reached : margin a b F s i j ≈ difference a b F (least-at a b F s i j) i j
   margin-reached = omega (arith, here (least-at a b F s i j) (lowest-completion (pull a b F i j) s valid), lowest-reaches (F .n) (pull a b F i j) s i j)
 
@@ -96,6 +97,7 @@ own-not true false w = omega arith
 own-not false true w = omega arith
 own-not false false w = omega arith
 
+-- Theorem. The greatest of a pattern is the margin of the opposite pattern with its sign turned.
 pub greatest-is : (a b : Bool) (F : Field) (s : List ℕ) (i j : ℕ) → greatest a b F s i j ≈ nothing ⊖ margin (not a) (not b) F s i j
 greatest-is a b F s i j =
     omega (

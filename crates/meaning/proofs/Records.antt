@@ -23,7 +23,7 @@ use Rattle.meaning.proofs.Rising.{rising-same}
 
 -- ---- kinds and sets
 
--- the set of a kind has the pairs that the kind forbids
+-- Theorem. The set of a kind has the pairs that the kind forbids.
 pub set-forbidden : (k : Kind) → pairsIn (setOf k) ≡ forbidden k
 unfolding pairsIn
 set-forbidden at-least-one = refl

@@ -28,9 +28,11 @@ Within F = (k : ℕ) → k < F .m → (F .row k < F .n) × (F .column k < F .n)
 abbrev pub variable-term : Field → List ℕ → ℕ → Whole
 variable-term F x i = F .linear i ⊙ getD x i 0
 
+-- What entry k adds to 2f at the values x: q where both its ends are 1, and nothing elsewhere.
 abbrev pub entry-term : Field → List ℕ → ℕ → Whole
 entry-term F x k = F .weight k ⊙ getD x (F .row k) 0 ⊙ getD x (F .column k) 0
 
+-- 2f at the values x, in units: the sum over all variables and all entries of what each adds.
 abbrev pub twice-f : Field → List ℕ → Whole
 twice-f F x = sum (F .n) (variable-term F x) ⊕ sum (F .m) (entry-term F x)
 

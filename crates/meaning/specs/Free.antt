@@ -5,7 +5,7 @@ use Prim.Native.Nat.{ℕ, zero, suc}
 use lib.Dec.{eqb}
 use lib.ListN.{getD}
 
--- 2 stands for free
+-- Whether variable i is free, which is where its value is 2.
 abbrev pub isFree : List ℕ → ℕ → Bool
 isFree s i = eqb (getD s i 0) 2
 

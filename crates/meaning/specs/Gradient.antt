@@ -52,10 +52,11 @@ part free F w i k =
 abbrev pub gradient : (Whole → Whole) → Field → View → ℕ → Whole
 gradient free F w i = F .linear i ⊕ sum (F .m) (part free F w i)
 
--- a free end counts the lesser of q and 0 in low, and the greater in high
+-- The lower bound of the gradient of i at the values s: an entry to a free end counts min(q, 0).
 abbrev pub low : Field → List ℕ → ℕ → Whole
 low F s i = gradient min0 F (view s) i
 
+-- The upper bound of the gradient of i at the values s: an entry to a free end counts max(q, 0).
 abbrev pub high : Field → List ℕ → ℕ → Whole
 high F s i = gradient max0 F (view s) i
 
@@ -70,18 +71,20 @@ pub data Forced (F : Field) (w : View) (i : ℕ) : ℕ → Type 0 where
 abbrev pub Forces : Field → Rule
 Forces F s i v = Forced F (view s) i v
 
+-- The value forced by two tests, low above 0 and then high below 0: 0, 1, or 2 where both fail.
 abbrev pub judge : Bool → Bool → ℕ
 judge true b = 0
 judge false true = 1
 judge false false = 2
 
--- the value forced on i, or 2
+-- The value that the bounds at s force on variable i, or 2 where they force none.
 unfoldable pub verdict : Field → List ℕ → ℕ → ℕ
 unfolding share sum
 verdict F s i = judge (ltb (low F s i .less) (low F s i .plus)) (ltb (high F s i .plus) (high F s i .less))
 
 -- ---- where both are 0
 
+-- Whether a whole number is 0, as a test that computes: gained and spent are equal.
 abbrev pub isZero : Whole → Bool
 isZero a = eqb (a .plus) (a .less)
 
@@ -91,6 +94,6 @@ unfolding share sum
 flatsTo F s zero = 0
 flatsTo F s (suc i) = flatsTo F s i + cond (isFree s i && (isZero (low F s i) && isZero (high F s i))) 1 0
 
--- and how many in all
+-- How many free variables there are in all whose bounds are both 0.
 abbrev pub flats : Field → List ℕ → ℕ
 flats F s = flatsTo F s (length s)

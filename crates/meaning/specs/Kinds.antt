@@ -4,6 +4,7 @@ use mathlib.Core.Logic.{_≢_}
 use Prim.Native.Nat.{ℕ}
 use lib.ListN.{getD}
 
+-- The six kinds of constraint on two variables, named for what they ask of the two values.
 pub data Kind : Type 0 where
   at-least-one : Kind
   exactly-one : Kind
@@ -12,10 +13,12 @@ pub data Kind : Type 0 where
   less-than : Kind
   equal : Kind
 
+-- Two values, that of a constraint's first end and that of its second.
 pub record Pair : Type 0 where
   pub first : ℕ
   pub second : ℕ
 
+-- The pair of the values a and b, the first end's value first.
 abbrev pub pair : ℕ → ℕ → Pair
 pair a b = record { first = a; second = b }
 
@@ -28,6 +31,7 @@ forbidden greater-than = pair 0 1 ∷ []
 forbidden less-than = pair 1 0 ∷ []
 forbidden equal = pair 0 1 ∷ pair 1 0 ∷ []
 
+-- A constraint of kind k does not allow that its first end has a while its second has b.
 abbrev pub Forbids : Kind → ℕ → ℕ → Type 0
 Forbids k a b = List·Memᴰ (pair a b) (forbidden k)
 
@@ -37,6 +41,7 @@ pub record Constraint : Type 0 where
   pub second : ℕ
   pub kind : Kind
 
+-- The constraint of kind k with the first end a and the second end b.
 abbrev pub joining : Kind → ℕ → ℕ → Constraint
 joining k a b = record { first = a; second = b; kind = k }
 

@@ -16,17 +16,20 @@ pub record Implication : Type 0 where
   pub to : ℕ
   pub gives : ℕ
 
--- i and j have not the values p: what the value of either implies of the other
+-- i and j may not have the values p: where i has its value of p, j has the other one of its own.
 abbrev pub forth : ℕ → ℕ → Pair → Implication
 forth i j p = record { from = i; when = p .first; to = j; gives = 1 - p .second }
 
+-- i and j may not have the values p: where j has its value of p, i has the other one of its own.
 abbrev pub back : ℕ → ℕ → Pair → Implication
 back i j p = record { from = j; when = p .second; to = i; gives = 1 - p .first }
 
+-- What follows where i and j have none of these pairs of values: two implications for each pair.
 abbrev pub bars : ℕ → ℕ → List Pair → List Implication
 bars i j [] = []
 bars i j (p ∷ ps) = forth i j p ∷ back i j p ∷ bars i j ps
 
+-- All implications of a list of constraints, in order: two for each pair that one of them forbids.
 unfoldable pub implications : List Constraint → List Implication
 implications [] = []
 implications (c ∷ cs) = bars (c .first) (c .second) (forbidden (c .kind)) ++ implications cs
@@ -64,10 +67,12 @@ unfoldable pub stands : List Implication → List ℕ → Bool
 stands [] s = true
 stands (e ∷ es) s = (not (eqb (getD s (e .from) 0) (e .when)) || eqb (getD s (e .to) 0) (e .gives)) && stands es s
 
+-- What propagation says: done, with all values that follow, or a clash, where these break an implication.
 pub data Answer : Type 0 where
   done : List ℕ → Answer
   clash : Answer
 
+-- Propagation computed: the values closed under E where they obey every implication, and else a clash.
 unfoldable pub propagate : List Implication → List ℕ → Answer
 unfolding implied stands closure
 propagate E s = cond (stands E (closure (implied E) s)) (done (closure (implied E) s)) clash

@@ -18,9 +18,11 @@ joins F i j k =
     only (eqb (F .row k) i) (only (eqb (F .column k) j) (F .weight k))
     ⊕ only (eqb (F .column k) i) (only (eqb (F .row k) j) (F .weight k))
 
+-- The weight between i and k in whole numbers: the sum of q over all entries that join the two.
 abbrev pub merged : Field → ℕ → ℕ → Whole
 merged F i j = sum (F .m) (joins F i j)
 
+-- The value for which a truth value of a pattern stands: 1 for true and 0 for false.
 abbrev pub bit : Bool → ℕ
 bit true = 1
 bit false = 0
@@ -54,10 +56,11 @@ abbrev pub gap : (Whole → Whole) → Bool → Bool → Field → List ℕ → 
 gap free a b F s i j =
     signed a (F .linear i) ⊕ signed b (F .linear j) ⊕ own a b (merged F i j) ⊕ sum (F .n) (pull-part free (pull a b F i j) s i j)
 
--- the least, and the greatest, over all values of the other free variables
+-- The least of f at (a, b) less f at the opposite, over all values of the other free variables.
 abbrev pub margin : Bool → Bool → Field → List ℕ → ℕ → ℕ → Whole
 margin = gap min0
 
+-- The greatest of f at (a, b) less f at the opposite, over all values of the other free variables.
 abbrev pub greatest : Bool → Bool → Field → List ℕ → ℕ → ℕ → Whole
 greatest = gap max0
 

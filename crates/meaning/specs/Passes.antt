@@ -26,11 +26,13 @@ unfolding visit
 pass verdict s zero = s
 pass verdict s (suc k) = visit verdict (pass verdict s k) k
 
+-- So many passes over all variables, one after the other, each from the values that the last one left.
 unfoldable pub passes : (List ℕ → ℕ → ℕ) → ℕ → List ℕ → List ℕ
 unfolding pass
 passes verdict zero s = s
 passes verdict (suc k) s = pass verdict (passes verdict k s) (length s)
 
+-- The values after as many passes as there are variables, after which no pass adds one.
 unfoldable pub closure : (List ℕ → ℕ → ℕ) → List ℕ → List ℕ
 unfolding passes
 closure verdict s = passes verdict (length s) s

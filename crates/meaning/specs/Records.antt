@@ -15,6 +15,7 @@ pub record Record : Type 0 where
   pub higher : ℕ
   pub set : ℕ
 
+-- The record of the lower variable i, the higher variable j and a set of forbidden pairs.
 abbrev pub recordOn : ℕ → ℕ → ℕ → Record
 recordOn i j pairs = record { lower = i; higher = j; set = pairs }
 
@@ -27,11 +28,12 @@ chosen (suc b) p = p ∷ []
 unfoldable pub pairsIn : ℕ → List Pair
 pairsIn pairs = chosen (pairs % 2) (pair 0 0) ++ chosen (pairs / 2 % 2) (pair 0 1) ++ chosen (pairs / 4 % 2) (pair 1 0) ++ chosen (pairs / 8 % 2) (pair 1 1)
 
--- the set is from 1 to 15
+-- A record's set is neither 0 nor above 15: it forbids a pair of values, and has four bits.
 pub record Proper (r : Record) : Type 0 where
   pub some : 0 < r .set
   pub four : r .set < 16
 
+-- Each record of the list forbids at least one pair of values, and its set has no fifth bit.
 abbrev pub AllProper : List Record → Type 0
 AllProper l = (r : Record) → List·Memᴰ r l → Proper r
 

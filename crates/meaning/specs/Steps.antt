@@ -5,7 +5,7 @@ use mathlib.Core.List.{List}
 use Prim.Native.Nat.{ℕ, _≤_, _<_}
 use lib.ListN.{length, getD, set}
 
--- every value is 0, 1, or 2 for free
+-- Every value is 0, 1, or 2 for free.
 abbrev pub Valid : List ℕ → Type 0
 Valid s = (i : ℕ) → getD s i 0 ≤ 2
 
@@ -27,7 +27,7 @@ pub data Steps (R : Rule) : List ℕ → List ℕ → Type 0 where
   stop : {s : List ℕ} → Steps R s s
   step : {s t : List ℕ} (i v : ℕ) → getD s i 0 ≡ 2 → R s i v → Steps R (set s i v) t → Steps R s t
 
--- no step is left
+-- No step is left at t: the rule R forces no value on a variable that is free there.
 abbrev pub Closed : Rule → List ℕ → Type 0
 Closed R t = (i v : ℕ) → getD t i 0 ≡ 2 → R t i v → ⊥
 

@@ -62,7 +62,7 @@ numbered-long (x ∷ l) = omega (arith, length-append (numbersOf x) (numbered l)
     three (moved k o) = refl
     three (joined k o) = refl
 
--- any two results that the promise permits are equal
+-- Theorem. Any two results that the promise permits are equal.
 pub one-result : (F : Field) (report : List ℕ) (f : List Float) (u : List ℕ) (x y : Left) → x ≡ mendCall F report f u → y ≡ mendCall F report f u → x ≡ y
 one-result F report f u = any.one-result (mendCall F report f u)
 
@@ -76,17 +76,17 @@ first-sum true false c d rest n e = let z : _≡_ {A = ℕ} 2 18 = cc in absurd 
 first-sum false b c d rest n e = let z : _≡_ {A = ℕ} 1 18 = cc in absurd (omega arith)
 
 module _ (F : Field) (report : List ℕ) (f : List Float) (u : List ℕ) where
-  -- The call is refused with r exactly if the tests before r's own pass, and its own fails; 9 is tested last.
+  -- Theorem. The call is refused with r exactly if the tests before r's own pass, and its own fails; 9 is tested last.
   pub refused-when : (r : Refusal) → (mendCall F report f u .answer ≡ Refused r) ↔ FirstToFail (mendTable F report (length f) (length u)) r
   unfolding mendCall mendTable table
   refused-when = usual.refused-when Refused _ _ _ _ same-refused done-apart refl
 
-  -- a refusal but 9 changes nothing,
+  -- Theorem. A refusal but 9 changes nothing.
   pub refused-leaves : (r : Refusal) → r ≢ Room → mendCall F report f u .answer ≡ Refused r → mendCall F report f u ≡ left (Refused r) (F .rows) (F .cols) (F .quad) report f u
   unfolding mendCall
   refused-leaves r n e = usual.refused-leaves Refused _ _ _ _ same-refused done-apart r (other-stage n no-stage) e
 
-  -- 9 is given exactly if the tests before it pass and there are more changes than the report has room for,
+  -- Theorem. 9 is given exactly if the tests before it pass and there are more changes than the report has room for.
   pub room-when : (mendCall F report f u .answer ≡ Refused Room) ↔ (Mendable F (length f) (length u) × (length report / 3 < length (changesOf F)))
   unfolding mendCall fits
   room-when =
@@ -94,13 +94,13 @@ module _ (F : Field) (report : List ℕ) (f : List Float) (u : List ℕ) where
       let p = mend-passes F (length f) (length u) in
       ((λ e. (p .0 (t .0 e .0), leb-false _ _ (t .0 e .1))), λ h. t .1 (p .1 (h .0), lt-leb _ _ (h .1)))
 
-  -- and 9 leaves the entries as they were and the report all zeros.
+  -- Theorem. 9 leaves the entries as they were and the report all zeros.
   pub room-leaves : mendCall F report f u .answer ≡ Refused Room
       → mendCall F report f u ≡ left (Refused Room) (F .rows) (F .cols) (F .quad) (cleared 0 report) (cleared zero64 f) (cleared 0 u)
   unfolding mendCall
   room-leaves e = usual.later-leaves Refused _ _ _ _ same-refused done-apart Room _ (never-room F (length f) (length u)) (this-stage no-stage) e
 
-  -- It is done exactly if the lists, the sums and both scratches are as the table asks and the report has room, and then gives the mended field's grade, the new m and the number of changes.
+  -- Theorem. It is done exactly if the lists, the sums and both scratches are as the table asks and the report has room, and then gives the mended field's grade, the new m and the number of changes.
   pub done-when : (mendCall F report f u .answer ≡ Done (gradeOf (mended F)) (entries (mended F)) (length (changesOf F)))
       ↔ (Mendable F (length f) (length u) × (length (changesOf F) ≤ length report / 3))
   unfolding mendCall fits table
@@ -108,7 +108,7 @@ module _ (F : Field) (report : List ℕ) (f : List Float) (u : List ℕ) where
       usual.done-when Refused _ _ _ _ same-refused done-apart
       (group-is (mendTests F (length f) (length u)) _ (mend-passes F (length f) (length u)) (last-is Room _ (le-is (length (changesOf F)) (length report / 3))))
 
-  -- 18 is given exactly if tests 1, 2 and 5 pass and some place inside the field has a sum that is not finite; dropped entries do not count, and the scratch is not asked.
+  -- Theorem. 18 is given exactly if tests 1, 2 and 5 pass and some place inside the field has a sum that is not finite; dropped entries do not count, and the scratch is not asked.
   pub sum-when : (mendCall F report f u .answer ≡ Refused Sum) ↔ (Listed F × (Finite F × Overflow F))
   unfolding mendTable mendTests sumTests tested
   sum-when = (
@@ -140,6 +140,7 @@ module _ (F : Field) (report : List ℕ) (f : List Float) (u : List ℕ) where
 -- ---- what it leaves when done
 
 module _ (F : Field) (report : List ℕ) (f : List Float) (u : List ℕ) {g : Grade} {m changes : ℕ} (e : mendCall F report f u .answer ≡ Done g m changes) where
+  -- Theorem. When it is done, entries, report and scratch are exactly these: the mended list with zeros behind it, and the changes.
   pub done-leaves : mendCall F report f u
       ≡ left (Done (gradeOf (mended F)) (entries (mended F)) (length (changesOf F))) (over (mended F .rows) (cleared 0 (F .rows))) (over (mended F .cols) (cleared 0 (F .cols)))
       (over (mended F .quad) (cleared zero64 (F .quad))) (over (numbered (changesOf F)) report) (cleared zero64 f) (cleared 0 u)
@@ -158,7 +159,7 @@ module _ (F : Field) (report : List ℕ) (f : List Float) (u : List ℕ) {g : Gr
   front : {A : Type 0} (h : ℕ → A) (old : List A) {new : List A} → new ≡ over (map h (placesOf F)) old → take m new ≡ map h (placesOf F)
   front h old z = ap (take m) z ∙ over-front (map h (placesOf F)) old (length-map (placesOf F) h ∙ kept)
 
-  -- the first m entries are the mended field
+  -- Theorem. The first m entries are the mended field.
   pub field-is : fieldLeft (F .linear) m (mendCall F report f u) ≡ mended F
   unfolding mended
   field-is =
@@ -168,21 +169,21 @@ module _ (F : Field) (report : List ℕ) (f : List Float) (u : List ℕ) {g : Gr
         front (sumAt F) (cleared zero64 (F .quad)) (ap (λ (x : Left). x .lent .quad) done-leaves),
       )
 
-  -- What is left passes the tests of entries, 1, 2, 14 to 17 and 5,
+  -- Theorem. What is left passes the tests of entries, 1, 2, 14 to 17 and 5.
   pub accepted : tested (looseTests (fieldLeft (F .linear) m (mendCall F report f u))) ≡ Passed
   accepted = rw field-is (loose-passes (mended F) .1 (mended-loose F (ready .0 .listed) (ready .0 .finite-weights .linear) (ready .0 .finite-sums)))
 
-  -- has every place named inside the field, and no other;
+  -- Theorem. What is left has every place named inside the field, and no other.
   pub places-kept : (r c : ℕ) → Named (fieldLeft (F .linear) m (mendCall F report f u)) r c ↔ Named F r c
   places-kept r c = rw field-is (only-named F r c, keeps F r c)
 
-  -- each of its weights is the sum of those at its place, in input order, from the first weight on,
+  -- Theorem. Each of its weights is the sum of those at its place, in input order, from the first weight on.
   pub sum-in-order : (o : ℕ) → o < m
       → quadOf (fieldLeft (F .linear) m (mendCall F report f u)) o
       ≡ sumOf F (rowEnd (fieldLeft (F .linear) m (mendCall F report f u)) o) (columnEnd (fieldLeft (F .linear) m (mendCall F report f u)) o)
   sum-in-order o h = subst (λ (G : Field). quadOf G o ≡ sumOf F (rowEnd G o) (columnEnd G o)) (sym field-is) (model.sum-in-order F o (omega (arith, kept)))
 
-  -- and the grade is its grade.
+  -- Theorem. The grade that is answered is that of the mended field.
   pub graded : g ≡ gradeOf (fieldLeft (F .linear) m (mendCall F report f u))
   graded = answer-is .0 ∙ ap gradeOf (sym field-is)
 
@@ -194,35 +195,40 @@ module _ (F : Field) (report : List ℕ) (f : List Float) (u : List ℕ) {g : Gr
       ∙ getD-replicate (length old) k z d i
 
   module _ (k : ℕ) (l : m ≤ k) (h : k < entries F) where
+    -- Theorem. Past the new m, each row of the list is 0.
     pub past-row : getD (mendCall F report f u .lent .rows) k 0 ≡ 0
     unfolding mended
     past-row = past (rowIn (variables F)) 0 0 (F .rows) (ap (λ (x : Left). x .lent .rows) done-leaves) k l (omega (arith, ready .0 .listed .rows-long))
 
+    -- Theorem. Past the new m, each column of the list is 0.
     pub past-column : getD (mendCall F report f u .lent .cols) k 0 ≡ 0
     unfolding mended
     past-column = past (columnIn (variables F)) 0 0 (F .cols) (ap (λ (x : Left). x .lent .cols) done-leaves) k l (omega (arith, ready .0 .listed .cols-long))
 
+    -- Theorem. Past the new m, each pair weight of the list is 0.0.
     pub past-weight : getD (mendCall F report f u .lent .quad) k nan ≡ zero64
     unfolding mended
     past-weight = past (sumAt F) zero64 nan (F .quad) (ap (λ (x : Left). x .lent .quad) done-leaves) k l h
 
   -- ---- the report
 
-  -- At its front stand the numbers of the changes, three each, and the rest of it is unchanged;
+  -- Theorem. At its front stand the numbers of the changes, three each, and the rest of it is unchanged.
   pub report-is : take (3 * changes) (mendCall F report f u .lent .report) ≡ numbered (changesOf F)
   report-is = ap (λ (x : Left). take (3 * changes) (x .lent .report)) done-leaves ∙ over-front (numbered (changesOf F)) report {n = 3 * changes} (omega (arith, numbered-long (changesOf F), answer-is .1 .1))
 
+  -- Theorem. The report past its last change is as it was.
   pub report-rest : drop (3 * changes) (mendCall F report f u .lent .report) ≡ drop (3 * changes) report
   report-rest = ap (λ (x : Left). drop (3 * changes) (x .lent .report)) done-leaves ∙ over-rest (numbered (changesOf F)) report {n = 3 * changes} (omega (arith, numbered-long (changesOf F), answer-is .1 .1))
 
+  -- Theorem. The count of changes that is answered is how many entries are dropped, moved or joined.
   pub report-counts : changes ≡ length (changesOf F)
   report-counts = answer-is .1 .1
 
--- the changes are exactly those that happen,
+-- Theorem. The changes are exactly those that happen.
 pub report-exactly : (F : Field) (x : Change) → List·Memᴰ x (changesOf F) ↔ Happens F x
 report-exactly = exactly.report-exactly
 
--- and the changes rise by input position, at most one for each entry.
+-- Theorem. The changes rise by input position, at most one for each entry.
 pub input-rises : (F : Field) → InputRises (changesOf F)
 input-rises = exactly.input-rises
 
@@ -232,6 +238,7 @@ module _ (F : Field) (report : List ℕ) (f : List Float) (u : List ℕ) {g : Gr
   unfolding over
   whole {A} z l = ap (λ (x : List A). l ++ x) (drop-of-length-le (cleared z l) {i = length l} (omega (arith, length-replicate (length l) z))) ∙ append-nil l
 
+  -- Theorem. A list that has its shape already comes back bit for bit, with no change in the report.
   pub good-unchanged : mendCall F report f u ≡ left (Done (gradeOf F) (entries F) 0) (F .rows) (F .cols) (F .quad) report (cleared zero64 f) (cleared 0 u)
   unfolding numbered over
   good-unchanged = done-leaves F report f u e ∙ rw (good.good-unchanged F S, good.good-no-changes F S, whole 0 (F .rows), whole 0 (F .cols), whole zero64 (F .quad))

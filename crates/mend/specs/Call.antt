@@ -23,7 +23,7 @@ use Rattle.mending.specs.Changes.{changesOf, numbered}
 use Rattle.mend.specs.declared.Mended.{Mended}
 use Rattle.mend.specs.declared.Mended.the-variants.{Done, Refused}
 
--- the table's number of each answer
+-- The table's number of an answer of `mend`: 0 when done, else that of the refusal.
 abbrev pub mendedNumber : Mended → ℕ
 mendedNumber (Done g m changes) = 0
 mendedNumber (Refused r) = numberOf r
@@ -37,12 +37,12 @@ sumTests F =
     ∷ test Sum (sumsFinite F)
     ∷ []
 
--- then 8, with the m of the input
+-- The tests of `mend`: those of the sums, and then 8, with the m of the input.
 unfoldable pub mendTests : Field → ℕ → ℕ → List Test
 mendTests F floats words =
     sumTests F ++ test Scratch (floatsFit (variables F) (entries F) floats) ∷ test Scratch (wordsFit (variables F) (entries F) words) ∷ []
 
--- what passing them leaves
+-- What passing 1, 2, 5, 18 and 8 leaves: matching lists, finite weights and sums, and room in both scratches.
 pub record Mendable (F : Field) (floats words : ℕ) : Type 0 where
   pub listed : Listed F
   pub finite-weights : Finite F
@@ -67,6 +67,7 @@ pub record Lent : Type 0 where
   pub floats : List Float
   pub words : List ℕ
 
+-- The lent lists of `mend` in one record: rows, columns, pair weights, the report, floats and words.
 abbrev pub lent : List ℕ → List ℕ → List Float → List ℕ → List Float → List ℕ → Lent
 lent rows cols q report f u = record { rows = rows; cols = cols; quad = q; report = report; floats = f; words = u }
 
@@ -74,6 +75,7 @@ lent rows cols q report f u = record { rows = rows; cols = cols; quad = q; repor
 abbrev pub Left : Type 0
 Left = any.Left Mended Lent
 
+-- What the call `mend` leaves, made of its answer and its six lent lists.
 abbrev pub left : Mended → List ℕ → List ℕ → List Float → List ℕ → List Float → List ℕ → Left
 left r rows cols q report f u = any.left r (lent rows cols q report f u)
 
@@ -97,6 +99,6 @@ mendCall F report f u =
 abbrev pub firstOf : ℕ → Field → Field
 firstOf m F = fieldOf (F .linear) (take m (F .rows)) (take m (F .cols)) (take m (F .quad))
 
--- of those that a call leaves, with the linear weights c
+-- The field of the first m entries that a call leaves, with the linear weights c.
 abbrev pub fieldLeft : List Float → ℕ → Left → Field
 fieldLeft c m x = firstOf m (fieldOf c (x .lent .rows) (x .lent .cols) (x .lent .quad))

@@ -32,7 +32,7 @@ pub record Written (F : Field) (report rows′ cols′ : List ℕ) (q′ : List 
   pub quad-is : q′ ≡ over (mended F .quad) (cleared zero64 (F .quad))
   pub report-is : report′ ≡ over (numbered (changesOf F)) report
 
--- the lists have m entries
+-- Each of the three entry lists has m entries or more.
 pub record Within (m : ℕ) (F : Field) : Type 0 where
   pub in-rows : m ≤ length (F .rows)
   pub in-cols : m ≤ length (F .cols)

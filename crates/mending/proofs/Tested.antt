@@ -121,6 +121,7 @@ module _ (F : Field) where
   same-test false true f g = g refl
   same-test false false f g = refl
 
+  -- Theorem. Testing the sum at each entry's place is testing the sum at every place of the field.
   pub each-is : allBelow (finiteAt F) (entries F) ≡ sumsFinite F
   unfolding sumsFinite
   each-is =
@@ -128,6 +129,7 @@ module _ (F : Field) where
       let b = all-means (λ p. finite (sumAt F p)) (allPlaces F) in
       same-test (allBelow (finiteAt F) (entries F)) (allBelow (λ p. finite (sumAt F p)) (allPlaces F)) (λ e. b .1 (place-finite (a .0 e))) (λ e. a .1 (entry-finite (b .0 e)))
 
+  -- Theorem. Where every weight is at most 2^1008 in magnitude, every sum is finite.
   pub small-is : Listed F → allSmall (F .quad) ≡ true → true ≡ sumsFinite F
   unfolding sumsFinite allSmall sumAt
   small-is L e =

@@ -19,7 +19,7 @@ pub record Returnable (n o : ℕ) (f : List Float) (u rows cols : List ℕ) (q :
   pub words : length q + o ≤ length u
   pub below : (t : ℕ) → t < o → getD u (length q + t) 0 < n * n
 
--- they go to the lists' front
+-- The mended entries stand at the front of the three lists, and what is behind them is as it was.
 pub record Returned (n o : ℕ) (f : List Float) (u rows rows′ cols cols′ : List ℕ) (q q′ : List Float) : Type 0 where
   pub rows-are : rows′ ≡ over (map (rowIn n) (region (length q) o u)) rows
   pub cols-are : cols′ ≡ over (map (columnIn n) (region (length q) o u)) cols

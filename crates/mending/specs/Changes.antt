@@ -34,7 +34,7 @@ changeAt F k =
     let o = positionOf F (placeOf F k) in
     cond (isInside F k) (cond (isFirst F k) (cond (eqb o k) [] (moved k o ∷ [])) (joined k o ∷ [])) (dropped k ∷ [])
 
--- of the first k entries
+-- The changes of the first k entries of the input, in their order.
 unfoldable pub changesTo : Field → ℕ → List Change
 changesTo F zero = []
 changesTo F (suc k) = changesTo F k ++ changeAt F k

@@ -12,13 +12,15 @@ use Rattle.field.specs.Faults.{Listed}
 use Rattle.mending.specs.Places.{isInside, allPlaces, placeOf, sumAt, placesOf, isEmpty}
 use Rattle.mending.specs.Changes.{positionOf, isFirst}
 
--- what becomes of an entry, in one number: kind times 65,536, and its output position
+-- The mark of an entry that is dropped: kind 0, and 65,535 for the output position that it has not.
 abbrev pub droppedMark : ℕ
 droppedMark = 65535
 
+-- The mark of the first entry of its place, whose output position is o: 65,536 and o.
 abbrev pub firstMark : ℕ → ℕ
 firstMark o = 65536 + o
 
+-- The mark of an entry joined to an earlier one of its place, at output position o: 131,072 and o.
 abbrev pub joinedMark : ℕ → ℕ
 joinedMark o = 131072 + o
 
@@ -34,6 +36,7 @@ pub record Gathered : Type 0 where
   pub sums : List Float
   pub marks : List ℕ
 
+-- What is gathered so far, made of the places, their sums and the marks of the entries.
 abbrev pub gathered : List ℕ → List Float → List ℕ → Gathered
 gathered ps ss ms = record { places = ps; sums = ss; marks = ms }
 
@@ -41,7 +44,7 @@ gathered ps ss ms = record { places = ps; sums = ss; marks = ms }
 unfoldable pub isLast : ℕ → List ℕ → Bool
 isLast p ps = cond (isEmpty ps) false (eqb (getD ps (length ps - 1) 0) p)
 
--- one entry more
+-- What is gathered after entry e: it is dropped, joined to the last place, or the first of a new one.
 unfoldable pub takeOne : Field → Gathered → ℕ → Gathered
 takeOne F g e =
     let p = placeOf F e in
@@ -52,17 +55,18 @@ takeOne F g e =
     (gathered (g .places ++ p ∷ []) (g .sums ++ quadOf F e ∷ []) (set (g .marks) e (firstMark o))))
     (gathered (g .places) (g .sums) (set (g .marks) e droppedMark))
 
--- one after another
+-- What is gathered after each of these entries, one after another.
 unfoldable pub takeAll : Field → Gathered → List ℕ → Gathered
 takeAll F g [] = g
 takeAll F g (e ∷ l) = takeAll F (takeOne F g e) l
 
 -- ---- in scratch: places from word m on, marks from word 2m on, sums from float m on
 
+-- What is gathered as it stands in the scratch of m entries, of which o places are found.
 abbrev pub gatheredIn : ℕ → ℕ → List Float → List ℕ → Gathered
 gatheredIn m o f u = gathered (region m o u) (region m o f) (region (2 * m) m u)
 
--- what one entry needs
+-- What taking one entry needs: lists of one length, an entry, and room for one place more.
 pub record Takable (F : Field) (e o : ℕ) (f : List Float) (u : List ℕ) : Type 0 where
   pub listed : Listed F
   pub entry : e < entries F
@@ -70,7 +74,7 @@ pub record Takable (F : Field) (e o : ℕ) (f : List Float) (u : List ℕ) : Typ
   pub floats : 4 * entries F + 16 ≤ length f
   pub words : 8 * entries F + 16 ≤ length u
 
--- what it leaves: the sorted words stay
+-- What taking one entry leaves: the model's step on what is gathered; the sorted words stay.
 pub record Taken (F : Field) (e o o′ : ℕ) (f f′ : List Float) (u u′ : List ℕ) : Type 0 where
   pub floats-long : length f′ ≡ length f
   pub words-long : length u′ ≡ length u

@@ -26,11 +26,11 @@ unfoldable pub entriesTo : Field → ℕ → ℕ → List ℕ
 entriesTo F p zero = []
 entriesTo F p (suc k) = cond (eqb (placeOf F k) p) (entriesTo F p k ++ k ∷ []) (entriesTo F p k)
 
--- of all of them
+-- The positions of all entries at place p, in input order.
 abbrev pub entriesAt : Field → ℕ → List ℕ
 entriesAt F p = entriesTo F p (entries F)
 
--- weights added one after another to x
+-- The sum in f64 of weights added one after another to x.
 unfoldable pub onto : Float → List Float → Float
 onto x [] = x
 onto x (y ∷ l) = onto (add binary64 x y) l
@@ -48,6 +48,7 @@ sumAt F p = added (map (quadOf F) (entriesAt F p))
 unfoldable pub sumsFinite : Field → Bool
 sumsFinite F = allBelow (λ p. finite (sumAt F p)) (allPlaces F)
 
+-- Whether a list has no element, as that of the entries at a place that no entry names.
 abbrev pub isEmpty : {A : Type 0} → List A → Bool
 isEmpty [] = true
 isEmpty (x ∷ l) = false
@@ -57,13 +58,15 @@ unfoldable pub placesTo : Field → ℕ → List ℕ
 placesTo F zero = []
 placesTo F (suc p) = cond (isEmpty (entriesAt F p)) (placesTo F p) (placesTo F p ++ p ∷ [])
 
+-- Every place inside the field that some entry names, rising by column, then row.
 unfoldable pub placesOf : Field → List ℕ
 placesOf F = placesTo F (allPlaces F)
 
--- the row and the column of a place in a field of n variables
+-- The row of place p in a field of n variables: its remainder by n.
 abbrev pub rowIn : ℕ → ℕ → ℕ
 rowIn n p = p % n
 
+-- The column of place p in a field of n variables: its quotient by n.
 abbrev pub columnIn : ℕ → ℕ → ℕ
 columnIn n p = p / n
 

@@ -12,15 +12,16 @@ use Rattle.mending.specs.Gathering.{firstMark}
 unfoldable pub stepOf : ℕ → ℕ → ℕ
 stepOf mark k = cond (eqb mark (firstMark k)) 0 1
 
--- the numbers of a mark's change
+-- The three numbers that the report has for entry k by its mark; none where nothing happened to it.
 unfoldable pub toldBy : ℕ → ℕ → List ℕ
 toldBy mark k = cond (eqb mark (firstMark k)) [] (k ∷ mark / 65536 ∷ mark % 65536 ∷ [])
 
--- over the first k entries of m, whose marks stand from word 2m on
+-- How many changes the first k of m entries make, whose marks stand from word 2m on.
 unfoldable pub countTo : ℕ → List ℕ → ℕ → ℕ
 countTo m u zero = 0
 countTo m u (suc k) = countTo m u k + stepOf (getD u (2 * m + k) 0) k
 
+-- The numbers of the report for the first k of m entries: three for each change, in input order.
 unfoldable pub toldTo : ℕ → List ℕ → ℕ → List ℕ
 toldTo m u zero = []
 toldTo m u (suc k) = toldTo m u k ++ toldBy (getD u (2 * m + k) 0) k

@@ -16,6 +16,7 @@ use Rattle.mending.specs.Places.{allPlaces, placeOf, sumAt}
 abbrev pub limit64 : Float
 limit64 = ofBits binary64 0x7ef0_0000_0000_0000
 
+-- Whether every weight is at most 2^1008 in magnitude, so that no sum of them can overflow.
 unfoldable pub allSmall : List Float → Bool
 allSmall q = allBelow (λ k. le (magnitude (getD q k nan)) limit64) (length q)
 

@@ -47,7 +47,7 @@ fn put_change(report: &mut [u16], at: usize, k: usize, mark: u32) -> usize
     at + 3
 }
 
-// All changes, in input order.
+// Writes the numbers of all changes into the report, in input order.
 pub fn put(u: &[u32], m: usize, report: &mut [u16])
     requires { ⌜ Reportable m (now u) (now report) ⌝ }
     ensures { λ _. ⌜ after report ≡ over (toldTo m (before u) m) (before report) ⌝ }

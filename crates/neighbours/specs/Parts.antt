@@ -12,7 +12,7 @@ use Rattle.field.specs.Field.{Field, variables, linearOf, rowEnd, columnEnd}
 use Rattle.rows.specs.Model.{coeffOf}
 use Rattle.margins.specs.Model.{addFixedEnd, addMagnitude, overEnds}
 
--- coefficient times value of a fixed end
+-- x with coefficient times value of an end added, where that end has a value; else x.
 abbrev pub fixedTerm : Float → Float → ℕ → Float
 fixedTerm x a v = cond (eqb v 2) x (add binary64 x (mul binary64 a (ofInt binary64 (pos v))))
 
@@ -20,7 +20,7 @@ fixedTerm x a v = cond (eqb v 2) x (add binary64 x (mul binary64 a (ofInt binary
 unfoldable pub addEnd : List Float → ℕ → ℕ → Float → ℕ → List Float
 addEnd f n t a v = set (set f t (fixedTerm (getD f t nan) a v)) (n + t) (add binary64 (getD f (n + t) nan) (magnitude a))
 
--- both ends of entry k
+-- The linear parts and masses after entry k has been counted at both of its ends.
 unfoldable pub addBoth : Field → List ℕ → List Float → ℕ → List Float
 addBoth F s f k =
     addEnd
@@ -33,7 +33,7 @@ pub record PartsAre (n : ℕ) (g h : ℕ → Float) (f : List Float) (j : ℕ) :
   pub linear : (i : ℕ) → i < j → getD f i nan ≡ g i
   pub mass : (i : ℕ) → i < j → getD f (n + i) nan ≡ h i
 
--- they are the model's after k entries
+-- The linear parts and masses of all variables are the model's after k entries.
 abbrev pub Parted : Field → List ℕ → List Float → ℕ → Type 0
 Parted F s f k =
     PartsAre (variables F) (λ i. overEnds (addFixedEnd s) F i (linearOf F i) k) (λ i. overEnds addMagnitude F i (magnitude (linearOf F i)) k) f (variables F)

@@ -77,7 +77,7 @@ fn add_entries(c: &[f64], rows: &[u16], cols: &[u16], q: &[f64], values: &[u8], 
     }
 }
 
-// Every linear part and every mass.
+// Writes the linear part and the mass of every variable to the front of f.
 pub fn parts(c: &[f64], rows: &[u16], cols: &[u16], q: &[f64], values: &[u8], f: &mut [f64])
     requires { ⌜ Fillable (lent c rows cols q) (now values) (now f) ⌝ }
     ensures { λ _. ⌜ Parted (given c rows cols q) (before values) (after f) (entries (given c rows cols q)) ⌝ }

@@ -34,7 +34,7 @@ use Rattle.no_effect.specs.Call.{Left, left, wordTests, Prepared, fits, 
 use Rattle.no_effect.proofs.Laws.{word-passes, never-room}
 use Rattle.no_effect.proofs.Listed.{chosen-passes, chosen-rises, chosen-all, effect-means, effect-exact}
 
--- any two results that the promise permits are equal
+-- Theorem. Any two results that the promise permits are equal.
 pub one-result : (F : Field) (l u : List ℕ) (x y : Left) → x ≡ noEffectCall F l u → y ≡ noEffectCall F l u → x ≡ y
 one-result F l u = any.one-result (noEffectCall F l u)
 
@@ -44,17 +44,17 @@ same-counts : {g h : Grade} {m k : ℕ} → Counts g m ≡ Counts h k → (g ≡
 same-counts e = (cc, cc)
 
 module _ (F : Field) (l u : List ℕ) where
-  -- The call is refused with r exactly if the tests before r's own pass, and its own fails; 9 is tested last.
+  -- Theorem. The call is refused with r exactly if the tests before r's own pass, and its own fails; 9 is tested last.
   pub refused-when : (r : Refusal) → (noEffectCall F l u .answer ≡ Refuses r) ↔ FirstToFail (noEffectTests F l (length u)) r
   unfolding noEffectCall noEffectTests table
   refused-when = usual.refused-when Refuses _ _ _ _ same-refuses counts-apart refl
 
-  -- A refusal before 9 changes nothing lent ..
+  -- Theorem. A refusal before 9 changes nothing lent.
   pub refused-leaves : (r : Refusal) → r ≢ Room → noEffectCall F l u .answer ≡ Refuses r → noEffectCall F l u ≡ left (Refuses r) l u
   unfolding noEffectCall
   refused-leaves r n e = usual.refused-leaves Refuses _ _ _ _ same-refuses counts-apart r (other-stage n no-stage) e
 
-  -- .. and 9 is given exactly if the tests before it pass and there are more such variables than places,
+  -- Theorem. 9 is given exactly if the tests before it pass and there are more such variables than places.
   pub room-when : (noEffectCall F l u .answer ≡ Refuses Room) ↔ (Prepared F (length u) × (length l < length (noEffect F)))
   unfolding noEffectCall fits
   room-when =
@@ -62,19 +62,19 @@ module _ (F : Field) (l u : List ℕ) where
       let p = word-passes F (length u) in
       ((λ e. (p .0 (t .0 e .0), leb-false _ _ (t .0 e .1))), λ h. t .1 (p .1 (h .0), lt-leb _ _ (h .1)))
 
-  -- and leaves the list all zeros, and the scratch.
+  -- Theorem. On 9 the list and the scratch are all zeros.
   pub room-leaves : noEffectCall F l u .answer ≡ Refuses Room → noEffectCall F l u ≡ left (Refuses Room) (cleared 0 l) (cleared 0 u)
   unfolding noEffectCall
   room-leaves e = usual.later-leaves Refuses _ _ _ _ same-refuses counts-apart Room _ (never-room F (length u)) (this-stage no-stage) e
 
-  -- It is done exactly if the field and the scratch are as the table asks and the list has room for all, and then gives the grade and the count.
+  -- Theorem. It is done exactly if the field and the scratch are as the table asks and the list has room for all, and then gives the grade and the count.
   pub done-when : (noEffectCall F l u .answer ≡ Counts (gradeOf F) (length (noEffect F))) ↔ (Prepared F (length u) × (length (noEffect F) ≤ length l))
   unfolding noEffectCall fits table
   done-when =
       usual.done-when Refuses _ _ _ _ same-refuses counts-apart (group-is (wordTests F (length u)) _ (word-passes F (length u)) (last-is Room _ (le-is (length (noEffect F)) (length l))))
 
   module _ {g : Grade} {m : ℕ} (e : noEffectCall F l u .answer ≡ Counts g m) where
-    -- Then the variables of no effect are at the front of the list, the rest of it is unchanged, and the scratch is all zeros.
+    -- Theorem. Then the variables of no effect are at the front of the list, the rest of it is unchanged, and the scratch is all zeros.
     pub done-leaves : noEffectCall F l u ≡ left (Counts (gradeOf F) (length (noEffect F))) (over (noEffect F) l) (cleared 0 u)
     unfolding noEffectCall
     done-leaves = usual.done-leaves Refuses _ _ _ _ same-refuses counts-apart (λ r z. counts-apart r (sym e ∙ z))
@@ -88,14 +88,14 @@ module _ (F : Field) (l u : List ℕ) where
     item-is : (t : ℕ) → t < m → item F l u t ≡ getD (noEffect F) t 0
     item-is t h = ap (λ (x : Left). getD (x .lent .list) t 0) done-leaves ∙ over-at (noEffect F) l t 0 (omega (arith, answer-is .1))
 
-    -- Each of the m items is a variable with no entry and c = 0 ..
+    -- Theorem. Each of the m items is a variable with no entry and c = 0.
     pub items-idle : (t : ℕ) → t < m → (item F l u t < variables F) × (NoEntry F (item F l u t) × (eq (linearOf F (item F l u t)) zero64 ≡ true))
     unfolding noEffect
     items-idle t h =
         let c = chosen-passes (hasNoEffect F) 0 (variables F) t (omega (arith, answer-is .1)) in
         rw (item-is t h) (omega (arith, c .1 .1), effect-means F _ (shaped .rows-long) .0 (c .0))
 
-    -- .. each such variable is an item ..
+    -- Theorem. Each variable of no effect is an item.
     pub idle-items : (i : ℕ) → i < variables F → NoEntry F i → eq (linearOf F i) zero64 ≡ true → (t : ℕ) × ((t < m) × (item F l u t ≡ i))
     unfolding noEffect
     idle-items i h apart zero =
@@ -103,18 +103,20 @@ module _ (F : Field) (l u : List ℕ) where
         let l : w .0 < m = omega (arith, answer-is .1, w .1 .0) in
         (w .0, (l, item-is (w .0) l ∙ w .1 .1))
 
-    -- .. and they rise.
+    -- Theorem. The items rise.
     pub items-rise : (t : ℕ) → suc t < m → item F l u t < item F l u (suc t)
     unfolding noEffect
     items-rise t h = rw (item-is t (omega arith), item-is (suc t) h) (chosen-rises (hasNoEffect F) 0 (variables F) t (omega (arith, answer-is .1)))
 
 -- On an exact field they are exactly the variables of no effect over whole numbers.
 module _ (F : Field) (l u : List ℕ) {m : ℕ} (e : noEffectCall F l u .answer ≡ Counts Exact m) {unit : ℕ} (serving : Serves unit F) where
+  -- Theorem. On an exact field each item is a variable of no effect over whole numbers.
   pub exact-items : (t : ℕ) → t < m → NoEffect (wholeOf unit F) (item F l u t)
   exact-items t h =
       let i = items-idle F l u e t h in
       effect-exact _ (shaped F l u e) (serving .exact) (i .0) .0 (effect-means F _ (shaped F l u e .rows-long) .1 (i .1))
 
+  -- Theorem. On an exact field each variable of no effect over whole numbers is an item.
   pub exact-all : (i : ℕ) → i < variables F → NoEffect (wholeOf unit F) i → (t : ℕ) × ((t < m) × (item F l u t ≡ i))
   exact-all i h n =
       let w = effect-means F i (shaped F l u e .rows-long) .0 (effect-exact i (shaped F l u e) (serving .exact) h .1 n) in

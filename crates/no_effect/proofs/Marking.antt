@@ -73,7 +73,7 @@ module _ {n : ℕ} {rows cols u₀ : List ℕ} (E : EndsBelow n rows cols) where
 pub marked-over : {n : ℕ} {rows cols u₀ u₁ u : List ℕ} → length u₁ ≡ length u₀ → drop n u₁ ≡ drop n u₀ → Marked n rows cols u₁ u → Marked n rows cols u₀ u
 marked-over long rest M = record { long = M .long ∙ long; at = M .at; rest = M .rest ∙ rest }
 
--- any two results of marking are equal
+-- Theorem. Any two results of marking are equal.
 pub marked-one-result : {n : ℕ} {rows cols u₀ u v : List ℕ} → Marked n rows cols u₀ u → Marked n rows cols u₀ v → u ≡ v
 marked-one-result {n} {rows} {cols} {u₀} {u} {v} M N = ext-getD 0 u v (M .long ∙ sym (N .long)) (λ i l. elim (decLt i n) [
   | yes h ↦ M .at i h ∙ sym (N .at i h)

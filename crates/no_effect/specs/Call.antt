@@ -17,26 +17,28 @@ use Rattle.calls.specs.Call as any
 use Rattle.calls.specs.Call.{called, stage, usual}
 use Rattle.no_effect.specs.Effect.{noEffect}
 
--- the two lent lists
+-- What is lent to `no_effect`: the list of variables and the words.
 pub record Lent : Type 0 where
   pub list : List ℕ
   pub words : List ℕ
 
+-- The lent lists of `no_effect` in one record: the list of variables and the words.
 abbrev pub lent : List ℕ → List ℕ → Lent
 lent l u = record { list = l; words = u }
 
--- the answer, and the two lent lists afterwards
+-- The answer of `no_effect`, and its two lent lists afterwards.
 abbrev pub Left : Type 0
 Left = any.Left Counted Lent
 
+-- What the call `no_effect` leaves, made of its answer and its two lent lists.
 abbrev pub left : Counted → List ℕ → List ℕ → Left
 left r l u = any.left r (lent l u)
 
--- 1, 2, 14 to 17 and 5, and 8 of the u32 scratch
+-- 1, 2, 14 to 17, and 5, and 8 of the u32 scratch alone, since there is no f64 scratch.
 unfoldable pub wordTests : Field → ℕ → List Test
 wordTests F words = looseTests F ++ test Scratch (wordsFit (variables F) (entries F) words) ∷ []
 
--- what passing them leaves
+-- What passing these tests leaves: shape, finite weights, and word scratch long enough.
 pub record Prepared (F : Field) (words : ℕ) : Type 0 where
   pub loose : Loose F
   pub words-room : 16 * variables F + 8 * entries F + 16 ≤ words
@@ -45,7 +47,7 @@ pub record Prepared (F : Field) (words : ℕ) : Type 0 where
 unfoldable pub fits : Field → List ℕ → Bool
 fits F l = leb (length (noEffect F)) (length l)
 
--- 1, 2, 14 to 17, 5, 8 and 9
+-- The whole table of the call, in its order: 1, 2, 14 to 17, 5, 8 and 9.
 unfoldable pub noEffectTests : Field → List ℕ → ℕ → List Test
 noEffectTests F l words = wordTests F words ++ test Room (fits F l) ∷ []
 
@@ -57,6 +59,6 @@ noEffectCall F l u =
     (usual Refuses (lent l u) (wordTests F (length u)) (stage Room (fits F l) (lent (cleared 0 l) (cleared 0 u)) ∷ [])
     (left (Counts (gradeOf F) (length (noEffect F))) (over (noEffect F) l) (cleared 0 u)))
 
--- item t of the list that is left
+-- Item t of the list that `no_effect` leaves.
 abbrev pub item : Field → List ℕ → List ℕ → ℕ → ℕ
 item F l u t = getD (noEffectCall F l u .lent .list) t 0

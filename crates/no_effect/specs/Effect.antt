@@ -28,7 +28,7 @@ hasNoEffect F i = untouched (F .rows) (F .cols) i && eq (linearOf F i) zero64
 abbrev pub NoEntry : Field → ℕ → Type 0
 NoEntry F i = (k : ℕ) → k < entries F → (rowEnd F k ≢ i) × (columnEnd F k ≢ i)
 
--- all of them, rising
+-- All variables of no effect, rising.
 unfoldable pub noEffect : Field → List ℕ
 noEffect F = chosen (hasNoEffect F) (variables F)
 
@@ -40,10 +40,10 @@ pub record Marked (n : ℕ) (rows cols u₀ u : List ℕ) : Type 0 where
   pub at : (i : ℕ) → i < n → getD u i 0 ≡ cond (untouched rows cols i) 0 1
   pub rest : drop n u ≡ drop n u₀
 
--- no mark, and c = 0
+-- Whether variable i has no mark, which says that no entry touches it, and c = 0.
 abbrev pub idle : List Float → List ℕ → ℕ → Bool
 idle c u i = eqb (getD u i 0) 0 && eq (getD c i nan) zero64
 
--- they go to a list's front
+-- The list after all variables of no effect have gone to its front, and how many they are.
 unfoldable pub found : Field → List ℕ → Putting
 found F l = putAll (hasNoEffect F) (variables F) l

@@ -10,7 +10,7 @@ unfoldable pub chosenFrom : (ℕ → Bool) → ℕ → ℕ → List ℕ
 chosenFrom p i zero = []
 chosenFrom p i (suc k) = cond (p i) (i ∷ chosenFrom p (suc i) k) (chosenFrom p (suc i) k)
 
--- of the numbers below n
+-- The numbers below n that pass, rising.
 abbrev pub chosen : (ℕ → Bool) → ℕ → List ℕ
 chosen p n = chosenFrom p 0 n
 
@@ -19,6 +19,7 @@ pub record Putting : Type 0 where
   pub list : List ℕ
   pub count : ℕ
 
+-- A list together with how many numbers have gone to its front.
 abbrev pub putting : List ℕ → ℕ → Putting
 putting l k = record { list = l; count = k }
 
@@ -30,7 +31,7 @@ putAt b i s = cond b (putting (set (s .list) (s .count) i) (s .count + 1)) s
 unfoldable pub putAll : (ℕ → Bool) → ℕ → List ℕ → Putting
 putAll p n l = putting (sets l 0 (chosen p n)) (length (chosen p n))
 
--- what one turn reads is there
+-- What one turn of the loop reads is there: the weight and the mark of variable i.
 pub record Puttable (n words i count : ℕ) : Type 0 where
   pub in-weights : i < n
   pub in-words : i < words

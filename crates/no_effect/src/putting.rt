@@ -24,7 +24,7 @@ fn put_at(c: &[f64], u: &[u32], list: &mut [u16], i: usize, count: usize) -> usi
     count + 1
 }
 
-// All of them, rising.
+// Puts all variables of no effect at the front of the list, rising, and answers how many they are.
 pub fn put_all(c: &[f64], u: &[u32], list: &mut [u16]) -> usize
     requires { ⌜ length (now c) ≤ 4096 ⌝ }
     requires { ⌜ length (now c) ≤ length (now u) ⌝ }

@@ -53,6 +53,7 @@ use Rattle.ombradiec.proofs.Positions.{word-near, mend-near}
 -- ---- closure: at most n
 
 module _ (F : Field) (s : List ℕ) (f : List Float) (u : List ℕ) where
+  -- Theorem. The count of flat rows, at most n, has room in the number of `closure`.
   pub closure-fits : countOf (closing.closureCall F s f u .answer) < 0x1000_0000
   unfolding valuesBy
   closure-fits =
@@ -74,6 +75,7 @@ chosen-few p i (suc k) = go (p i) (chosen-few p (suc i) k)
     go true h = omega (arith, h)
     go false h = omega (arith, h)
 
+-- Theorem. The count of variables of no effect, at most n, has room in the number.
 pub no-effect-fits : (F : Field) (l u : List ℕ) → countOf (effectless.noEffectCall F l u .answer) < 0x1000_0000
 unfolding effectless.noEffectCall noEffect
 no-effect-fits F l u =
@@ -86,6 +88,7 @@ no-effect-few F l u e = omega (arith, no-effect-fits F l u, ap (λ (x : effectle
 
 -- ---- shift: at most m
 
+-- Theorem. The new m has room in the number of `shift`.
 pub shift-fits : (F : Field) → countOf (shifting.shiftCall F .answer) < 0x1000_0000
 unfolding shifting.shiftCall closed closedTo
 shift-fits F =
@@ -97,6 +100,7 @@ shift-few F e = omega (arith, shift-fits F, ap (λ (x : shifting.Left). countOf 
 -- ---- sub_problem: at most m entries and n variables
 
 module _ (F : Field) (s l : List ℕ) (f : List Float) (u : List ℕ) where
+  -- Theorem. The new m and the new n have room in the number of `sub_problem`.
   pub sub-problem-fits : FewLeft (reducing.subProblemCall F s l f u .answer)
   unfolding reducing.subProblemCall reducing.finished
   sub-problem-fits =
@@ -122,6 +126,7 @@ module _ (F : Field) (s l : List ℕ) (f : List Float) (u : List ℕ) where
 -- ---- mend: at most m entries and m changes
 
 module _ (F : Field) (report : List ℕ) (f : List Float) (u : List ℕ) where
+  -- Theorem. The new m and the changes, both at most m, have room in the number of `mend`.
   pub mend-fits : FewMended (mending.mendCall F report f u .answer)
   unfolding mending.mendCall
   mend-fits =
@@ -150,6 +155,7 @@ anchors-within F s least (suc i) =
     omega (arith, anchors-within F s least i, length-append (p .anchors) (newAt F s least (p .marks) i), new-few F s least (p .marks) i)
 
 module _ (F : Field) (s : List ℕ) (least : ℕ) (list : List ℕ) (f : List Float) (u : List ℕ) where
+  -- Theorem. The count of anchors, at most one from each start, has room in the number.
   pub anchors-fit : countOf (anchoring.anchorsCall F s least list f u .answer) < 0x1000_0000
   unfolding anchoring.anchorsCall anchorsOf
   anchors-fit =
@@ -169,6 +175,7 @@ unfolding found
 found-few F s limit = omega (arith, few-found F s (examined limit s), examined-few limit s)
 
 module _ (F : Field) (s : List ℕ) (limit : ℕ) (l : List ℕ) (f : List Float) (u : List ℕ) where
+  -- Theorem. Records and pairs examined, at most 250,000 of each, have room in the number of `pairs`.
   pub pairs-fit : Few (pairing.pairsCall F s limit l f u .answer)
   unfolding pairing.pairsCall
   pairs-fit =
@@ -185,6 +192,7 @@ module _ (F : Field) (s : List ℕ) (limit : ℕ) (l : List ℕ) (f : List Float
 -- ---- reason: at most n, and a unit of the 41
 
 module _ (F : Field) (s : List ℕ) (i : ℕ) (l : List ℕ) (f : List Float) (u : List ℕ) where
+  -- Theorem. The neighbours listed, at most n, and the unit have room in the number of `reason`.
   pub reason-fits : FewListed (reasoning.reasonCall F s i l f u .answer)
   unfolding reasoning.reasonCall
   reason-fits =

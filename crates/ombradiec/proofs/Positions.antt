@@ -60,6 +60,7 @@ propagation-near s list words =
 -- ---- the calls that count nothing
 
 module _ (g : values.Values) (F : Field) (s : List ℕ) (f : List Float) (u : List ℕ) where
+  -- Theorem. The position that a refusal names has room in the number of each call that answers in the start values.
   pub values-fit : answerCount (values.valuesCall g F s f u .answer) < 0x1000_0000
   unfolding values.valuesBy
   values-fit =
@@ -69,6 +70,7 @@ module _ (g : values.Values) (F : Field) (s : List ℕ) (f : List Float) (u : Li
   values-few e = omega (arith, values-fit, ap (λ (x : values.Left). answerCount (x .answer)) e)
 
 module _ (F : Field) (s : List ℕ) (i v : ℕ) (t : List ℕ) (f : List Float) (u : List ℕ) where
+  -- Theorem. The position that a refusal names has room in the number of `probe_one`.
   pub probe-one-fits : answerCount (probing.probeOneCall F s i v t f u .answer) < 0x1000_0000
   unfolding probing.probeOneBy
   probe-one-fits =
@@ -79,6 +81,7 @@ module _ (F : Field) (s : List ℕ) (i v : ℕ) (t : List ℕ) (f : List Float) 
   probe-one-few e = omega (arith, probe-one-fits, ap (λ (x : probing.Left). answerCount (x .answer)) e)
 
 module _ (s list u : List ℕ) where
+  -- Theorem. The position that a refusal names has room in the number of `propagate`.
   pub propagate-fits : checkedCount (propagating.propagateCall s list u .answer) < 0x1000_0000
   unfolding propagating.propagateCall
   propagate-fits =
@@ -104,6 +107,7 @@ named-few E n = go (ltb (named E n) n)
     go false = omega arith
 
 module _ (n : ℕ) (list a c w u : List ℕ) where
+  -- Theorem. The variable that a no names has room in the number of `allow`.
   pub allow-fits : allowedCount (allowing.allowCall n list a c w u .answer) < 0x1000_0000
   unfolding allowing.allowCall
   allow-fits =

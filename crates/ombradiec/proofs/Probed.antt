@@ -65,10 +65,12 @@ module _ (F : Field) (s cands t k : List ℕ) (f : List Float) (u : List ℕ) (f
       omega (arith, merged-length (recordsOf F s cands (length cands)), of-all F s cands (length cands), few-by-few (length cands) (variables F) few small))
 
 module _ (F : Field) (s t k : List ℕ) (f : List Float) (u : List ℕ) where
+  -- Theorem. The count of records that `probe` finds has room in its number.
   pub probe-fits : countOf (probeCall F s t k f u .answer) < 0x1000_0000
   unfolding probeBy
   probe-fits = candidates-fit F s (freeTo s (variables F)) t k f u (free-few s (variables F))
 
+  -- Theorem. The count of records that `probe_limited` finds has room in its number, whatever the limit.
   pub probe-limited-fits : (limit : ℕ) → countOf (probeLimitedCall F s limit t k f u .answer) < 0x1000_0000
   unfolding probeLimitedBy
   probe-limited-fits limit = candidates-fit F s (take limit (ranks F s)) t k f u (ranks-few F s limit)

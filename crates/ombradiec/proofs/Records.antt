@@ -58,9 +58,11 @@ module _ (F : Field) (s : List ℕ) (b : List Float) (n : ℕ) (f : List Float) 
       answer-has Refused _ (lentTests F s (length b) (length f) (length u)) _ _ (λ a. answerCount a < 0x1000_0000)
       (λ r e. omega (arith, lent-near F s (length b) (length f) (length u) r e)) (omega arith, tt) (λ e. omega arith)
 
+  -- Theorem. The position that a refusal of `make` names has room in its number.
   pub keep-few : {a : Answer} {b′ : List Float} {n′ : ℕ} {f′ : List Float} {u′ : List ℕ} → left a b′ n′ f′ u′ ≡ makeCall F s b n f u → answerCount a < 0x1000_0000
   keep-few e = omega (arith, keep-fits, ap (λ (x : Left). answerCount (x .answer)) e)
 
+  -- Theorem. What is read from the number of `make` is the refusal and the grade of its model.
   pub keep-reads : {b′ : List Float} {n′ : ℕ} {f′ : List Float} {u′ : List ℕ} {r : ℕ} → Exported packedAnswer (λ a. left a b′ n′ f′ u′) r (makeCall F s b n f u)
       → AnswerRead (makeCall F s b n f u .answer) r
   keep-reads e = rw (number-is (λ (x : Left). x .answer) (λ a. refl) e) (answer-reads (makeCall F s b n f u .answer) keep-fits)
@@ -75,9 +77,11 @@ module _ (F : Field) (K : Kept) (i : ℕ) where
         answer-has Failed K (pinTests F (K .values) (length (K .bounds)) i v) [] _ (λ a. checkedCount a < 0x1000_0000)
         (λ r e. omega (arith, pin-near F (K .values) (length (K .bounds)) i v r e)) tt (λ e. omega arith)
 
+    -- Theorem. The position that a refusal of `pin` names has room in its number.
     pub pin-few : {a : Checked} {K′ : Kept} → any.left a K′ ≡ pinCall F K i v → checkedCount a < 0x1000_0000
     pin-few e = omega (arith, pin-fits, ap (λ (x : any.Left Checked Kept). checkedCount (x .answer)) e)
 
+    -- Theorem. What is read from the number of `pin` is the refusal of its model.
     pub pin-reads : {K′ : Kept} {r : ℕ} → Exported packedChecked (λ a. any.left a K′) r (pinCall F K i v)
         → let a = pinCall F K i v .answer in Reads r (checkedNumber a) 0 (checkedCount a) 0
     pin-reads e = rw (number-is (λ (x : any.Left Checked Kept). x .answer) (λ a. refl) e) (checked-reads (pinCall F K i v .answer) pin-fits)
@@ -88,9 +92,11 @@ module _ (F : Field) (K : Kept) (i : ℕ) where
       answer-has Failed K (releaseTests F (K .values) (length (K .bounds)) i) [] _ (λ a. checkedCount a < 0x1000_0000)
       (λ r e. omega (arith, release-near F (K .values) (length (K .bounds)) i r e)) tt (λ e. omega arith)
 
+  -- Theorem. The position that a refusal of `release` names has room in its number.
   pub release-few : {a : Checked} {K′ : Kept} → any.left a K′ ≡ releaseCall F K i → checkedCount a < 0x1000_0000
   release-few e = omega (arith, release-fits, ap (λ (x : any.Left Checked Kept). checkedCount (x .answer)) e)
 
+  -- Theorem. What is read from the number of `release` is the refusal of its model.
   pub release-reads : {K′ : Kept} {r : ℕ} → Exported packedChecked (λ a. any.left a K′) r (releaseCall F K i)
       → let a = releaseCall F K i .answer in Reads r (checkedNumber a) 0 (checkedCount a) 0
   release-reads e = rw (number-is (λ (x : any.Left Checked Kept). x .answer) (λ a. refl) e) (checked-reads (releaseCall F K i .answer) release-fits)
@@ -110,9 +116,11 @@ module _ (F : Field) (s : List ℕ) (b : List Float) (l : List ℕ) (f : List Fl
       let sound = lent-passes F s (length b) (length f) (length u) .0 e .ready .sound in
       omega (arith, sound .shaped .few-variables, flat-within F (sound .start) b))
 
+  -- Theorem. The count of flat rows that `close` answers, at most n, has room in its number.
   pub close-few : {a : Counted} {l′ : List ℕ} {f′ : List Float} {u′ : List ℕ} → closed a l′ f′ u′ ≡ closeCall F s b l f u → countOf a < 0x1000_0000
   close-few e = omega (arith, close-fits, ap (λ (x : Closed). countOf (x .answer)) e)
 
+  -- Theorem. What is read from the number of `close` is the refusal, the grade and the count of its model.
   pub close-reads : {l′ : List ℕ} {f′ : List Float} {u′ : List ℕ} {r : ℕ} → Exported packedCounted (λ a. closed a l′ f′ u′) r (closeCall F s b l f u)
       → CountRead (closeCall F s b l f u .answer) r
   close-reads e = rw (number-is (λ (x : Closed). x .answer) (λ a. refl) e) (counted-reads (closeCall F s b l f u .answer) close-fits)

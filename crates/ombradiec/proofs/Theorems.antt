@@ -47,15 +47,18 @@ module _ {A L : Type 0} {packed : A → ℕ} (answerIn : L → A) {left : A → 
 
 -- any two results that the promise permits are equal: the number, and what is left
 module _ {A L : Type 0} {packed : A → ℕ} (answerIn : L → A) {left left′ : A → L} (back : (a : A) → answerIn (left a) ≡ a) (back′ : (a : A) → answerIn (left′ a) ≡ a) {r r′ : ℕ} {call : L} where
+  -- Theorem. Any two results that the promise of an exported call permits have the same number.
   pub one-number : Exported packed left r call → Exported packed left′ r′ call → r ≡ r′
   one-number e e′ = number-is answerIn back e ∙ sym (number-is answerIn back′ e′)
 
+  -- Theorem. Any two results that the promise of an exported call permits leave the same in all that was lent.
   pub one-leaving : Exported packed left r call → Exported packed left′ r′ call → left (answerIn call) ≡ left′ (answerIn call)
   one-leaving e e′ = leaves-is answerIn back e ∙ sym (leaves-is answerIn back′ e′)
 
 -- ---- each call: what is read from its number is the answer of its model
 
 module _ (F : Field) (s : List ℕ) (f : List Float) (u : List ℕ) {s′ : List ℕ} {f′ : List Float} {u′ : List ℕ} {r : ℕ} where
+  -- Theorem. What is read from the number of `closure` is the refusal, the grade and the count of its model.
   pub closure-reads : Exported packedCounted (λ a. closing.left a s′ f′ u′) r (closing.closureCall F s f u) → CountRead (closing.closureCall F s f u .answer) r
   closure-reads e = rw (number-is (λ (x : closing.Left). x .answer) (λ a. refl) e) (counted-reads (closing.closureCall F s f u .answer) (closure-fits F s f u))
 
@@ -103,12 +106,14 @@ no-effect-reads F l u e = rw (number-is (λ (x : effectless.Left). x .answer) (�
 pub shift-reads : (F : Field) {G : Field} {r : ℕ} → Exported packedCounted (λ a. shifting.left a G) r (shifting.shiftCall F) → CountRead (shifting.shiftCall F .answer) r
 shift-reads F e = rw (number-is (λ (x : shifting.Left). x .answer) (λ a. refl) e) (counted-reads (shifting.shiftCall F .answer) (shift-fits F))
 
+-- Theorem. What is read from the number of `sub_problem` is the refusal, the grade, the new m and the new n of its model.
 pub sub-problem-reads : (F : Field) (s l : List ℕ) (f : List Float) (u : List ℕ) {G : Field} {l′ : List ℕ} {f′ : List Float} {u′ : List ℕ} {r : ℕ}
     → Exported packedReduced (λ a. reducing.left a G l′ f′ u′) r (reducing.subProblemCall F s l f u)
     → let a = reducing.subProblemCall F s l f u .answer in Reads r (reducing.reducedNumber a) (reducedGrade a) (newEntries a) (newVariables a)
 sub-problem-reads F s l f u e =
     rw (number-is (λ (x : reducing.Left). x .answer) (λ a. refl) e) (reduced-reads (reducing.subProblemCall F s l f u .answer) (sub-problem-fits F s l f u .entries))
 
+-- Theorem. What is read from the number of `mend` is the refusal, the grade, the new m and the changes of its model.
 pub mend-reads : (F : Field) (report : List ℕ) (f : List Float) (u : List ℕ) {rows′ cols′ : List ℕ} {q′ : List Float} {report′ : List ℕ} {f′ : List Float} {u′ : List ℕ} {r : ℕ}
     → Exported packedMended (λ a. mending.left a rows′ cols′ q′ report′ f′ u′) r (mending.mendCall F report f u)
     → let a = mending.mendCall F report f u .answer in Reads r (mending.mendedNumber a) (mendedGrade a) (mendedEntries a) (mendedChanges a)
@@ -118,7 +123,7 @@ pub propagate-reads : (s list u : List ℕ) {s′ u′ : List ℕ} {r : ℕ} →
     → let a = propagating.propagateCall s list u .answer in Reads r (checkedNumber a) 0 (checkedCount a) 0
 propagate-reads s list u e = rw (number-is (λ (x : propagating.Left). x .answer) (λ a. refl) e) (checked-reads (propagating.propagateCall s list u .answer) (propagate-fits s list u))
 
--- of what constraints allow: yes is 1 in place of the grade, and the count is the variable that a no names
+-- Theorem. What is read from the number of `allow` is its refusal, yes as 1 in place of the grade, and the variable that a no names.
 pub allow-reads : (n : ℕ) (list a c w u : List ℕ) {a′ c′ w′ u′ : List ℕ} {r : ℕ} → Exported packedAllowed (λ x. allowing.left x a′ c′ w′ u′) r (allowing.allowCall n list a c w u)
     → let x = allowing.allowCall n list a c w u .answer in Reads r (allowing.allowedNumber x) (allowedGrade x) (allowedCount x) 0
 allow-reads n list a c w u e = rw (number-is (λ (z : allowing.Left). z .answer) (λ x. refl) e) (allowed-reads (allowing.allowCall n list a c w u .answer) (allow-fits n list a c w u))

@@ -14,7 +14,7 @@ use Rattle.mend.specs.declared.Mended.{Mended}
 abbrev pub AnswerRead : Answer → ℕ → Type 0
 AnswerRead a r = Reads r (answerNumber a) (answerGrade a) (answerCount a) 0
 
--- and one count
+-- What a caller reads from r is the refusal, the grade and the one count of the answer a.
 abbrev pub CountRead : Counted → ℕ → Type 0
 CountRead a r = Reads r (countedNumber a) (countedGrade a) (countOf a) 0
 

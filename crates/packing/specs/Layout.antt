@@ -46,87 +46,99 @@ pub record Reads (r refusal grade count pairs : ℕ) : Type 0 where
 
 -- ---- the parts of each answer: a refusal has no grade, and its count is the position that it names
 
--- 0 inexact, 1 exact
+-- The number of a grade: 0 for inexact, 1 for exact.
 abbrev pub gradeNumber : Grade → ℕ
 gradeNumber Inexact = 0
 gradeNumber Exact = 1
 
+-- The count of an answer without a grade: 0, or the position that its refusal names.
 abbrev pub checkedCount : Checked → ℕ
 checkedCount Passed = 0
 checkedCount (Failed r) = positionOf r
 
+-- The grade of an answer as a number; 0 for a refusal, which has none.
 abbrev pub answerGrade : Answer → ℕ
 answerGrade (Done g) = gradeNumber g
 answerGrade (Refused r) = 0
 
+-- The count of an answer with a grade: 0, or the position that its refusal names.
 abbrev pub answerCount : Answer → ℕ
 answerCount (Done g) = 0
 answerCount (Refused r) = positionOf r
 
+-- The grade of an answer with a count, as a number; 0 for a refusal.
 abbrev pub countedGrade : Counted → ℕ
 countedGrade (Counts g k) = gradeNumber g
 countedGrade (Refuses r) = 0
 
+-- The count of an answer that counts, or the position that its refusal names.
 abbrev pub countOf : Counted → ℕ
 countOf (Counts g k) = k
 countOf (Refuses r) = positionOf r
 
+-- The grade of an answer of `pairs`, as a number; 0 for a refusal.
 abbrev pub pairedGrade : Paired → ℕ
 pairedGrade (pairs.Done g k p) = gradeNumber g
 pairedGrade (pairs.Refused r) = 0
 
+-- How many records `pairs` found, or the position that its refusal names.
 abbrev pub pairedCount : Paired → ℕ
 pairedCount (pairs.Done g k p) = k
 pairedCount (pairs.Refused r) = positionOf r
 
+-- How many pairs `pairs` examined, whether they gave a record or not; 0 for a refusal.
 abbrev pub pairsExamined : Paired → ℕ
 pairsExamined (pairs.Done g k p) = p
 pairsExamined (pairs.Refused r) = 0
 
--- 0 given, 1 lower, 2 upper
+-- The number of a ground: 0 for given, 1 for a lower bound, 2 for an upper bound.
 abbrev pub groundNumber : Ground → ℕ
 groundNumber Given = 0
 groundNumber (Lower b) = 1
 groundNumber (Upper b) = 2
 
--- a reason is of an exact field
+-- The grade of an answer of `reason`: 1, since a reason is of an exact field; 0 for a refusal.
 abbrev pub reasonedGrade : Reasoned → ℕ
 reasonedGrade (reason.Because g k m) = 1
 reasonedGrade (reason.Refuses r) = 0
 
+-- How many neighbours `reason` listed, or the position that its refusal names.
 abbrev pub reasonedCount : Reasoned → ℕ
 reasonedCount (reason.Because g k m) = m
 reasonedCount (reason.Refuses r) = positionOf r
 
+-- The unit k of a reason, which is 2^(k - 20); 0 for a refusal.
 abbrev pub reasonedUnit : Reasoned → ℕ
 reasonedUnit (reason.Because g k m) = k
 reasonedUnit (reason.Refuses r) = 0
 
--- the unit and the ground
+-- Unit and ground of a reason in one number, 4 times the unit and the ground; 0 for a refusal.
 abbrev pub reasonedParts : Reasoned → ℕ
 reasonedParts (reason.Because g k m) = 4 * k + groundNumber g
 reasonedParts (reason.Refuses r) = 0
 
--- the bound of an answer, which is given beside its number; a refusal leaves what was there
+-- The bound of a ground, which is given beside the answer's number: 0.0 for a given variable.
 abbrev pub boundOf : Ground → Float
 boundOf Given = zero64
 boundOf (Lower b) = b
 boundOf (Upper b) = b
 
+-- What stands for the bound after the call: that of the reason, or, on a refusal, what was there.
 abbrev pub boundAfter : Reasoned → Float → Float
 boundAfter (reason.Because g k m) x = boundOf g
 boundAfter (reason.Refuses r) x = x
 
+-- The grade of an answer of `sub_problem`, as a number; 0 for a refusal.
 abbrev pub reducedGrade : Reduced → ℕ
 reducedGrade (reduced.Done g n m k) = gradeNumber g
 reducedGrade (reduced.Refused r) = 0
 
--- the new m
+-- The new m that `sub_problem` answers, or the position that its refusal names.
 abbrev pub newEntries : Reduced → ℕ
 newEntries (reduced.Done g n m k) = m
 newEntries (reduced.Refused r) = positionOf r
 
--- the new n
+-- The new n that `sub_problem` answers, how many variables are free; 0 for a refusal.
 abbrev pub newVariables : Reduced → ℕ
 newVariables (reduced.Done g n m k) = n
 newVariables (reduced.Refused r) = 0
@@ -136,26 +148,28 @@ abbrev pub constantAfter : Reduced → Float → Float
 constantAfter (reduced.Done g n m k) x = k
 constantAfter (reduced.Refused r) x = x
 
+-- The grade of an answer of `mend`, which is that of the mended field, as a number; 0 for a refusal.
 abbrev pub mendedGrade : Mended → ℕ
 mendedGrade (mended.Done g m changes) = gradeNumber g
 mendedGrade (mended.Refused r) = 0
 
--- the new m
+-- The new m that `mend` answers, or the position that its refusal names.
 abbrev pub mendedEntries : Mended → ℕ
 mendedEntries (mended.Done g m changes) = m
 mendedEntries (mended.Refused r) = positionOf r
 
+-- How many changes `mend` reports, of three numbers each; 0 for a refusal.
 abbrev pub mendedChanges : Mended → ℕ
 mendedChanges (mended.Done g m changes) = changes
 mendedChanges (mended.Refused r) = 0
 
--- 1 yes, 0 no
+-- What stands in place of the grade for `allow`: 1 for yes, 0 for no and for a refusal.
 abbrev pub allowedGrade : Allowed → ℕ
 allowedGrade allow.Yes = 1
 allowedGrade (allow.No i) = 0
 allowedGrade (allow.Refuses r) = 0
 
--- the variable that a no names
+-- The variable that a no names, or the position that a refusal names; 0 for yes.
 abbrev pub allowedCount : Allowed → ℕ
 allowedCount allow.Yes = 0
 allowedCount (allow.No i) = i
@@ -163,26 +177,34 @@ allowedCount (allow.Refuses r) = positionOf r
 
 -- ---- the number of each answer
 
+-- The number of an answer without a grade: its refusal, and the position that this names.
 abbrev pub packedChecked : Checked → ℕ
 packedChecked a = packed (checkedNumber a) 0 (checkedCount a) 0
 
+-- The number of an answer with a grade alone: its refusal, the grade, and the position named.
 abbrev pub packedAnswer : Answer → ℕ
 packedAnswer a = packed (answerNumber a) (answerGrade a) (answerCount a) 0
 
+-- The number of an answer that counts: its refusal, the grade and the count.
 abbrev pub packedCounted : Counted → ℕ
 packedCounted a = packed (countedNumber a) (countedGrade a) (countOf a) 0
 
+-- The number of an answer of `pairs`: its refusal, the grade, the records and the pairs examined.
 abbrev pub packedPaired : Paired → ℕ
 packedPaired a = packed (pairedNumber a) (pairedGrade a) (pairedCount a) (pairsExamined a)
 
+-- The number of an answer of `reason`: its refusal, the grade, the neighbours, the unit and the ground.
 abbrev pub packedReasoned : Reasoned → ℕ
 packedReasoned a = packed (reasonedNumber a) (reasonedGrade a) (reasonedCount a) (reasonedParts a)
 
+-- The number of an answer of `sub_problem`: its refusal, the grade, the new m and the new n.
 abbrev pub packedReduced : Reduced → ℕ
 packedReduced a = packed (reducedNumber a) (reducedGrade a) (newEntries a) (newVariables a)
 
+-- The number of an answer of `mend`: its refusal, the grade, the new m and the changes.
 abbrev pub packedMended : Mended → ℕ
 packedMended a = packed (mendedNumber a) (mendedGrade a) (mendedEntries a) (mendedChanges a)
 
+-- The number of an answer of `allow`: its refusal, yes or no, and the variable that a no names.
 abbrev pub packedAllowed : Allowed → ℕ
 packedAllowed a = packed (allowedNumber a) (allowedGrade a) (allowedCount a) 0

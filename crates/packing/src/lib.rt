@@ -41,6 +41,7 @@ fn pack_refusal(refusal: Refusal) -> u64
     (refusal.number() as u64) + 0x1_0000 * (refusal.position() as u64)
 }
 
+// Packs an answer without a grade: passed is 0, and a refusal has its number and position.
 pub fn pack_checked(answer: Checked) -> u64
     requires { ⌜ checkedCount answer < 0x1000_0000 ⌝ }
     ensures { λ r. ⌜ r ≡ packedChecked answer ⌝ }
@@ -51,6 +52,7 @@ pub fn pack_checked(answer: Checked) -> u64
     }
 }
 
+// Packs an answer with a grade alone; its count and its pairs are 0.
 pub fn pack_answer(answer: Answer) -> u64
     requires { ⌜ answerCount answer < 0x1000_0000 ⌝ }
     ensures { λ r. ⌜ r ≡ packedAnswer answer ⌝ }
@@ -61,6 +63,7 @@ pub fn pack_answer(answer: Answer) -> u64
     }
 }
 
+// Packs an answer with a grade and a count, as `closure` gives; its pairs are 0.
 pub fn pack_counted(answer: Counted) -> u64
     requires { ⌜ countOf answer < 0x1000_0000 ⌝ }
     ensures { λ r. ⌜ r ≡ packedCounted answer ⌝ }
@@ -71,6 +74,7 @@ pub fn pack_counted(answer: Counted) -> u64
     }
 }
 
+// Packs an answer of `pairs`, with the records found and the pairs examined.
 pub fn pack_paired(answer: Paired) -> u64
     requires { ⌜ pairedCount answer < 0x1000_0000 ⌝ }
     requires { ⌜ pairsExamined answer < 0x10_0000 ⌝ }
@@ -130,6 +134,7 @@ pub fn bound_after(answer: Reasoned, bound: f64) -> f64
     }
 }
 
+// Packs an answer of `sub_problem`, with the new n where pairs has the pairs examined.
 pub fn pack_reduced(answer: Reduced) -> u64
     requires { ⌜ newEntries answer < 0x1000_0000 ⌝ }
     requires { ⌜ newVariables answer < 0x10_0000 ⌝ }
@@ -151,6 +156,7 @@ pub fn constant_after(answer: Reduced, constant: f64) -> f64
     }
 }
 
+// Packs an answer of `mend`, with the changes where pairs has the pairs examined.
 pub fn pack_mended(answer: Mended) -> u64
     requires { ⌜ mendedEntries answer < 0x1000_0000 ⌝ }
     requires { ⌜ mendedChanges answer < 0x10_0000 ⌝ }

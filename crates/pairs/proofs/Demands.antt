@@ -54,7 +54,7 @@ use Rattle.pairs.specs.Call.{Left, left, fits, pairsTable, pairsCall, li
 use Rattle.pairs.proofs.Examined.{examined-count, longer, FreePair, examined-free, examined-rise, still-examined}
 use Rattle.pairs.proofs.Found.{Gives, Ordered, found-gives, gives-found, found-proper, found-on, found-rising, not-full}
 
--- any two results that the promise permits are equal
+-- Theorem. Any two results that the promise permits are equal.
 pub one-result : (F : Field) (s : List ℕ) (limit : ℕ) (l : List ℕ) (f : List Float) (u : List ℕ) (x y : Left) → x ≡ pairsCall F s limit l f u → y ≡ pairsCall F s limit l f u → x ≡ y
 one-result F s limit l f u = any.one-result (pairsCall F s limit l f u)
 
@@ -111,17 +111,17 @@ done-apart : {A : Type 0} {g : Grade} {items pairs : ℕ} (r : Refusal) → Done
 done-apart r e = let z : _≡_ {A = ℕ} 0 1 = cc in absurd (omega arith)
 
 module _ (F : Field) (s : List ℕ) (limit : ℕ) (l : List ℕ) (f : List Float) (u : List ℕ) where
-  -- DEMAND 1. Refused with r exactly if the tests before r's own pass, and its own fails: 9 is the last.
+  -- Theorem. DEMAND 1. Refused with r exactly if the tests before r's own pass, and its own fails: 9 is the last.
   pub refused-when : (r : Refusal) → (pairsCall F s limit l f u .answer ≡ Refused r) ↔ FirstToFail (pairsTable F s limit l (length f) (length u)) r
   unfolding pairsCall table
   refused-when = usual.refused-when Refused _ _ _ _ same-refused done-apart refl
 
-  -- A refusal 1 to 8 changes nothing lent.
+  -- Theorem. A refusal 1 to 8 changes nothing lent.
   pub refused-leaves : (r : Refusal) → r ≢ Room → pairsCall F s limit l f u .answer ≡ Refused r → pairsCall F s limit l f u ≡ left (Refused r) l f u
   unfolding pairsCall
   refused-leaves r n e = usual.refused-leaves Refused _ _ _ _ same-refused done-apart r (other-stage n no-stage) e
 
-  -- It is 9 exactly if all tests pass and there are more constraints than room,
+  -- Theorem. It is 9 exactly if all tests pass and there are more constraints than room.
   pub room-when : (pairsCall F s limit l f u .answer ≡ Refused Room) ↔ (Ready F s (length f) (length u) × (room l < length (found F s limit)))
   unfolding pairsCall
   room-when =
@@ -129,7 +129,7 @@ module _ (F : Field) (s : List ℕ) (limit : ℕ) (l : List ℕ) (f : List Float
       let p = ready-passes F s (length f) (length u) in
       ((λ e. (p .0 (t .0 e .0), leb-false _ _ (t .0 e .1))), λ h. t .1 (p .1 (h .0), lt-leb _ _ (h .1)))
 
-  -- and leaves zeros in the list and in both scratches.
+  -- Theorem. On 9 the list and both scratches are all zeros.
   pub room-leaves : pairsCall F s limit l f u .answer ≡ Refused Room → pairsCall F s limit l f u ≡ left (Refused Room) (cleared 0 l) (cleared zero64 f) (cleared 0 u)
   unfolding pairsCall
   room-leaves e = usual.later-leaves Refused _ _ _ _ same-refused done-apart Room _ (never-room F s (length f) (length u)) (this-stage no-stage) e
@@ -148,7 +148,7 @@ module _ (F : Field) (s : List ℕ) (limit : ℕ) (l : List ℕ) (f : List Float
   unfolding pairsCall
   ended e = usual.done-leaves Refused _ _ _ _ same-refused done-apart (λ r z. done-apart r (sym e ∙ z))
 
-  -- The call is done exactly if every test passes and the list has room, and then gives the grade, the number of constraints and the number of pairs by the formula.
+  -- Theorem. The call is done exactly if every test passes and the list has room, and then gives the grade, the number of constraints and the number of pairs by the formula.
   pub done-when : (g : Grade) (items pairs : ℕ) → (pairsCall F s limit l f u .answer ≡ Done g items pairs) ↔ DoneSays F s limit l f u g items pairs
   done-when g items pairs = (
     λ e.
@@ -163,26 +163,27 @@ module _ (F : Field) (s : List ℕ) (limit : ℕ) (l : List ℕ) (f : List Float
   )
 
   module _ (g : Grade) (items pairs : ℕ) (e : pairsCall F s limit l f u .answer ≡ Done g items pairs) where
-    -- Then the records are at the front of the list, and both scratches are all zeros.
+    -- Theorem. Then the records are at the front of the list, and both scratches are all zeros.
     pub done-leaves : pairsCall F s limit l f u ≡ left (Done g items pairs) (filled (found F s limit) l) (cleared zero64 f) (cleared 0 u)
     done-leaves =
         let q : result .answer ≡ Done g items pairs = ap (λ (x : Left). x .answer) (sym (ended e)) ∙ e in
         ended e ∙ ap (λ (a : Paired). left a (filled (found F s limit) l) (cleared zero64 f) (cleared 0 u)) q
 
-    -- The first records of the list are those that the rule gives, no more and no fewer, and elements past the last of them are unchanged.
+    -- Theorem. The first records of the list are those that the rule gives, no more and no fewer, and elements past the last of them are unchanged.
     pub list-holds : listed items (pairsCall F s limit l f u) ≡ found F s limit
     list-holds =
         rw (ap (λ (x : Left). x .lent .list) done-leaves, done-when g items pairs .0 e .counted, records-filled (found F s limit) l)
         (take-at (found F s limit) (records (drop (3 * length (found F s limit)) l)) (length (found F s limit)) refl)
 
+    -- Theorem. Elements of the list past its last record are unchanged.
     pub past-unchanged : drop (3 * items) (pairsCall F s limit l f u .lent .list) ≡ drop (3 * items) l
     past-unchanged = rw (ap (λ (x : Left). x .lent .list) done-leaves, done-when g items pairs .0 e .counted) (filled-rest (found F s limit) l)
 
-    -- They rise by pair: one record for one pair.
+    -- Theorem. They rise by pair: one record for one pair.
     pub list-rises : Rising (listed items (pairsCall F s limit l f u))
     list-rises = rw list-holds (found-rises F s limit)
 
-    -- Each is one that propagation takes,
+    -- Theorem. Each is one that propagation takes.
     pub list-fits : (r : Record) → List·Memᴰ r (listed items (pairsCall F s limit l f u)) → Fit (variables F) r
     unfolding found
     list-fits r m =
@@ -194,12 +195,12 @@ module _ (F : Field) (s : List ℕ) (limit : ℕ) (l : List ℕ) (f : List Float
           below = omega (arith, free .below, done-when g items pairs .0 e .ready .sound .start .long);
         }
 
-    -- and none has all four pairs, whatever the field.
+    -- Theorem. No record has all four pairs, whatever the field.
     pub no-full-set : (r : Record) → List·Memᴰ r (listed items (pairsCall F s limit l f u)) → r .set ≢ 15
     unfolding found
     no-full-set r m = not-full F s (examined limit s) (examined-ordered limit s) (rw list-holds at m)
 
--- DEMAND 3. A larger limit keeps each record and only lengthens the list: where both calls are done, the records of the smaller limit stand at the front of those of the larger.
+-- Theorem. DEMAND 3. A larger limit keeps each record and only lengthens the list: where both calls are done, the records of the smaller limit stand at the front of those of the larger.
 pub longer-list : (F : Field) (s : List ℕ) (limit more : ℕ) → limit ≤ more
     → (l l′ : List ℕ) (f f′ : List Float) (u u′ : List ℕ) (g g′ : Grade) (items items′ pairs pairs′ : ℕ)
     → pairsCall F s limit l f u .answer ≡ Done g items pairs → pairsCall F s more l′ f′ u′ .answer ≡ Done g′ items′ pairs′
@@ -253,7 +254,7 @@ module _ (F : Field) (s : List ℕ) (limit : ℕ) (l : List ℕ) (f : List Float
           let p = kind-pattern F s i j h in
           rw (p .2) (kind-stays exact-field start start′ more i j first-below second-below apart (free-pair .first) (free-pair .second) fi fj (p .0) (p .1) (rw (p .2) at h))
 
-  -- DEMAND 2. On an exact field the list forbids the values p of (i, j) exactly if the pair is examined, p is a pattern, and f at the pattern
+  -- Theorem. DEMAND 2. On an exact field the list forbids the values p of (i, j) exactly if the pair is examined, p is a pattern, and f at the pattern
   -- less f at the opposite is above the tolerance for all values of the other free variables.
   pub list-exact : {unit : ℕ} → Serves unit F → (i j : ℕ) (p : Pair) → Bans (listed items (pairsCall F s limit l f u)) i j p ↔ Ruled unit F s limit i j p
   list-exact {unit} v i j p = rw holds (
@@ -274,27 +275,27 @@ module _ (F : Field) (s : List ℕ) (limit : ℕ) (l : List ℕ) (f : List Float
     }),
   )
 
-  -- It is the one list of records, rising by pair, that forbids these.
+  -- Theorem. It is the one list of records, rising by pair, that forbids these.
   pub list-only : {unit : ℕ} → Serves unit F → (k : List Record) → AllProper k → Rising k → ((i j : ℕ) (p : Pair) → Bans k i j p ↔ Ruled unit F s limit i j p)
       → k ≡ listed items (pairsCall F s limit l f u)
   list-only v k a r h =
       rising-same k (listed items (pairsCall F s limit l f u)) a (rw holds (all-proper F s limit)) r (list-rises F s limit l f u ExactGrade items pairs e)
       (record { to = λ i j p b. list-exact v i j p .1 (h i j p .0 b); from = λ i j p b. h i j p .1 (list-exact v i j p .0 b) })
 
-  -- The four bounds are the least and the greatest over all values of the other free variables, in half units, and the tolerance is above 0.
+  -- Theorem. The four bounds are the least and the greatest over all values of the other free variables, in half units, and the tolerance is above 0.
   pub bounds-exact : {unit : ℕ} → Serves unit F → (i j : ℕ) → List·Memᴰ (pair i j) (examined limit s) → T (positive (tolerance F i j)) × Four unit F s i j (boundsOf F s i j)
   bounds-exact v i j m = (
     tolerance-positive (exact-in v) i j (first-below m) (second-below m),
     four (exact-in v) start i j (first-below m) (second-below m) (apart m) (free-pair m .first) (free-pair m .second),
   )
 
-  -- DEMAND 3. Every best completion of the start values meets every record of the list.
+  -- Theorem. DEMAND 3. Every best completion of the start values meets every record of the list.
   pub best-meets-all : {unit : ℕ} → Serves unit F → (x : List ℕ) → Best (wholeOf unit F) s x → (r : Record) → List·Memᴰ r (listed items (pairsCall F s limit l f u)) → MeetsRecord x r
   best-meets-all v x best r m q =
       let g = given-by F s limit (rw holds at (bans-of m q)) in
       best-meets (g .is-pair) (g .gives) v x best (g .forbids)
 
-  -- A forbidden pair stays with further start values that fix neither of its variables, in a call with the same limit.
+  -- Theorem. A forbidden pair stays with further start values that fix neither of its variables, in a call with the same limit.
   pub further-keep : (s′ l′ : List ℕ) (f′ : List Float) (u′ : List ℕ) (items′ pairs′ : ℕ) → pairsCall F s′ limit l′ f′ u′ .answer ≡ Done ExactGrade items′ pairs′ → Extends s s′
       → (i j : ℕ) (p : Pair) → getD s′ i 0 ≡ 2 → getD s′ j 0 ≡ 2 → Bans (listed items (pairsCall F s limit l f u)) i j p → Bans (listed items′ (pairsCall F s′ limit l′ f′ u′)) i j p
   further-keep s′ l′ f′ u′ items′ pairs′ e′ more i j p fi fj b =
@@ -308,6 +309,6 @@ module _ (F : Field) (s : List ℕ) (limit : ℕ) (l : List ℕ) (f : List Float
         forbids = g .forbids;
       }))
 
--- At the limit 250,000 all 249,571 pairs of 707 free variables are examined, and of the 250,278 of 708 not all (rule 8.1).
+-- Theorem. At the limit 250,000 all 249,571 pairs of 707 free variables are examined, and of the 250,278 of 708 not all (rule 8.1).
 pub counts-worked : (pairCount 250000 707 ≡ 249571) × ((pairCount 250000 708 ≡ 250000) × (708 * 707 / 2 ≡ 250278))
 counts-worked = (refl, (refl, refl))

@@ -26,7 +26,7 @@ use Rattle.pairs.specs.declared.Paired.{Paired}
 use Rattle.pairs.specs.declared.Paired.the-variants.{Done, Refused}
 use Rattle.pairs.specs.Listing.{freeOf, examined, pairCount, found}
 
--- the table's number of each answer
+-- The table's number of an answer of `pairs`: 0 when done, else that of the refusal.
 abbrev pub pairedNumber : Paired → ℕ
 pairedNumber (Done g items pairs) = 0
 pairedNumber (Refused r) = numberOf r
@@ -35,23 +35,25 @@ pairedNumber (Refused r) = numberOf r
 abbrev pub fits : Field → List ℕ → ℕ → List ℕ → Bool
 fits F s limit l = leb (length (found F s limit)) (room l)
 
--- the whole table: 1 to 6, 8 and 9
+-- The whole table of `pairs`: 1 to 6, 8 and 9.
 abbrev pub pairsTable : Field → List ℕ → ℕ → List ℕ → ℕ → ℕ → List Test
 pairsTable F s limit l floats words = readyTests F s floats words ++ test Room (fits F s limit l) ∷ []
 
--- the three lent lists
+-- What is lent to `pairs`: the list of constraints, the floats and the words.
 pub record Lent : Type 0 where
   pub list : List ℕ
   pub floats : List Float
   pub words : List ℕ
 
+-- The lent lists of the call `pairs` in one record: the list of constraints, the floats and the words.
 abbrev pub lent : List ℕ → List Float → List ℕ → Lent
 lent l f u = record { list = l; floats = f; words = u }
 
--- the answer, and the three lent lists afterwards
+-- The answer of `pairs`, and its three lent lists afterwards.
 abbrev pub Left : Type 0
 Left = any.Left Paired Lent
 
+-- What the call `pairs` leaves, made of its answer and its three lent lists.
 abbrev pub left : Paired → List ℕ → List Float → List ℕ → Left
 left r l f u = any.left r (lent l f u)
 

@@ -16,15 +16,16 @@ use Rattle.constraints.specs.Keys.{keyOf, unkey}
 
 -- ---- the pairs
 
+-- All free variables of the start values, those whose value is 2, in rising order.
 abbrev pub freeOf : List ℕ → List ℕ
 freeOf s = freeTo s (length s)
 
--- i with each of js
+-- The pairs of i with each of js, in their order.
 unfoldable pub withEach : ℕ → List ℕ → List Pair
 withEach i [] = []
 withEach i (j ∷ js) = pair i j ∷ withEach i js
 
--- each with each that comes later
+-- The pairs of each variable of the list with each that comes later.
 unfoldable pub pairsOf : List ℕ → List Pair
 pairsOf [] = []
 pairsOf (i ∷ is) = withEach i is ++ pairsOf is
@@ -37,6 +38,7 @@ freePairs s = pairsOf (freeOf s)
 abbrev pub allowed : ℕ → ℕ
 allowed limit = min limit 250000
 
+-- The pairs that the call examines: the first of the free pairs, as many as the limit allows.
 abbrev pub examined : ℕ → List ℕ → List Pair
 examined limit s = take (allowed limit) (freePairs s)
 
@@ -54,6 +56,7 @@ recordFor i j k = recordOf (joining k i j)
 unfoldable pub pairRecords : Field → List ℕ → Pair → List Record
 pairRecords F s p = mergedList (map (recordFor (p .first) (p .second)) (pairKinds F s (p .first) (p .second)))
 
+-- The records that a list of pairs gives, in the order of the pairs.
 unfoldable pub foundIn : Field → List ℕ → List Pair → List Record
 foundIn F s [] = []
 foundIn F s (p ∷ rest) = pairRecords F s p ++ foundIn F s rest
@@ -79,6 +82,7 @@ standing k = cond (eqb k 0) [] (unkey k ∷ [])
 unfoldable pub appendOne : List ℕ → ℕ → Record → List ℕ
 appendOne list at x = cond (ltb at (room list)) (stored list at x) list
 
+-- The list with these records written from item number `at` on, as far as it has room.
 unfoldable pub appendAll : List ℕ → ℕ → List Record → List ℕ
 appendAll list at [] = list
 appendAll list at (x ∷ xs) = appendAll (appendOne list at x) (suc at) xs
@@ -88,6 +92,6 @@ pub record Appended (xs : List Record) (l : List ℕ) (at : ℕ) (l′ : List �
   pub list : l′ ≡ appendAll l at xs
   pub next : r ≡ at + length xs
 
--- as many of the items as have room
+-- The list with as many of the items at its front as it has room for.
 unfoldable pub written : List Record → List ℕ → List ℕ
 written items list = filled (take (room list) items) list

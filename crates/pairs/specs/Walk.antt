@@ -27,6 +27,7 @@ pub record Prepared (F : Field) (s : List ℕ) (f : List Float) (u : List ℕ) :
 
 -- ---- the free variables, behind the keys
 
+-- Where, in the words, the list of the free variables begins: behind the keys of all rows.
 abbrev pub freeAt : ℕ → ℕ → ℕ
 freeAt n m = keysAt n m + 2 * m
 
@@ -43,6 +44,7 @@ pub record Freed (s : List ℕ) (base i : ℕ) (u₀ u : List ℕ) (count : ℕ)
 abbrev pub nextOf : ℕ → Cursor → Cursor
 nextOf k x = cond (ltb (x .second + 1) k) (record { first = x .first; second = x .second + 1 }) (record { first = x .first + 1; second = x .first + 2 })
 
+-- Whether a pair is left to examine: fewer than the most are done, and the second position is in the list.
 unfoldable pub isLeft : ℕ → ℕ → ℕ → Cursor → Bool
 isLeft pairs most k x = ltb pairs most && ltb (x .second) k
 

@@ -29,11 +29,11 @@ use Rattle.parts.proofs.Unique as unique
 -- ---- one walk
 
 module _ {F : Field} (S : Shaped F) (zeros : Bool) (marks : List ℕ) (long : length marks ≡ variables F) (start : ℕ) where
-  -- The members are exactly the variables that the start reaches through entries that join, by way of open variables.
+  -- Theorem. The members are exactly the variables that the start reaches through entries that join, by way of open variables.
   pub members-reached : (i : ℕ) → (has (membersFrom F zeros marks start) i ≡ true) ↔ Reaches F zeros marks start i
   members-reached i = let K = walking.walk-component S zeros marks long start in (K .reached i, K .all i)
 
-  -- No variable is a member twice.
+  -- Theorem. No variable is a member twice.
   pub members-once : Apart (membersFrom F zeros marks start)
   members-once = walking.walk-component S zeros marks long start .apart
 
@@ -49,7 +49,7 @@ module _ {F : Field} (S : Shaped F) (zeros : Bool) (marks : List ℕ) (long : le
   pub marks-after : (i : ℕ) → getD (marksFrom F zeros marks start) i 0 ≡ cond (has (membersFrom F zeros marks start) i) 0 (getD marks i 0)
   marks-after = walking.walk-marks S zeros marks long start
 
-  -- An entry that joins has both ends among the members or none, or an end that was not open.
+  -- Theorem. An entry that joins has both ends among the members or none, or an end that was not open.
   pub members-closed : (k : ℕ) → k < entries F → joins F zeros k ≡ true
       → (has (membersFrom F zeros marks start) (rowEnd F k) ≡ has (membersFrom F zeros marks start) (columnEnd F k))
       ⊎ ((getD marks (rowEnd F k) 0 ≢ 2) ⊎ (getD marks (columnEnd F k) 0 ≢ 2))
@@ -57,7 +57,7 @@ module _ {F : Field} (S : Shaped F) (zeros : Bool) (marks : List ℕ) (long : le
 
 -- ---- from each lowest start
 
--- The components found are disjoint, each open variable is in exactly one, and their lowest variables rise.
+-- Theorem. The components found are disjoint, each open variable is in exactly one, and their lowest variables rise.
 pub components-found : {F : Field} → Shaped F → (zeros : Bool) (marks : List ℕ) → length marks ≡ variables F → Partition F zeros marks (components F zeros marks)
 components-found S zeros marks long = parting.components-partition S long
 
@@ -80,7 +80,7 @@ equal-zero x e = not-false (eq x zero64) e
 pub components-separate : {F : Field} → Shaped F → (u : ℕ) {s marks : List ℕ} → Rest F true s marks → (start : ℕ) → Separate (wholeOf u F) s (has (membersFrom F true marks start))
 components-separate S u R start k h = resting.rest-closed S R start k h refl
 
--- Where entries of weight 0 do not join: on an exact field an entry that leaves a component of all variables has weight 0.
+-- Theorem. Where entries of weight 0 do not join: on an exact field an entry that leaves a component of all variables has weight 0.
 pub components-inward : {F : Field} → Shaped F → {u : ℕ} → ExactIn u F → (s : List ℕ) {marks : List ℕ} → length s ≡ variables F
     → Rest F false (opened true s) marks → (start k : ℕ) → k < entries F
     → (has (membersFrom F false marks start) (rowEnd F k) ≡ has (membersFrom F false marks start) (columnEnd F k)) ⊎ Zero (wholeOf u F .weight k)
@@ -101,8 +101,10 @@ components-inward {F} S {u} E s {marks} long R start k h = bool-cases (ne (quadO
 
 -- ---- any two results that a promise permits are equal
 
+-- Theorem. Any two lists of words that `walk` may leave are equal, and so are the counts of members.
 pub walk-one-result : {F : Field} {zeros : Bool} {start : ℕ} {u₀ u v : List ℕ} {r t : ℕ} → Walked F zeros start u₀ u r → Walked F zeros start u₀ v t → (u ≡ v) × (r ≡ t)
 walk-one-result = unique.walked-unique
 
+-- Theorem. Any two lists of words that `begin` may leave are equal.
 pub begin-one-result : {F : Field} {all : Bool} {s u₀ u v : List ℕ} → Begun F all s u₀ u → Begun F all s u₀ v → u ≡ v
 begin-one-result = unique.begun-unique

@@ -10,19 +10,23 @@ use Rattle.field.specs.Field.{Field, variables, Shaped}
 use Rattle.places.specs.Places.{Adjacent}
 use Rattle.parts.specs.Walk.{Search, search, opened, walkedFrom, membersFrom, marksFrom}
 
--- where the marks begin, the stack, the members, and what is not touched
+-- Where the marks begin in the words: behind the n + 1 offsets and two places for each entry.
 abbrev pub base : Field → ℕ
 base F = variables F + 1 + 2 * length (F .rows)
 
+-- Where the stack of the walk begins in the words: behind the n marks.
 abbrev pub stackBase : Field → ℕ
 stackBase F = base F + variables F
 
+-- Where the members of a component begin in the words: behind the n places of the stack.
 abbrev pub membersBase : Field → ℕ
 membersBase F = stackBase F + variables F
 
+-- Where the words begin that a walk does not touch: behind the n places of the members.
 abbrev pub past : Field → ℕ
 past F = membersBase F + variables F
 
+-- The n marks as they stand in the words u, one for each variable of the field.
 abbrev pub marksIn : Field → List ℕ → List ℕ
 marksIn F u = region (base F) (variables F) u
 
@@ -31,6 +35,7 @@ pub record Cells : Type 0 where
   pub words : List ℕ
   pub top : ℕ
 
+-- The words of a walk together with how many variables are on its stack.
 abbrev pub cells : List ℕ → ℕ → Cells
 cells u top = record { words = u; top = top }
 

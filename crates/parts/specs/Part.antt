@@ -9,17 +9,17 @@ use lib.ListN.{length, getD}
 use Rattle.field.specs.Field.{Field, variables, entries, rowEnd, columnEnd}
 use Rattle.parts.specs.Walk.{joins}
 
--- i is in the list
+-- Whether variable i is in the list.
 unfoldable pub has : List ℕ → ℕ → Bool
 has [] i = false
 has (j ∷ l) i = eqb j i || has l i
 
--- no element stands in it twice
+-- No element stands in the list twice.
 unfoldable pub Apart : List ℕ → Type 0
 Apart [] = Unit {0}
 Apart (j ∷ l) = (has l j ≡ false) × Apart l
 
--- not seen, not barred
+-- Variable i is open in the marks: not seen, and not barred.
 abbrev pub Open : List ℕ → ℕ → Type 0
 Open marks i = getD marks i 0 ≡ 2
 

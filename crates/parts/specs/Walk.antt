@@ -15,22 +15,25 @@ pub record Search : Type 0 where
   pub marks : List ℕ
   pub stack : List ℕ
 
+-- The state of a search, made of its marks and its stack, the top of the stack first.
 abbrev pub search : List ℕ → List ℕ → Search
 search marks stack = record { marks = marks; stack = stack }
 
--- the marks that a walk starts from: those variables are open that have no start value, or all are
+-- The mark that a walk starts from at a start value v: open where all are, else v, which is 2 where it is free.
 abbrev pub markOf : Bool → ℕ → ℕ
 markOf all v = cond all 2 v
 
+-- The marks that a walk starts from: all variables are open, or those that have no start value.
 unfoldable pub opened : Bool → List ℕ → List ℕ
 opened all s = map (markOf all) s
 
 -- ---- one variable is served
 
--- whether an entry of weight q joins: one of weight 0 does in components, and does not in anchors
+-- Whether an entry of weight q joins its ends: in components a stored zero does, in anchors it does not.
 abbrev pub joinsBy : Bool → Float → Bool
 joinsBy zeros q = zeros || ne q zero64
 
+-- Whether entry k joins its two ends, where `zeros` says if a stored zero does.
 abbrev pub joins : Field → Bool → ℕ → Bool
 joins F zeros k = joinsBy zeros (quadOf F k)
 
@@ -38,19 +41,20 @@ joins F zeros k = joinsBy zeros (quadOf F k)
 unfoldable pub push : Search → ℕ → Search
 push w j = search (set (w .marks) j 0) (j ∷ w .stack)
 
--- unless it was seen or is barred
+-- The search after j is visited: it goes onto the stack unless it was seen or is barred.
 unfoldable pub visit : Search → ℕ → Search
 visit w j = cond (eqb (getD (w .marks) j 0) 2) (push w j) w
 
--- the other end of i's entry k, if k joins
+-- The search after the other end of i's entry k is visited, if k joins the two.
 unfoldable pub visitAt : Field → Bool → ℕ → Search → ℕ → Search
 visitAt F zeros i w k = cond (joins F zeros k) (visit w (otherEnd (F .rows) (F .cols) i k)) w
 
+-- The search after the other end of each of these entries of i has been visited, in order.
 unfoldable pub visitAll : Field → Bool → ℕ → Search → List ℕ → Search
 visitAll F zeros i w [] = w
 visitAll F zeros i w (k ∷ ks) = visitAll F zeros i (visitAt F zeros i w k) ks
 
--- every place of i, rising
+-- The search after variable i is served: the other ends of its places are visited, rising.
 unfoldable pub serve : Field → Bool → Search → ℕ → Search
 serve F zeros w i = visitAll F zeros i w (places (F .rows) (F .cols) i)
 
@@ -61,6 +65,7 @@ pub record Walk : Type 0 where
   pub search : Search
   pub members : List ℕ
 
+-- One turn of a walk with this stack: the top is popped, becomes a member and is served.
 unfoldable pub turnOn : Field → Bool → List ℕ → List ℕ → List ℕ → Walk
 turnOn F zeros marks [] members = record { search = search marks []; members = members }
 turnOn F zeros marks (i ∷ stack) members = record { search = serve F zeros (search marks stack) i; members = members ++ (i ∷ []) }
@@ -69,6 +74,7 @@ turnOn F zeros marks (i ∷ stack) members = record { search = serve F zeros (se
 abbrev pub turn : Field → Bool → Walk → Walk
 turn F zeros w = turnOn F zeros (w .search .marks) (w .search .stack) (w .members)
 
+-- The walk after so many turns; with an empty stack a turn changes nothing.
 unfoldable pub turns : Field → Bool → ℕ → Walk → Walk
 turns F zeros zero w = w
 turns F zeros (suc more) w = turns F zeros more (turn F zeros w)
@@ -81,10 +87,11 @@ walkedFrom F zeros w = turns F zeros (variables F) (record { search = w; members
 unfoldable pub walk : Field → Bool → List ℕ → ℕ → Walk
 walk F zeros marks start = walkedFrom F zeros (visit (search marks []) start)
 
--- the component of a start, in pop order, and the marks that it leaves
+-- The component of a start, its members in the order in which they are popped.
 abbrev pub membersFrom : Field → Bool → List ℕ → ℕ → List ℕ
 membersFrom F zeros marks start = walk F zeros marks start .members
 
+-- The marks that the walk from a start leaves: every member of the component is seen.
 abbrev pub marksFrom : Field → Bool → List ℕ → ℕ → List ℕ
 marksFrom F zeros marks start = walk F zeros marks start .search .marks
 
@@ -95,14 +102,16 @@ pub record Parts : Type 0 where
   pub marks : List ℕ
   pub found : List (List ℕ)
 
+-- The components after start i: one more where i is still open, and the same elsewhere.
 unfoldable pub partAt : Field → Bool → Parts → ℕ → Parts
 partAt F zeros p i =
     cond (eqb (getD (p .marks) i 0) 2) (record { marks = marksFrom F zeros (p .marks) i; found = p .found ++ (membersFrom F zeros (p .marks) i ∷ []) }) p
 
--- from the starts below i
+-- The marks and the components found from all starts below i.
 unfoldable pub partsTo : Field → Bool → List ℕ → ℕ → Parts
 partsTo F zeros marks zero = record { marks = marks; found = [] }
 partsTo F zeros marks (suc i) = partAt F zeros (partsTo F zeros marks i) i
 
+-- All components of the variables that are open in the marks, by rising lowest member.
 unfoldable pub components : Field → Bool → List ℕ → List (List ℕ)
 components F zeros marks = partsTo F zeros marks (variables F) .found

@@ -20,6 +20,7 @@ owner rows cols (suc n) p h =
       | no l ↦ (n, le-refl _, omega arith, h)
     ]
 
+-- Theorem. Any two lists of words that `build` may leave are equal.
 pub two-equal : {n : ℕ} {rows cols u₀ u v : List ℕ} → Built n rows cols u₀ u → Built n rows cols u₀ v → u ≡ v
 two-equal {n} {rows} {cols} {u₀} {u} {v} U W = ext-getD 0 u v (U .long ∙ sym (W .long)) at
   where

@@ -21,7 +21,7 @@ pub fn build(u: &mut [u32], rows: &[u16], cols: &[u16], n: usize)
     placing::place(u, rows, cols, n);
 }
 
-// The entry in a word.
+// The entry that a packed word of a place names.
 pub fn entry_in(word: u32) -> usize
     ensures { λ r. ⌜ r ≡ entryIn word ⌝ }
 {

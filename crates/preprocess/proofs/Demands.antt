@@ -65,24 +65,24 @@ module _ (F : Field) (shaped : Shaped F) {s : List ℕ} (start : StartFor (varia
 -- ---- the call
 
 module _ (F : Field) (s : List ℕ) (f : List Float) (u : List ℕ) where
-  -- any two results that the promise permits are equal
+  -- Theorem. Any two results that the promise permits are equal.
   pub one-result : (x y : Left) → x ≡ preprocessCall F s f u → y ≡ preprocessCall F s f u → x ≡ y
   one-result = values.one-result _ F s f u
 
-  -- The call is refused with r exactly if the tests before r's own pass, and its own fails.
+  -- Theorem. The call is refused with r exactly if the tests before r's own pass, and its own fails.
   pub refused-when : (r : Refusal) → (preprocessCall F s f u .answer ≡ Refused r) ↔ FirstToFail (readyTests F s (length f) (length u)) r
   refused-when = values.refused-when _ F s f u
 
-  -- A refusal changes nothing lent.
+  -- Theorem. A refusal changes nothing lent.
   pub refused-leaves : (r : Refusal) → preprocessCall F s f u .answer ≡ Refused r → preprocessCall F s f u ≡ left (Refused r) s f u
   refused-leaves = values.refused-leaves _ F s f u
 
-  -- It is done exactly if the field, the start values and both scratches are as the table asks, and then gives the grade.
+  -- Theorem. It is done exactly if the field, the start values and both scratches are as the table asks, and then gives the grade.
   pub done-when : (preprocessCall F s f u .answer ≡ Done (gradeOf F)) ↔ Ready F s (length f) (length u)
   done-when = values.done-when _ F s f u
 
   module _ (g : Grade) (e : preprocessCall F s f u .answer ≡ Done g) where
-    -- Then the values are in the start values, and both scratches are all zeros.
+    -- Theorem. Then the values are in the start values, and both scratches are all zeros.
     pub done-leaves : preprocessCall F s f u ≡ left (Done (gradeOf F)) (preprocess F s) (cleared zero64 f) (cleared 0 u)
     done-leaves = values.done-leaves _ F s f u g e
 
@@ -92,20 +92,20 @@ module _ (F : Field) (s : List ℕ) (f : List Float) (u : List ℕ) where
     sound : Sound F s
     sound = values.ready _ F s f u g e .sound
 
-    -- The start values are kept, a 1 of a variable of no effect too ..
+    -- Theorem. The start values are kept, a 1 of a variable of no effect too.
     pub values-extend : Extends s (preprocessCall F s f u .lent .values)
     values-extend = rw values-are (preprocess-extends F (sound .shaped) (sound .start))
 
-    -- .. a free variable of no effect ends as 0 ..
+    -- Theorem. A free variable of no effect ends as 0.
     pub idle-ends : (i : ℕ) → i < variables F → NoEntry F i → eq (linearOf F i) zero64 ≡ true → getD s i 0 ≡ 2 → getD (preprocessCall F s f u .lent .values) i 0 ≡ 0
     idle-ends i h apart zero free =
         rw values-are (preprocess-idle F (sound .shaped) (sound .start) i h (effect-means F i (sound .shaped .rows-long) .1 (apart, zero)) free)
 
-    -- .. and every value of the closure is among them, on any field.
+    -- Theorem. Every value of the closure is among them, on any field.
     pub closure-among : Extends (closure F s) (preprocessCall F s f u .lent .values)
     closure-among = rw values-are (preprocess-closes F (sound .shaped) (sound .start))
 
--- DEMAND 3. On an exact field some best completion of the start values agrees with all values.
+-- Theorem. DEMAND 3. On an exact field some best completion of the start values agrees with all values.
 pub some-best-agrees : (F : Field) (s : List ℕ) (f : List Float) (u : List ℕ) → preprocessCall F s f u .answer ≡ Done Exact
     → {unit : ℕ} → Serves unit F → Safe (wholeOf unit F) s (preprocessCall F s f u .lent .values)
 some-best-agrees F s f u e v =

@@ -109,10 +109,10 @@ module _ {F : Field} (S : Shaped F) {s : List ℕ} (start : StartFor (variables 
 
 module _ (F : Field) (s : List ℕ) (f : List Float) (u : List ℕ) (g : Grade) (e : preprocessCall F s f u .answer ≡ Done g)
     {i : ℕ} (free : Open (closure F s) i) {mine : List ℕ} (C : Component F true (closure F s) i mine) where
-  -- A variable that the closure leaves free has a value where its component has at most 10 of them,
+  -- Theorem. A variable that the closure leaves free has a value where its component has at most 10 of them.
   pub small-valued : length mine ≤ 10 → getD (preprocessCall F s f u .lent .values) i 0 < 2
   small-valued few = let S = values.ready _ F s f u g e .sound in rw (values-are F s f u g e) (model-small (S .shaped) (S .start) free C few)
 
-  -- and is still free where it has more.
+  -- Theorem. A variable that the closure leaves free is still free where its component has more than 10.
   pub large-kept : 10 < length mine → getD (preprocessCall F s f u .lent .values) i 0 ≡ 2
   large-kept many = let S = values.ready _ F s f u g e .sound in rw (values-are F s f u g e) (model-large (S .shaped) (S .start) free C many)

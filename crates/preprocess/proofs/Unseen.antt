@@ -78,7 +78,7 @@ frees-alike {F} S {s} {s′} start start′ E i = by (hasNoEffect F i) refl
     by false e = ap (λ (v : ℕ). eqb v 2) (preprocess-blind S start start′ E .at i e)
     by true e = ne-eqb _ 2 (idle-valued S start′ i e) ∙ sym (ne-eqb _ 2 (idle-valued S start i e))
 
--- The other variables end the same, whether those of no effect are free, 0 or 1 at the start.
+-- Theorem. The other variables end the same, whether those of no effect are free, 0 or 1 at the start.
 pub idle-unseen : (F : Field) (s s′ : List ℕ) (f f′ : List Float) (u u′ : List ℕ) (g g′ : Grade)
     → preprocessCall F s f u .answer ≡ Done g → preprocessCall F s′ f′ u′ .answer ≡ Done g′
     → SameElsewhere F s s′ → SameElsewhere F (preprocessCall F s f u .lent .values) (preprocessCall F s′ f′ u′ .lent .values)

@@ -18,7 +18,7 @@ use Rattle.no_effect.specs.Effect.{hasNoEffect}
 unfoldable pub fixAt : Bool → ℕ → List ℕ → List ℕ
 fixAt b i s = cond (b && isFree s i) (set s i 0) s
 
--- the variables below i
+-- The values after each variable below i that passes the test, and is free, has taken 0.
 unfoldable pub fixTo : (ℕ → Bool) → ℕ → List ℕ → List ℕ
 fixTo p zero s = s
 fixTo p (suc i) s = fixAt (p i) i (fixTo p i s)
@@ -43,7 +43,7 @@ pub record Closes (F : Field) (s u s′ u′ : List ℕ) : Type 0 where
   pub adjacent : Adjacent (variables F) (F .rows) (F .cols) u′
   pub words-long : length u′ ≡ length u
 
--- what all three leave
+-- What closure, components and the variables of no effect leave together, with the adjacency in its place.
 pub record Preprocesses (F : Field) (s s′ u′ : List ℕ) : Type 0 where
   pub values : s′ ≡ preprocess F s
   pub adjacent : Adjacent (variables F) (F .rows) (F .cols) u′

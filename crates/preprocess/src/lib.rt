@@ -50,7 +50,7 @@ pub fn work(
     components::solve(c, rows, cols, q, values, u);
 }
 
-// The values found go into the start values; a refusal changes nothing.
+// The values of closure, small components and no effect go into the start values; a refusal changes nothing.
 pub fn preprocess(
     c: &[f64],
     rows: &[u16],

@@ -39,7 +39,7 @@ use Rattle.run.proofs.Theorems as run
 use Rattle.probe.specs.Call.{probeTests, probeTable, Probable, newAt, newOnly, probeOne, givenBy, Gives, Left, left, probeOneCall, probeOneBy}
 use Rattle.probe.proofs.Laws.{probe-passes, never-room}
 
--- any two results that the promise permits are equal
+-- Theorem. Any two results that the promise permits are equal.
 pub one-result : (F : Field) (s : List ℕ) (i v : ℕ) (t : List ℕ) (f : List Float) (u : List ℕ) (x y : Left)
     → x ≡ probeOneCall F s i v t f u → y ≡ probeOneCall F s i v t f u → x ≡ y
 one-result F s i v t f u = any.one-result (probeOneCall F s i v t f u)
@@ -47,17 +47,17 @@ one-result F s i v t f u = any.one-result (probeOneCall F s i v t f u)
 module _ (F : Field) (s : List ℕ) (i v : ℕ) (t : List ℕ) (f : List Float) (u : List ℕ) where
   -- ---- DEMAND 1
 
-  -- The call is refused with r exactly if the tests before r's own pass, and its own fails.
+  -- Theorem. The call is refused with r exactly if the tests before r's own pass, and its own fails.
   pub refused-when : (r : Refusal) → (probeOneCall F s i v t f u .answer ≡ Refused r) ↔ FirstToFail (probeTable F s i v t (length f) (length u)) r
   unfolding probeOneBy probeTable table
   refused-when = usual.refused-when Refused _ _ _ _ same-refused done-apart refl
 
-  -- A refusal from 1 to 8 changes nothing lent.
+  -- Theorem. A refusal from 1 to 8 changes nothing lent.
   pub refused-leaves : (r : Refusal) → r ≢ Room → probeOneCall F s i v t f u .answer ≡ Refused r → probeOneCall F s i v t f u ≡ left (Refused r) t f u
   unfolding probeOneBy
   refused-leaves r n e = usual.refused-leaves Refused _ _ _ _ same-refused done-apart r (other-stage n no-stage) e
 
-  -- Refusal 9 is given exactly if those tests pass and the list is not n long,
+  -- Theorem. Refusal 9 is given exactly if those tests pass and the list is not n long.
   pub room-when : (probeOneCall F s i v t f u .answer ≡ Refused Room) ↔ (Probable F s i v (length f) (length u) × (length t ≢ variables F))
   unfolding probeOneBy
   room-when =
@@ -65,12 +65,12 @@ module _ (F : Field) (s : List ℕ) (i v : ℕ) (t : List ℕ) (f : List Float) 
       let p = probe-passes F s i v (length f) (length u) in
       ((λ e. (p .0 (w .0 e .0), eqb-false _ _ (w .0 e .1))), λ h. w .1 (p .1 (h .0), ne-eqb _ _ (h .1)))
 
-  -- and leaves the list and both scratches all zeros.
+  -- Theorem. On 9 the list and both scratches are all zeros.
   pub room-leaves : probeOneCall F s i v t f u .answer ≡ Refused Room → probeOneCall F s i v t f u ≡ left (Refused Room) (cleared 0 t) (cleared zero64 f) (cleared 0 u)
   unfolding probeOneBy
   room-leaves e = usual.later-leaves Refused _ _ _ _ same-refused done-apart Room _ (never-room F s i v (length f) (length u)) (this-stage no-stage) e
 
-  -- It is done exactly if the field, the start values, the variable, the value, both scratches and the list are as the table asks, and then gives the grade.
+  -- Theorem. It is done exactly if the field, the start values, the variable, the value, both scratches and the list are as the table asks, and then gives the grade.
   pub done-when : (probeOneCall F s i v t f u .answer ≡ Done (gradeOf F)) ↔ (Probable F s i v (length f) (length u) × (length t ≡ variables F))
   unfolding probeOneBy table
   done-when =
@@ -78,7 +78,7 @@ module _ (F : Field) (s : List ℕ) (i v : ℕ) (t : List ℕ) (f : List Float) 
       (group-is (probeTests F s i v (length f) (length u)) _ (probe-passes F s i v (length f) (length u)) (last-is Room _ (eq-is (length t) (variables F))))
 
   module _ (g : Grade) (e : probeOneCall F s i v t f u .answer ≡ Done g) where
-    -- Then the probe is in the list, and both scratches are all zeros.
+    -- Theorem. Then the probe is in the list, and both scratches are all zeros.
     pub done-leaves : probeOneCall F s i v t f u ≡ left (Done (gradeOf F)) (probeOne F s i v) (cleared zero64 f) (cleared 0 u)
     unfolding probeOneBy
     done-leaves = usual.done-leaves Refused _ _ _ _ same-refused done-apart (λ r z. done-apart r (sym e ∙ z))
@@ -111,16 +111,18 @@ module _ (F : Field) (s : List ℕ) (i v : ℕ) (t : List ℕ) (f : List Float) 
         ap (λ (x : List ℕ). getD x j 0) values-are
         ∙ getD-upTo (λ j. newAt (getD s j 0) (getD (closure F (set s i v)) j 0)) (length s) j 0 (omega (arith, probable .ready .sound .start .long))
 
-    -- The list is n long; where the start value is not free it has 2; elsewhere it has the value of the closure of the start values with
+    -- Theorem. The list is n long; where the start value is not free it has 2; elsewhere it has the value of the closure of the start values with
     -- the one value added, which at the probed variable is the probed value.
     pub start-left-out : (j : ℕ) → j < variables F → getD s j 0 ≢ 2 → getD (probeOneCall F s i v t f u .lent .values) j 0 ≡ 2
     unfolding newAt
     start-left-out j l n = at j l ∙ rw (ne-eqb _ 2 n)
 
+    -- Theorem. At each free variable the list has the value of the closure of the start values with the one value added.
     pub found-at : (j : ℕ) → j < variables F → getD s j 0 ≡ 2 → getD (probeOneCall F s i v t f u .lent .values) j 0 ≡ getD (closure F (set s i v)) j 0
     unfolding newAt
     found-at j l h = at j l ∙ rw (eq-eqb _ 2 h)
 
+    -- Theorem. At the probed variable the list has the probed value.
     pub probed-has-value : getD (probeOneCall F s i v t f u .lent .values) i 0 ≡ v
     probed-has-value =
         let p = probable in
@@ -136,7 +138,7 @@ exact-field F s i v t f u e =
     (shaped, exact-means F (shaped .rows-long) .0 (graded F s i v t f u Exact e))
 
 module _ (F : Field) (s : List ℕ) (i v : ℕ) (t : List ℕ) (f : List Float) (u : List ℕ) (e : probeOneCall F s i v t f u .answer ≡ Done Exact) where
-  -- the list is the closure over whole numbers, without the start values
+  -- Theorem. The list is the closure over whole numbers, without the start values.
   pub probe-closes : {unit : ℕ} → Serves unit F → Gives (wholeOf unit F) s i v (probeOneCall F s i v t f u .lent .values)
   unfolding givenBy
   probe-closes serving = let x = exact-field F s i v t f u e in record {
@@ -145,7 +147,7 @@ module _ (F : Field) (s : List ℕ) (i v : ℕ) (t : List ℕ) (f : List Float) 
     without = values-are F s i v t f u Exact e;
   }
 
-  -- DEMAND 3. Every best completion of the start values that has the probed value obeys every value of the list.
+  -- Theorem. DEMAND 3. Every best completion of the start values that has the probed value obeys every value of the list.
   pub best-obeys : {unit : ℕ} → Serves unit F → {x : List ℕ} → Best (wholeOf unit F) s x → getD x i 0 ≡ v → (j : ℕ) → j < variables F
       → getD (probeOneCall F s i v t f u .lent .values) j 0 < 2 → getD x j 0 ≡ getD (probeOneCall F s i v t f u .lent .values) j 0
   best-obeys serving {x} b h j l small = go (ℕ-discrete (getD s j 0) 2)

@@ -69,7 +69,7 @@ set-same i v e = rw e
 
 -- ---- the tests
 
--- 7 is not given exactly if the variable is below n and free, and the value is 0 or 1
+-- Theorem. 7 is not given exactly if the variable is below n and free, and the value is 0 or 1.
 pub may-mean : (n : ℕ) (s : List ℕ) (i v : ℕ) → (mayProbe n s i v ≡ true) ↔ ((i < n) × ((getD s i 0 ≡ 2) × (v ≤ 1)))
 unfolding mayProbe
 may-mean n s i v = both-is _ _ (lt-is i n) (both-is _ _ (eq-is _ 2) (le-is v 1))

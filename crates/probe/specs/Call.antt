@@ -30,7 +30,7 @@ use Rattle.run.specs.Run.{closure}
 unfoldable pub mayProbe : ℕ → List ℕ → ℕ → ℕ → Bool
 mayProbe n s i v = ltb i n && (isFree s i && leb v 1)
 
--- 1 to 8
+-- The tests of a single probe: 1 to 6, then 7 of variable and value, then 8.
 unfoldable pub probeTests : Field → List ℕ → ℕ → ℕ → ℕ → ℕ → List Test
 probeTests F s i v floats words =
     standardTests F s
@@ -43,7 +43,7 @@ probeTests F s i v floats words =
 unfoldable pub probeTable : Field → List ℕ → ℕ → ℕ → List ℕ → ℕ → ℕ → List Test
 probeTable F s i v t floats words = probeTests F s i v floats words ++ test Room (eqb (length t) (variables F)) ∷ []
 
--- what passing 1 to 8 leaves
+-- What passing 1 to 8 leaves: a ready field, a free variable below n, and a value of 0 or 1.
 pub record Probable (F : Field) (s : List ℕ) (i v floats words : ℕ) : Type 0 where
   pub ready : Ready F s floats words
   pub below : i < variables F
@@ -56,7 +56,7 @@ pub record Probable (F : Field) (s : List ℕ) (i v floats words : ℕ) : Type 0
 unfoldable pub newAt : ℕ → ℕ → ℕ
 newAt s v = cond (eqb s 2) v 2
 
--- the values of t without the start values
+-- The values that a probe finds, without the start values: 2 where the start value is not free.
 unfoldable pub newOnly : List ℕ → List ℕ → List ℕ
 newOnly s t = upTo (λ j. newAt (getD s j 0) (getD t j 0)) (length s)
 
@@ -88,6 +88,7 @@ pub record Gives (G : meaning.Field) (s : List ℕ) (i v : ℕ) (t : List ℕ) :
 abbrev pub Left : Type 0
 Left = values.Left
 
+-- What a single probe leaves, made of its answer, the list of values and both scratches.
 abbrev pub left : Answer → List ℕ → List Float → List ℕ → Left
 left r t f u = values.left r t f u
 

@@ -2,6 +2,7 @@
 use Prim.Native.Nat.{ℕ, zero, suc}
 use Rattle.meaning.specs.Kinds.{at-least-one, exactly-one, no-more-than-one, greater-than, less-than, equal, Constraint, joining}
 
+-- What the two probes of a variable find of another: nothing, a value, or a constraint between the two.
 pub data Finding : Type 0 where
   nothing : Finding
   value : ℕ → Finding

@@ -36,7 +36,7 @@ fn work(
     run::close(c, rows, cols, q, values, f, u);
 }
 
-// What the probe of a variable at a value finds goes into the values; a refusal before 9 changes nothing.
+// What the probe of a variable at a value finds, with rows made afresh, goes into the values; a refusal before 9 changes nothing.
 pub fn cold_probe_one(
     c: &[f64],
     rows: &[u16],

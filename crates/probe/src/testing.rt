@@ -22,7 +22,7 @@ fn may_probe(n: usize, start: &[u8], variable: usize, value: u8) -> bool
     value <= 1
 }
 
-// 1 to 8
+// Makes tests 1 to 8 of a single probe, 7 of its variable and its value among them.
 pub fn ready_to_probe(
     c: &[f64],
     rows: &[u16],

@@ -36,7 +36,7 @@ use Rattle.probes.specs.Call.{allRecords, allValues, Left, left, fits, f
 use Rattle.probes.specs.Says.{DoneSays}
 
 module _ (F : Field) (s cands t k : List ℕ) (f : List Float) (u : List ℕ) where
-  -- any two results that the promise permits are equal
+  -- Theorem. Any two results that the promise permits are equal.
   pub one-result : (x y : Left) → x ≡ candidatesCall F s cands t k f u → y ≡ candidatesCall F s cands t k f u → x ≡ y
   one-result = any.one-result (candidatesCall F s cands t k f u)
 
@@ -67,17 +67,17 @@ module _ (F : Field) (s cands t k : List ℕ) (f : List Float) (u : List ℕ) wh
 
   -- ---- refusals
 
-  -- DEMAND 1. The call is refused with r exactly if the tests before r's own pass, and its own fails.
+  -- Theorem. DEMAND 1. The call is refused with r exactly if the tests before r's own pass, and its own fails.
   pub refused-when : (r : Refusal) → (candidatesCall F s cands t k f u .answer ≡ Refuses r) ↔ FirstToFail (candidatesTable F s cands t k (length f) (length u)) r
   unfolding candidatesBy candidatesTable table
   refused-when = usual.refused-when Refuses _ _ _ _ same-refuses counts-apart refl
 
-  -- A refusal from 1 to 8 changes nothing lent.
+  -- Theorem. A refusal from 1 to 8 changes nothing lent.
   pub refused-leaves : (r : Refusal) → r ≢ Room → candidatesCall F s cands t k f u .answer ≡ Refuses r → candidatesCall F s cands t k f u ≡ left (Refuses r) t k f u
   unfolding candidatesBy
   refused-leaves r n e = usual.refused-leaves Refuses _ _ _ _ same-refuses counts-apart r (other-stage n no-stage) e
 
-  -- 9 is given exactly if the tests before it pass, and the value list is not n long or the records, merged by pair, are more than the list has room for.
+  -- Theorem. 9 is given exactly if the tests before it pass, and the value list is not n long or the records, merged by pair, are more than the list has room for.
   pub room-when : (candidatesCall F s cands t k f u .answer ≡ Refuses Room)
       ↔ (Ready F s (length f) (length u) × ((length t ≢ variables F) ⊎ (room k < length (allRecords F s cands))))
   unfolding candidatesBy
@@ -86,7 +86,7 @@ module _ (F : Field) (s cands t k : List ℕ) (f : List Float) (u : List ℕ) wh
       let p = ready-passes F s (length f) (length u) in
       ((λ e. (p .0 (w .0 e .0), no-fit (w .0 e .1))), λ h. w .1 (p .1 (h .0), fit-no (h .1)))
 
-  -- It leaves both answer lists and both scratches all zeros.
+  -- Theorem. It leaves both answer lists and both scratches all zeros.
   pub room-leaves : candidatesCall F s cands t k f u .answer ≡ Refuses Room
       → candidatesCall F s cands t k f u ≡ left (Refuses Room) (cleared 0 t) (cleared 0 k) (cleared zero64 f) (cleared 0 u)
   unfolding candidatesBy
@@ -104,7 +104,7 @@ module _ (F : Field) (s cands t k : List ℕ) (f : List Float) (u : List ℕ) wh
   unfolding candidatesBy
   ended e = usual.done-leaves Refuses _ _ _ _ same-refuses counts-apart (λ r z. counts-apart r (sym e ∙ z))
 
-  -- The call is done exactly if every test passes, and then gives the grade and the number of records.
+  -- Theorem. The call is done exactly if every test passes, and then gives the grade and the number of records.
   pub done-when : (g : Grade) (items : ℕ) → (candidatesCall F s cands t k f u .answer ≡ Counts g items) ↔ DoneSays F s cands t k f u g items
   done-when g items = (
     λ e.
@@ -118,7 +118,7 @@ module _ (F : Field) (s cands t k : List ℕ) (f : List Float) (u : List ℕ) wh
   )
 
   module _ (g : Grade) (items : ℕ) (e : candidatesCall F s cands t k f u .answer ≡ Counts g items) where
-    -- Then the probe values are in the value list, the records at the front of their list, and both scratches are all zeros.
+    -- Theorem. Then the probe values are in the value list, the records at the front of their list, and both scratches are all zeros.
     pub done-leaves : candidatesCall F s cands t k f u ≡ left (Counts g items) (allValues F s cands) (filled (allRecords F s cands) k) (cleared zero64 f) (cleared 0 u)
     done-leaves =
         let d = done-when g items .0 e in

@@ -28,7 +28,7 @@ use Rattle.probes.specs.Rule.{FreeCandidates}
 use Rattle.probes.proofs.Members.{at-in}
 use Rattle.probes.proofs.Candidates.{full-free, limited-free}
 
--- THE EQUATION, over the single probe: on every field, exact or not, a probe with remembered rows leaves what one with rows made afresh leaves.
+-- Theorem. THE EQUATION, over the single probe: on every field, exact or not, a probe with remembered rows leaves what one with rows made afresh leaves.
 pub routes-agree : Agrees fast
 routes-agree F S s start i v free small = probe-is-closure S start i v free small
 
@@ -108,12 +108,15 @@ module _ {R : Route} (agrees : Agrees R) where
 
 -- ---- THE CALLS, on every input, refusals and 9 included: the answer, each answer list and both scratches
 
+-- Theorem. The fast and the cold single probe answer and leave the same, on every input.
 pub one-routes : (F : Field) (s : List ℕ) (i v : ℕ) (t : List ℕ) (f : List Float) (u : List ℕ) → probeOneBy fast F s i v t f u ≡ probeOneBy cold F s i v t f u
 one-routes = one-by routes-agree
 
+-- Theorem. The fast and the cold probe of all free variables answer and leave the same, on every input.
 pub probe-routes : (F : Field) (s t k : List ℕ) (f : List Float) (u : List ℕ) → probeBy fast F s t k f u ≡ probeBy cold F s t k f u
 probe-routes = probe-by routes-agree
 
+-- Theorem. The fast and the cold probe of some candidates answer and leave the same, on every input.
 pub limited-routes : (F : Field) (s : List ℕ) (limit : ℕ) (t k : List ℕ) (f : List Float) (u : List ℕ)
     → probeLimitedBy fast F s limit t k f u ≡ probeLimitedBy cold F s limit t k f u
 limited-routes = limited-by routes-agree

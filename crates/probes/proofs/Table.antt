@@ -27,6 +27,7 @@ same-constraint e = cc
 value-constraint : {w : ℕ} {c : Constraint} {A : Type 0} → value w ≡ constraint c → A
 value-constraint e = let z : _≡_ {A = ℕ} 0 1 = cc in absurd (omega arith)
 
+-- Theorem. Every constraint that two values of a variable give by the program's table is one of the meaning's.
 pub tabled : (i j a b : ℕ) → a ≤ 2 → b ≤ 2 → {c : Constraint} → found i j a b ≡ constraint c → Tabled i j a b c
 unfolding found
 tabled i j zero zero l m e = value-constraint e
@@ -39,6 +40,7 @@ tabled i j (suc (suc a)) zero l m e = let z : suc (suc a) ≡ 2 = omega arith in
 tabled i j (suc (suc a)) (suc zero) l m e = let z : suc (suc a) ≡ 2 = omega arith in record { kind = less-than; finds = rw z one-gives-1; is = sym (same-constraint e) }
 tabled i j (suc (suc a)) (suc (suc b)) l m e = none-constraint e
 
+-- Theorem. Every line of the meaning's table is one of the program's: the two values give just that constraint.
 pub table-finds : (i j : ℕ) {a b : ℕ} {k : Kind} → Found a b k → found i j a b ≡ constraint (joining k i j)
 unfolding found
 table-finds i j both-equal = refl

@@ -30,6 +30,7 @@ use Rattle.finding.specs.Finds.{recordsFoundBy, valuesFoundBy}
 unfoldable pub allRecordsBy : Route → Field → List ℕ → List ℕ → List Record
 allRecordsBy R F s cands = mergedList (recordsFoundBy R F s cands (length cands))
 
+-- The records that a list of candidates finds, merged by pair, with rows made afresh for each probe.
 abbrev pub allRecords : Field → List ℕ → List ℕ → List Record
 allRecords = allRecordsBy cold
 
@@ -37,25 +38,28 @@ allRecords = allRecordsBy cold
 unfoldable pub allValuesBy : Route → Field → List ℕ → List ℕ → List ℕ
 allValuesBy R F s cands = valuesFoundBy R F s cands (length cands)
 
+-- The probe values that a list of candidates finds, with rows made afresh for each probe.
 abbrev pub allValues : Field → List ℕ → List ℕ → List ℕ
 allValues = allValuesBy cold
 
 -- ---- the call
 
--- the four lent lists
+-- What is lent to a probe of many: the values, the constraints, the floats and the words.
 pub record Lent : Type 0 where
   pub values : List ℕ
   pub constraints : List ℕ
   pub floats : List Float
   pub words : List ℕ
 
+-- The lent lists of a probe of many in one record: the values, the constraints, the floats and the words.
 abbrev pub lent : List ℕ → List ℕ → List Float → List ℕ → Lent
 lent t k f u = record { values = t; constraints = k; floats = f; words = u }
 
--- the answer, and the four lent lists afterwards
+-- The answer of a probe of many candidates, and its four lent lists afterwards.
 abbrev pub Left : Type 0
 Left = any.Left Counted Lent
 
+-- What a probe of many candidates leaves, made of its answer and its four lent lists.
 abbrev pub left : Counted → List ℕ → List ℕ → List Float → List ℕ → Left
 left r t k f u = any.left r (lent t k f u)
 
@@ -63,10 +67,11 @@ left r t k f u = any.left r (lent t k f u)
 unfoldable pub fitsBy : Route → Field → List ℕ → List ℕ → List ℕ → List ℕ → Bool
 fitsBy R F s cands t k = eqb (length t) (variables F) && leb (length (allRecordsBy R F s cands)) (room k)
 
+-- Whether both answer lists have room for what the candidates find, with rows made afresh.
 abbrev pub fits : Field → List ℕ → List ℕ → List ℕ → List ℕ → Bool
 fits = fitsBy cold
 
--- tests 1 to 6 and 8, then 9
+-- The whole table of a probe of many candidates: 1 to 6 and 8, then 9.
 unfoldable pub candidatesTable : Field → List ℕ → List ℕ → List ℕ → List ℕ → ℕ → ℕ → List Test
 candidatesTable F s cands t k floats words = readyTests F s floats words ++ test Room (fits F s cands t k) ∷ []
 
@@ -79,15 +84,16 @@ abbrev pub resultBy : Route → Field → List ℕ → List ℕ → List ℕ →
 resultBy R F s cands k f u =
     left (Counts (gradeOf F) (length (allRecordsBy R F s cands))) (allValuesBy R F s cands) (filled (allRecordsBy R F s cands) k) (cleared zero64 f) (cleared 0 u)
 
--- the call over any list of candidates
+-- The call over any list of candidates, by the route R: its tests, room, and what they find.
 unfoldable pub candidatesBy : Route → Field → List ℕ → List ℕ → List ℕ → List ℕ → List Float → List ℕ → Left
 candidatesBy R F s cands t k f u =
     called (usual Refuses (lent t k f u) (readyTests F s (length f) (length u)) (laterBy R F s cands t k f u) (resultBy R F s cands k f u))
 
+-- The call over any list of candidates, with rows made afresh for each probe.
 abbrev pub candidatesCall : Field → List ℕ → List ℕ → List ℕ → List ℕ → List Float → List ℕ → Left
 candidatesCall = candidatesBy cold
 
--- every free variable
+-- The call `probe` by the route R: every free variable is a candidate.
 unfoldable pub probeBy : Route → Field → List ℕ → List ℕ → List ℕ → List Float → List ℕ → Left
 probeBy R F s t k f u = candidatesBy R F s (freeTo s (variables F)) t k f u
 

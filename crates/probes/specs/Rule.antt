@@ -81,7 +81,7 @@ pub record LastGives (R : ℕ → ℕ → Type 0) (cands : List ℕ) (count w : 
   pub gives : R (getD cands turn 0) w
   pub later-none : (k v : ℕ) → turn < k → k < count → R (getD cands k 0) v → ⊥
 
--- none of them gives any
+-- None of the first `count` candidates gives any value.
 pub record NoneGives (R : ℕ → ℕ → Type 0) (cands : List ℕ) (count : ℕ) : Type 0 where
   pub none : (k v : ℕ) → k < count → R (getD cands k 0) v → ⊥
 

@@ -13,15 +13,15 @@ use Rattle.field.specs.Tests.{Ready}
 use Rattle.field.specs.Grade.{gradeOf}
 use Rattle.probes.specs.Call.{allRecords, Left}
 
--- the first `items` records of the list that a call leaves
+-- The first `items` records of the list of constraints that a probe of many leaves.
 abbrev pub listed : ℕ → Left → List Record
 listed items x = take items (records (x .lent .constraints))
 
--- the value for j that it leaves
+-- The value for variable j that a probe of many leaves in the list of values.
 abbrev pub valueAt : ℕ → Left → ℕ
 valueAt j x = getD (x .lent .values) j 0
 
--- what an answer of done says
+-- When a probe of many is done, and with what: every test passes, and the answer is grade and count.
 pub record DoneSays (F : Field) (s cands t k : List ℕ) (f : List Float) (u : List ℕ) (g : Grade) (items : ℕ) : Type 0 where
   pub ready : Ready F s (length f) (length u)
   pub values-long : length t ≡ variables F

@@ -144,6 +144,7 @@ module _ {F : Field} (S : Shaped F) {s : List ℕ} (start : StartFor (variables 
       (λ e. e .0 ∙ getD-upTo (rowOf F s) (variables F) t noRow l ∙ sym (row-elsewhere S s i v t (z .0) (e .1)))
       (fresh-or-kept F i run (places (F .rows) (F .cols) i) t h (omega (arith, length-upTo (rowOf F s) (variables F))))
 
+  -- Theorem. A run from rows that are afresh at the neighbours alone reaches the values and the queue of the closure's run.
   pub fresh-agrees : let run = fresh F (remembered F s (set s i v)) i in
       (propagate F (run .values) (run .rows) .values ≡ closureRun F (set s i v) .values) × (propagate F (run .values) (run .rows) .queue ≡ closureRun F (set s i v) .queue)
   unfolding closureRun fresh remembered

@@ -154,7 +154,7 @@ module _ {u : ℕ} {F : Field} (shaped : Shaped F) (exact : ExactIn u F) {s : Li
       turns (F .rows) (F .cols) 0 (remembered F s after) (shaped .rows-long ∙ sym (shaped .cols-long)) (zero-add _ ∙ shaped .rows-long)
       (λ j. ap (rowEnd F) (sym (zero-add j))) (λ j. ap (columnEnd F) (sym (zero-add j))) begin
 
-  -- The moved rows are worth low and high at the values.
+  -- Theorem. The moved rows are worth low and high at the values.
   pub moved-rows-worth : RowsWorth u F (set s i v) (moves F v (remembered F s (set s i v)) i .rows)
   moved-rows-worth t h =
       let m = all-moved in
@@ -170,7 +170,7 @@ module _ {u : ℕ} {F : Field} (shaped : Shaped F) (exact : ExactIn u F) {s : Li
     ];
   }
 
-  -- So the run from there has the values and the queue of the closure with the one value added.
+  -- Theorem. So the run from there has the values and the queue of the closure with the one value added.
   pub moved-agrees : let run = moves F v (remembered F s (set s i v)) i in
       (propagate F (run .values) (run .rows) .values ≡ closureRun F (set s i v) .values) × (propagate F (run .values) (run .rows) .queue ≡ closureRun F (set s i v) .queue)
   unfolding closureRun

@@ -65,11 +65,11 @@ module _ {F : Field} (S : Shaped F) {s : List ℕ} (start : StartFor (variables 
       go true e = moved-agrees S (exact-means F (S .rows-long) .0 (told-exact F e) .exact) start i v free small
       go false e = fresh-agrees S start i v free small
 
-  -- On every field, exact or not, a probe with remembered rows gives the closure of the start values with the one value added.
+  -- Theorem. On every field, exact or not, a probe with remembered rows gives the closure of the start values with the one value added.
   pub probe-is-closure : probeRun F s i v .values ≡ closure F (set s i v)
   unfolding closure
   probe-is-closure = probe-agrees .0
 
-  -- It forces the same variables in the same order.
+  -- Theorem. It forces the same variables in the same order.
   pub probe-queue : probeRun F s i v .queue ≡ closureRun F (set s i v) .queue
   probe-queue = probe-agrees .1

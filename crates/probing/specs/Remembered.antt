@@ -27,6 +27,7 @@ use Rattle.probing.specs.declared.Known.{Known}
 abbrev pub addPlace : List ℕ → List ℕ → List Float → List ℕ → ℕ → Row → ℕ → Row
 addPlace rows cols q s t r k = addTerm r (mul binary64 half64 (getD q k nan)) (getD s (otherEnd rows cols t k) 0)
 
+-- Row r of variable t with the term of each of these places added, in order.
 unfoldable pub addPlaces : Field → List ℕ → ℕ → Row → List ℕ → Row
 addPlaces F s t r [] = r
 addPlaces F s t r (k ∷ ks) = addPlaces F s t (addPlace (F .rows) (F .cols) (F .quad) s t r k) ks
@@ -50,11 +51,12 @@ freshAt F i run k =
     let t = otherEnd (F .rows) (F .cols) i k in
     cond (isFree run t) (freshRow F run t) run
 
+-- The run with the row of each free other end of these places of i made afresh, in order.
 unfoldable pub freshAll : Field → ℕ → Run → List ℕ → Run
 freshAll F i run [] = run
 freshAll F i run (k ∷ ks) = freshAll F i (freshAt F i run k) ks
 
--- every place of i, rising
+-- The run with the rows of all free neighbours of i made afresh.
 unfoldable pub fresh : Field → Run → ℕ → Run
 fresh F run i = freshAll F i run (places (F .rows) (F .cols) i)
 
@@ -64,17 +66,18 @@ fresh F run i = freshAll F i run (places (F .rows) (F .cols) i)
 unfoldable pub moveAt : Field → ℕ → ℕ → Run → ℕ → Run
 moveAt F i v run k = moveRow run (otherEnd (F .rows) (F .cols) i k) (coeffOf F k) v
 
+-- The run with the term of i, whose value is v, moved in the row at each of these places, in order.
 unfoldable pub moveAll : Field → ℕ → ℕ → Run → List ℕ → Run
 moveAll F i v run [] = run
 moveAll F i v run (k ∷ ks) = moveAll F i v (moveAt F i v run k) ks
 
--- every place of i, rising
+-- The run with the term of i, at the value v, moved in the rows of all its neighbours.
 unfoldable pub moves : Field → ℕ → Run → ℕ → Run
 moves F v run i = moveAll F i v run (places (F .rows) (F .cols) i)
 
 -- ---- a probe
 
--- a grade as a test
+-- Whether a grade is exact, as a test.
 unfoldable pub exactBy : Grade → Bool
 exactBy Exact = true
 exactBy Inexact = false

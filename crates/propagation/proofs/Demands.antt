@@ -33,7 +33,7 @@ use Rattle.literals.proofs.Rules.{listed-ends}
 use Rattle.propagation.proofs.Means.{ready-is}
 use Rattle.propagation.proofs.Laws.{never-clash}
 
--- any two results that the promise permits are equal
+-- Theorem. Any two results that the promise permits are equal.
 pub one-result : (s list u : List ℕ) (x y : Left) → x ≡ propagateCall s list u → y ≡ propagateCall s list u → x ≡ y
 one-result s list u = any.one-result (propagateCall s list u)
 
@@ -47,17 +47,17 @@ gives s (done t) e = refl
 gives s clash e = let z : _≡_ {A = ℕ} 0 1 = cc in absurd (omega arith)
 
 module _ (s list u : List ℕ) where
-  -- It is refused with r exactly if the tests before r's own pass, and its own fails: 10 is the last.
+  -- Theorem. It is refused with r exactly if the tests before r's own pass, and its own fails: 10 is the last.
   pub refused-when : (r : Refusal) → (propagateCall s list u .answer ≡ Failed r) ↔ FirstToFail (propagationTable s list (length u)) r
   unfolding propagateCall table
   refused-when = usual.refused-when Failed _ _ _ _ same-failed passed-apart refl
 
-  -- One of 1 to 8 changes nothing lent.
+  -- Theorem. One of 1 to 8 changes nothing lent.
   pub refused-leaves : (r : Refusal) → r ≢ Clash → propagateCall s list u .answer ≡ Failed r → propagateCall s list u ≡ left (Failed r) s u
   unfolding propagateCall
   refused-leaves r n e = usual.refused-leaves Failed _ _ _ _ same-failed passed-apart r (other-stage n no-stage) e
 
-  -- It answers 10 exactly if all tests pass and literal closure holds some variable both ways.
+  -- Theorem. It answers 10 exactly if all tests pass and literal closure holds some variable both ways.
   pub clash-when : (propagateCall s list u .answer ≡ Failed Clash) ↔ (Ready s list (length u) × BothWays (rules list) s)
   unfolding propagateCall
   clash-when =
@@ -66,12 +66,12 @@ module _ (s list u : List ℕ) where
         λ h. t .1 (ready-is s list (length u) .1 (h .0), ap agrees (propagation-clash (records list) s (listed-ends (h .0 .listed)) (h .0 .small) .1 (h .1))),
       )
 
-  -- That leaves the start values as they were, and zeros in all of the scratch.
+  -- Theorem. That leaves the start values as they were, and zeros in all of the scratch.
   pub clash-leaves : propagateCall s list u .answer ≡ Failed Clash → propagateCall s list u ≡ left (Failed Clash) s (cleared 0 u)
   unfolding propagateCall
   clash-leaves e = usual.later-leaves Failed _ _ _ _ same-failed passed-apart Clash _ (never-clash s list (length u)) (this-stage no-stage) e
 
-  -- Then no completion of the start values meets every record.
+  -- Theorem. Then no completion of the start values meets every record.
   pub clash-means : propagateCall s list u .answer ≡ Failed Clash → {x : List ℕ} → Completion s x → ((r : Record) → List·Memᴰ r (records list) → MeetsRecord x r) → ⊥
   clash-means e full meets =
       let b = clash-when .0 e .1 in
@@ -93,17 +93,17 @@ module _ (s list u : List ℕ) where
     unfolding propagateCall
     leaves-all = usual.done-leaves Failed _ _ _ _ same-failed passed-apart (λ r z. passed-apart r (sym e ∙ z))
 
-    -- the scratch is all zeros,
+    -- Theorem. When it is done, the scratch is all zeros.
     pub done-leaves : propagateCall s list u ≡ left Passed (propagateCall s list u .lent .values) (cleared 0 u)
     done-leaves = rw leaves-all
 
-    -- and the values are exactly the literals that hold.
+    -- Theorem. When it is done, the values are exactly the literals that hold.
     pub values-settle : Settled (rules list) s (propagateCall s list u .lent .values)
     values-settle =
         rw leaves-all
         (propagation-done (records list) s (listed-ends (done-ready .listed)) (done-ready .small) (valuesIn s (propagate (rules list) s)) .0 (gives s _ (passed .0 e .1)))
 
-    -- A completion of the start values that meets every record has every value that it gives.
+    -- Theorem. A completion of the start values that meets every record has every value that it gives.
     pub completion-has : {x : List ℕ} → Completion s x → ((r : Record) → List·Memᴰ r (records list) → MeetsRecord x r) → Extends (propagateCall s list u .lent .values) x
     completion-has {x} full meets = record { as-long = long; kept = λ i. kept i (decLt i (length (propagateCall s list u .lent .values))) }
       where
@@ -115,7 +115,7 @@ module _ (s list u : List ℕ) where
         kept i (no h) =
             inr (List·getD-eq-default x 0 {n = i} (omega (arith, long)) ∙ sym (List·getD-eq-default (propagateCall s list u .lent .values) 0 {n = i} (omega arith)))
 
-  -- It is done exactly if all tests pass and no variable is held both ways.
+  -- Theorem. It is done exactly if all tests pass and no variable is held both ways.
   pub done-when : (propagateCall s list u .answer ≡ Passed) ↔ (Ready s list (length u) × (BothWays (rules list) s → ⊥))
   done-when = (
     λ e. (done-ready e, λ b. passed-apart Clash (sym e ∙ clash-when .1 (done-ready e, b))),
@@ -126,7 +126,7 @@ module _ (s list u : List ℕ) where
       free clash n = absurd (n refl)
       free (done t) n = refl
 
--- Two lists of equal meaning, in whatever order, merged or not, get one answer and leave the same.
+-- Theorem. Two lists of equal meaning, in whatever order, merged or not, get one answer and leave the same.
 pub same-meaning : (s list list′ u : List ℕ) → Ready s list (length u) → Ready s list′ (length u) → SameBans (records list) (records list′) → propagateCall s list u ≡ propagateCall s list′ u
 same-meaning s list list′ u r r′ h = go (propagate (rules list) s) refl
   where
@@ -143,7 +143,7 @@ same-meaning s list list′ u r r′ h = go (propagate (rules list) s) refl
     go clash e = refuses list r e ∙ sym (refuses list′ r′ (sym same ∙ e))
     go (done t) e = gives-all list t r e ∙ sym (gives-all list′ t r′ (sym same ∙ e))
 
--- The literals that hold are exactly those of the constraints whose records the list has, merged or not.
+-- Theorem. The literals that hold are exactly those of the constraints whose records the list has, merged or not.
 pub constraints-hold : (s list : List ℕ) (cs : List Constraint) → Apart cs → SameBans (records list) (map recordOf cs) → (i v : ℕ) → Holds (rules list) s i v ↔ Holds (implications cs) s i v
 constraints-hold s list cs apart h i v =
     let a = same-literals h {s = s} {i = i} {v = v} in

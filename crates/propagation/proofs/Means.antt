@@ -20,6 +20,7 @@ use Rattle.constraints.specs.Record.{room, recordAt, Fit}
 use Rattle.literals.specs.Listed.{Listed, Ready}
 use Rattle.propagation.specs.Tests.{fits, allFit, constraintsFit, propagationTests}
 
+-- Theorem. A record passes the test exactly if its set is 1 to 15, and its ends rise and are below n.
 pub fits-is : (n : ℕ) (x : Record) → (fits n x ≡ true) ↔ Fit n x
 fits-is n x =
     let t = both-is _ _ (lt-is 0 (x .set)) (both-is _ _ (lt-is (x .set) 16) (both-is _ _ (lt-is (x .lower) (x .higher)) (lt-is (x .higher) n))) in (
@@ -27,7 +28,7 @@ fits-is n x =
       λ f. t .1 (f .proper .some, (f .proper .four, (f .rising, f .below))),
     )
 
--- 7
+-- Theorem. 7 is not given exactly if the list has whole records, not too many, each of which fits.
 pub listed-is : (n : ℕ) (list : List ℕ) → (constraintsFit n list ≡ true) ↔ Listed n list
 unfolding constraintsFit allFit
 listed-is n list =
@@ -47,7 +48,7 @@ small-is s =
       λ h. t .1 (refl, λ i l. h i),
     )
 
--- 1, 6, 7 and 8
+-- Theorem. 1, 6, 7 and 8 pass exactly if the start values, the records and the scratch are as the table asks.
 pub ready-is : (s list : List ℕ) (words : ℕ) → (tested (propagationTests s list words) ≡ Passed) ↔ Ready s list words
 unfolding propagationTests fewVariables wordsFit
 ready-is s list words =

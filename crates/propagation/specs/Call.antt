@@ -14,11 +14,12 @@ use Rattle.calls.specs.Call.{called, stage, usual}
 use Rattle.propagation.specs.Tests.{propagationTests}
 use Rattle.literals.specs.Ends.{rules}
 
--- whether literal closure holds no variable both ways, and the values that it then gives
+-- Whether literal closure holds no variable both ways, so that the call is done.
 abbrev pub agrees : Answer → Bool
 agrees (done t) = true
 agrees clash = false
 
+-- The values that literal closure gives; the start values where it is a clash.
 abbrev pub valuesIn : List ℕ → Answer → List ℕ
 valuesIn s (done t) = t
 valuesIn s clash = s
@@ -27,18 +28,20 @@ valuesIn s clash = s
 abbrev pub propagationTable : List ℕ → List ℕ → ℕ → List Test
 propagationTable s list words = propagationTests s list words ++ test Clash (agrees (propagate (rules list) s)) ∷ []
 
--- the two lent lists
+-- What is lent to `propagate`: the start values and the words.
 pub record Lent : Type 0 where
   pub values : List ℕ
   pub words : List ℕ
 
+-- The lent lists of `propagate` in one record: the start values and the words.
 abbrev pub lent : List ℕ → List ℕ → Lent
 lent s u = record { values = s; words = u }
 
--- the answer, and the two lent lists afterwards
+-- The answer of `propagate`, and its two lent lists afterwards.
 abbrev pub Left : Type 0
 Left = any.Left Checked Lent
 
+-- What the call `propagate` leaves, made of its answer and its two lent lists.
 abbrev pub left : Checked → List ℕ → List ℕ → Left
 left r s u = any.left r (lent s u)
 

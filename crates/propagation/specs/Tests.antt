@@ -15,6 +15,7 @@ use Rattle.constraints.specs.Record.{room, recordAt}
 abbrev pub fits : ℕ → Record → Bool
 fits n x = ltb 0 (x .set) && (ltb (x .set) 16 && (ltb (x .lower) (x .higher) && ltb (x .higher) n))
 
+-- Whether every record of the list fits: its set is 1 to 15, and its ends rise and are below n.
 unfoldable pub allFit : ℕ → List ℕ → Bool
 allFit n list = allBelow (λ t. fits n (recordAt list t)) (room list)
 
@@ -22,7 +23,7 @@ allFit n list = allBelow (λ t. fits n (recordAt list t)) (room list)
 unfoldable pub constraintsFit : ℕ → List ℕ → Bool
 constraintsFit n list = leb (length list) 196608 && (eqb (length list % 3) 0 && allFit n list)
 
--- 1, 6, 7 and 8
+-- The tests of `propagate` before a clash: 1, 6, 7 and 8.
 unfoldable pub propagationTests : List ℕ → List ℕ → ℕ → List Test
 propagationTests s list words =
     test Variables (fewVariables (length s))

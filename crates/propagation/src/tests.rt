@@ -43,7 +43,7 @@ fn all_fit(n: usize, list: &[u16]) -> bool
     true
 }
 
-// 7
+// Test 7: whole records, at most 65,536, each with a set of 1 to 15 and rising ends below n.
 pub fn constraints_fit(n: usize, list: &[u16]) -> bool
     ensures { λ r. ⌜ r ≡ constraintsFit n (before list) ⌝ }
 {
@@ -56,7 +56,7 @@ pub fn constraints_fit(n: usize, list: &[u16]) -> bool
     all_fit(n, list)
 }
 
-// 1, 6, 7 and 8
+// Makes tests 1, 6, 7 and 8 of `propagate`, in this order.
 pub fn ready(start: &[u8], list: &[u16], words: usize) -> Checked
     ensures { λ r. ⌜ r ≡ tested (propagationTests (before start) (before list) words) ⌝ }
 {

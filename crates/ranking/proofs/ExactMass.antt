@@ -56,6 +56,7 @@ module _ {u : ℕ} {F : Field} (S : Shaped F) (x : Serves u F) (s : List ℕ) wh
         (λ r c. x .exact .standard k (omega arith) (eqb-true (rowEnd F k) i r ∙ sym (eqb-true (columnEnd F k) i c)))
         (mass-to-worth k (omega arith)) (magnitude-worth (quad-worth (x .exact) k (omega arith))) (omega (arith, edges-under k (omega arith), size-under k (omega arith)))
 
+    -- Theorem. On an exact field the edge mass that is added in f64 is the edge mass in whole numbers.
     pub mass-worth : Worth (suc u) (massOf F s i) (edge-mass (wholeOf u F) s i)
     unfolding massOf
     mass-worth = mass-to-worth (entries F) (omega arith)
@@ -109,7 +110,7 @@ module _ {first : ℕ → ℕ → Bool} {P : ℕ → ℕ → Type 0} (same : (i 
 
 -- ---- the ranks
 
--- the ranks are a ranking by the edge mass in whole numbers, and the only one
+-- Theorem. The ranks are a ranking by the edge mass in whole numbers, and the only one.
 pub ranks-exact : {u : ℕ} {F : Field} → Shaped F → Finite F → Serves u F → (s l : List ℕ) → (l ≡ ranks F s) ↔ RankedByMass (wholeOf u F) s l
 ranks-exact {u} {F} S N x s l = (
   (λ e.

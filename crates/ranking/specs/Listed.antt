@@ -8,6 +8,7 @@ use lib.ListN.{length, getD, take}
 use Rattle.scratch.specs.Region.{region}
 use Rattle.meaning.specs.Free.{freeTo}
 
+-- How far a start value moves the end of the list of free variables: 1 where it is 2, else 0.
 unfoldable pub stepOf : ℕ → ℕ
 stepOf v = cond (eqb v 2) 1 0
 

@@ -5,7 +5,7 @@ ghost use lib.ListN.{length};
 ghost use Rattle.scratch.specs.Lent.{before, after};
 ghost use Rattle.ranking.specs.Listed.{stepOf, Listed};
 
-// 1 for a free variable.
+// How far a start value moves the end of the list: 1 for a free variable, 0 for another.
 pub fn step(value: u8) -> usize
     ensures { λ r. ⌜ r ≡ stepOf value ⌝ }
     ensures { λ r. ⌜ r ≤ 1 ⌝ }

@@ -17,11 +17,11 @@ use Rattle.reaching.proofs.Via.{reaches-exactly}
 use Rattle.reaching.proofs.Picked.{first-within, named-both, picked-least}
 
 module _ (l : List Record) {n : ℕ} (ends : Ends n l) where
-  -- After a stage for each literal the rows say exactly which literal reaches which.
+  -- Theorem. After a stage for each literal the rows say exactly which literal reaches which.
   pub rows-reach : (i v j w : ℕ) → v < 2 → w < 2 → (reaches (rulesOf l) n (literal i v) (literal j w) ≡ true) ↔ Reach (rulesOf l) i v j w
   rows-reach = reaches-exactly (rules-fit l ends)
 
-  -- Some assignment meets every record exactly if no variable has literals that reach each other.
+  -- Theorem. Some assignment meets every record exactly if no variable has literals that reach each other.
   pub allowed-exactly : ((x : List ℕ) × MeetsAll l n x) ↔ ((i : ℕ) → i < n → Contradictory (rulesOf l) i → ⊥)
   allowed-exactly = (λ s i h b. contradictory-none b (meets-allows (s .1)), λ never. go never (decLt (firstContradictory (reaches (rulesOf l) n) n) n))
     where

@@ -10,7 +10,7 @@ use Rattle.meaning.specs.Literal.{Implication}
 abbrev pub literal : ℕ → ℕ → ℕ
 literal i v = 2 * i + v
 
--- a test as a number
+-- The value of a test: 1 where it passes, 0 where it does not.
 abbrev pub bit : Bool → ℕ
 bit b = cond b 1 0
 
@@ -19,7 +19,7 @@ unfoldable pub arrow : List Implication → ℕ → ℕ → Bool
 arrow [] a b = false
 arrow (e ∷ E) a b = (eqb (literal (e .from) (e .when)) a && eqb (literal (e .to) (e .gives)) b) || arrow E a b
 
--- in at most one step
+-- Whether literal a leads to literal b in at most one step.
 unfoldable pub within : List Implication → ℕ → ℕ → Bool
 within E a b = eqb a b || arrow E a b
 
@@ -28,7 +28,7 @@ unfoldable pub via : (ℕ → ℕ → Bool) → ℕ → ℕ → ℕ → Bool
 via r zero a b = r a b
 via r (suc k) a b = via r k a b || (via r k a k && via r k k b)
 
--- among the literals of n variables
+-- Whether one literal of n variables reaches another by the implications E.
 abbrev pub reaches : List Implication → ℕ → ℕ → ℕ → Bool
 reaches E n = via (within E) (2 * n)
 
@@ -54,12 +54,12 @@ picked r (suc i) = picked r i ++ (bit (must r (picked r i) i) ∷ [])
 unfoldable pub contradicts : (ℕ → ℕ → Bool) → ℕ → Bool
 contradicts r i = r (literal i 0) (literal i 1) && r (literal i 1) (literal i 0)
 
--- the lowest such variable below n, or n
+-- The lowest variable below n each of whose literals leads to the other, or n where there is none.
 unfoldable pub firstContradictory : (ℕ → ℕ → Bool) → ℕ → ℕ
 firstContradictory r zero = 0
 firstContradictory r (suc n) = cond (ltb (firstContradictory r n) n) (firstContradictory r n) (cond (contradicts r n) n (suc n))
 
--- how many numbers below n pass
+-- How many of the numbers below n pass, as a row's bits are counted.
 unfoldable pub countBelow : (ℕ → Bool) → ℕ → ℕ
 countBelow p zero = 0
 countBelow p (suc n) = countBelow p n + bit (p n)

@@ -45,24 +45,24 @@ use Rattle.reason.proofs.Listed.{listed-at, listed-in, listed-rises, on
 use Rattle.reason.proofs.Theorems.{basis-value, reason-says, says-same}
 use Rattle.reason.proofs.Ranks.{listed-below, ending}
 
--- any two results that the promise permits are equal
+-- Theorem. Any two results that the promise permits are equal.
 pub one-result : (F : Field) (s : List ℕ) (i : ℕ) (l : List ℕ) (f : List Float) (u : List ℕ) (x y : Left) → x ≡ reasonCall F s i l f u → y ≡ reasonCall F s i l f u → x ≡ y
 one-result F s i l f u = any.one-result (reasonCall F s i l f u)
 
 -- ---- answers
 
 module _ (F : Field) (s : List ℕ) (i : ℕ) (l : List ℕ) (f : List Float) (u : List ℕ) where
-  -- The call is refused with r exactly if the tests before r's own pass, and its own fails: the closure's tests, then 12, 13 and 9.
+  -- Theorem. The call is refused with r exactly if the tests before r's own pass, and its own fails: the closure's tests, then 12, 13 and 9.
   pub refused-when : (r : Refusal) → (reasonCall F s i l f u .answer ≡ Refuses r) ↔ FirstToFail (reasonTests F s i l (length f) (length u)) r
   unfolding reasonCall reasonTests table
   refused-when = usual.refused-when Refuses _ _ _ _ same-refuses because-apart refl
 
-  -- A refusal by the closure's tests changes nothing lent.
+  -- Theorem. A refusal by the closure's tests changes nothing lent.
   pub refused-leaves : (r : Refusal) → r ≢ Inexact → r ≢ Unforced → r ≢ Room → reasonCall F s i l f u .answer ≡ Refuses r → reasonCall F s i l f u ≡ left (Refuses r) l f u
   unfolding reasonCall
   refused-leaves r a b c e = usual.refused-leaves Refuses _ _ _ _ same-refuses because-apart r (other-stage a (other-stage b (other-stage c no-stage))) e
 
-  -- 12 is given exactly if those tests pass and the field is inexact,
+  -- Theorem. 12 is given exactly if those tests pass and the field is inexact.
   pub inexact-when : (reasonCall F s i l f u .answer ≡ Refuses Inexact) ↔ (Ready F s (length f) (length u) × (gradeOf F ≡ NotExact))
   unfolding reasonCall table
   inexact-when =
@@ -71,7 +71,7 @@ module _ (F : Field) (s : List ℕ) (i : ℕ) (l : List ℕ) (f : List Float) (u
       let x = exact-false F in
       ((λ e. (p .0 (t .0 e .0), x .0 (first-inexact (t .0 e .1)))), λ h. t .1 (p .1 (h .0), fails (x .1 (h .1))))
 
-  -- 13 exactly if they pass, the field is exact, and the variable is not below n or free in the closure,
+  -- Theorem. 13 exactly if they pass, the field is exact, and the variable is not below n or free in the closure.
   pub unforced-when : (reasonCall F s i l f u .answer ≡ Refuses Unforced)
       ↔ (Ready F s (length f) (length u) × ((gradeOf F ≡ Exact) × (i < variables F → getD (closure F s) i 0 ≡ 2)))
   unfolding reasonCall table
@@ -82,7 +82,7 @@ module _ (F : Field) (s : List ℕ) (i : ℕ) (l : List ℕ) (f : List Float) (u
       let v = value-false F s i in
       ((λ e. let h = first-unforced (t .0 e .1) in (p .0 (t .0 e .0), (x .0 (h .0), v .0 (h .1)))), λ h. t .1 (p .1 (h .0), passes (x .1 (h .1 .0)) (fails (v .1 (h .1 .1)))))
 
-  -- and both leave the list as it was, and the scratch as zeros.
+  -- Theorem. 12 and 13 leave the list as it was, and the scratch as zeros.
   pub later-leaves : (r : Refusal) → (r ≡ Inexact) ⊎ (r ≡ Unforced) → reasonCall F s i l f u .answer ≡ Refuses r
       → reasonCall F s i l f u ≡ left (Refuses r) l (cleared zero64 f) (cleared 0 u)
   unfolding reasonCall
@@ -91,7 +91,7 @@ module _ (F : Field) (s : List ℕ) (i : ℕ) (l : List ℕ) (f : List Float) (u
   later-leaves r (inr same) e = rw same (usual.later-leaves Refuses _ _ _ _ same-refuses because-apart Unforced _ (never-unforced F s (length f) (length u))
       (other-stage (apart-numbers (λ z. omega arith)) (this-stage (other-stage (apart-numbers (λ z. omega arith)) no-stage))) (rw same at e))
 
-  -- 9 is given exactly if all that passes, and more are listed than the list has places,
+  -- Theorem. 9 is given exactly if all that passes, and more are listed than the list has places.
   pub room-when : (reasonCall F s i l f u .answer ≡ Refuses Room) ↔ (Reasonable F s i (length f) (length u) × (length l < length (reasonList F s i)))
   unfolding reasonCall table fits
   room-when =
@@ -105,13 +105,13 @@ module _ (F : Field) (s : List ℕ) (i : ℕ) (l : List ℕ) (f : List Float) (u
         λ h. t .1 (p .1 (h .0 .ready), passes (x .1 (h .0 .exact)) (passes (v .1 (h .0 .below, h .0 .fixed)) (fails (lt-leb _ _ (h .1))))),
       )
 
-  -- and leaves the list all zeros, and the scratch.
+  -- Theorem. On 9 the list and the scratch are all zeros.
   pub room-leaves : reasonCall F s i l f u .answer ≡ Refuses Room → reasonCall F s i l f u ≡ left (Refuses Room) (cleared 0 l) (cleared zero64 f) (cleared 0 u)
   unfolding reasonCall
   room-leaves e = usual.later-leaves Refuses _ _ _ _ same-refuses because-apart Room _ (never-room F s (length f) (length u))
       (other-stage (apart-numbers (λ z. omega arith)) (other-stage (apart-numbers (λ z. omega arith)) (this-stage no-stage))) e
 
-  -- It is done exactly if all that passes, and the list has room.
+  -- Theorem. It is done exactly if all that passes, and the list has room.
   pub done-when : (reasonCall F s i l f u .answer ≡ because F s i) ↔ (Reasonable F s i (length f) (length u) × (length (reasonList F s i) ≤ length l))
   unfolding reasonCall table fits
   done-when =
@@ -125,12 +125,12 @@ module _ (F : Field) (s : List ℕ) (i : ℕ) (l : List ℕ) (f : List Float) (u
   -- ---- an answer: its ground g, its unit k and its m items
 
   module _ {g : Ground} {k m : ℕ} (e : reasonCall F s i l f u .answer ≡ Because g k m) where
-    -- The items are at the front of the list, the rest of it is unchanged, and the scratch is all zeros.
+    -- Theorem. The items are at the front of the list, the rest of it is unchanged, and the scratch is all zeros.
     pub done-leaves : reasonCall F s i l f u ≡ left (because F s i) (over (reasonList F s i) l) (cleared zero64 f) (cleared 0 u)
     unfolding reasonCall
     done-leaves = usual.done-leaves Refuses _ _ _ _ same-refuses because-apart (λ r z. because-apart r (sym e ∙ z))
 
-    -- The field and the start values are as the table asks, the field is exact, and the variable has a value in the closure.
+    -- Theorem. The field and the start values are as the table asks, the field is exact, and the variable has a value in the closure.
     pub reasonable : Reasonable F s i (length f) (length u)
     reasonable = done-when .0 (ap (λ (x : Left). x .answer) done-leaves) .0
 
@@ -146,21 +146,22 @@ module _ (F : Field) (s : List ℕ) (i : ℕ) (l : List ℕ) (f : List Float) (u
     unit-is : k + finest ≡ unitOf F
     unit-is = omega (arith, answer-is .1 .0, serving .from)
 
-    -- THE UNIT: the field is exact in it, and it is the smallest in which it is.
+    -- Theorem. THE UNIT: the field is exact in it, and it is the smallest in which it is.
     pub unit-serves : Serves (k + finest) F
     unit-serves = rw unit-is serving
 
+    -- Theorem. No unit that serves the field is smaller than the one that is answered.
     pub unit-smallest : {v : ℕ} → Serves v F → k + finest ≤ v
     unit-smallest h = rw unit-is (unit-least h)
 
-    -- A given variable: no bound, and nothing listed.
+    -- Theorem. A given variable: no bound, and nothing listed.
     pub given-says : getD s i 0 ≢ 2 → (g ≡ Given) × (m ≡ 0)
     unfolding reasonOf reasonList
     given-says n = (answer-is .0 ∙ rw (ne-eqb (getD s i 0) 2 n) refl, answer-is .1 .1 ∙ rw (ne-eqb (getD s i 0) 2 n) refl)
 
     -- ---- the items
 
-    -- They rise,
+    -- Theorem. They rise.
     pub items-rise : (t : ℕ) → suc t < m → item F s i l f u t < item F s i l f u (suc t)
     unfolding reasonList listedOf
     items-rise t h = rw (item-is t (omega arith), item-is (suc t) h) (go (isFree s i) (omega (arith, answer-is .1 .1)))
@@ -169,14 +170,14 @@ module _ (F : Field) (s : List ℕ) (i : ℕ) (l : List ℕ) (f : List Float) (u
         go true h = listed-rises F (basis F s i) i (variables F) t (suc t) (omega arith) h
         go false h = absurd (omega arith)
 
-    -- each has a reason of its own, and a lower rank: so it is given, or is forced earlier in the run,
+    -- Theorem. Each item has a reason of its own and a lower rank: so it is given, or is forced earlier in the run.
     pub items-below : (t : ℕ) → t < m → Reasonable F s (item F s i l f u t) (length f) (length u) × (rank F s (item F s i l f u t) < rank F s i)
     items-below t h =
         let r = reasonable in
         let x = listed-below (r .ready .sound .shaped) (serving .exact) (r .ready .sound .start) i (r .fixed) t (omega (arith, answer-is .1 .1)) in
         rw (item-is t h) (record { ready = r .ready; exact = r .exact; below = x .0; fixed = x .1 .0 }, x .1 .1)
 
-    -- and following reasons ends.
+    -- Theorem. Following reasons ends.
     pub reasons-end : Ends F s i
     reasons-end = let r = reasonable in ending (r .ready .sound .shaped) (serving .exact) (r .ready .sound .start) i (r .fixed)
 
@@ -193,12 +194,12 @@ module _ (F : Field) (s : List ℕ) (i : ℕ) (l : List ℕ) (f : List Float) (u
       place-is : (t : ℕ) → t < m → item F s i l f u t ≡ getD (listedOf F (basis F s i) i) t 0
       place-is t h = item-is t h ∙ ap (λ (x : List ℕ). getD x t 0) list-is
 
-      -- Each item is a neighbour that the bound counts as fixed, given or served in the run by then, ..
+      -- Theorem. Each item is a neighbour that the bound counts as fixed, given or served in the run by then,.
       pub items-listed : (t : ℕ) → t < m → isListed F (basis F s i) i (item F s i l f u t) ≡ true
       unfolding listedOf
       items-listed t h = rw (place-is t h) (listed-at F (basis F s i) i (variables F) t (omega (arith, count-is)) .1)
 
-      -- .. and each such neighbour is an item.
+      -- Theorem. Each neighbour that the bound counts as fixed is an item.
       pub listed-items : (j : ℕ) → j < variables F → isListed F (basis F s i) i j ≡ true → (t : ℕ) × ((t < m) × (item F s i l f u t ≡ j))
       unfolding listedOf
       listed-items j b h =
@@ -206,7 +207,7 @@ module _ (F : Field) (s : List ℕ) (i : ℕ) (l : List ℕ) (f : List Float) (u
           let c : a .0 < m = omega (arith, count-is, a .1) in
           (a .0, (c, place-is (a .0) c ∙ a .2))
 
-      -- THE BOUND: with only the listed values fixed, and all else free, it is low or high of the variable, in half units, and it is strict on the side of its value.
+      -- Theorem. THE BOUND: with only the listed values fixed, and all else free, it is low or high of the variable, in half units, and it is strict on the side of its value.
       pub bound-says : {x : List ℕ} → Only (variables F) m (item F s i l f u) (closure F s) x → Says (wholeOf (k + finest) F) x i (getD (closure F s) i 0) g
       unfolding listedOf
       bound-says {x} o =
@@ -220,7 +221,7 @@ module _ (F : Field) (s : List ℕ) (i : ℕ) (l : List ℕ) (f : List Float) (u
           (says-same (same-gradient F i (basis F s i) x (unitOf F) (r .ready .sound .shaped) (only-joined F (basis F s i) i (closure F s) (basis-value F (r .ready .sound .start) i) at))
           (reason-says (r .ready .sound .shaped) serving (r .ready .sound .start) i free (r .fixed) (r .below)))
 
-      -- There are such values.
+      -- Theorem. There are such values.
       pub some-only : (x : List ℕ) × Only (variables F) m (item F s i l f u) (closure F s) x
       unfolding listedOf
       some-only =

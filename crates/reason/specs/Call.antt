@@ -25,19 +25,21 @@ use Rattle.reason.specs.declared.Reasoned.{Reasoned}
 use Rattle.reason.specs.declared.Reasoned.the-variants.{Because, Refuses}
 use Rattle.reason.specs.Ground.{leastUnit, reasonOf, reasonList}
 
--- the three lent lists
+-- What is lent to `reason`: the list of neighbours, the floats and the words.
 pub record Lent : Type 0 where
   pub list : List ℕ
   pub floats : List Float
   pub words : List ℕ
 
+-- The lent lists of `reason` in one record: the list of neighbours, the floats and the words.
 abbrev pub lent : List ℕ → List Float → List ℕ → Lent
 lent l f u = record { list = l; floats = f; words = u }
 
--- the answer, and the three lent lists afterwards
+-- The answer of `reason`, and its three lent lists afterwards.
 abbrev pub Left : Type 0
 Left = any.Left Reasoned Lent
 
+-- What the call `reason` leaves, made of its answer and its three lent lists.
 abbrev pub left : Reasoned → List ℕ → List Float → List ℕ → Left
 left r l f u = any.left r (lent l f u)
 
@@ -45,7 +47,7 @@ left r l f u = any.left r (lent l f u)
 unfoldable pub hasValue : Field → List ℕ → ℕ → Bool
 hasValue F s i = ltb i (variables F) && not (isFree (closure F s) i)
 
--- what passing all but 9 leaves
+-- What passing all but 9 leaves: a ready and exact field, and a variable with a value in the closure.
 pub record Reasonable (F : Field) (s : List ℕ) (i floats words : ℕ) : Type 0 where
   pub ready : Ready F s floats words
   pub exact : gradeOf F ≡ Exact
@@ -68,21 +70,22 @@ laterStages F s i l f u =
     ∷ stage Room (fits F s i l) (lent (cleared 0 l) (cleared zero64 f) (cleared 0 u))
     ∷ []
 
--- the ground, the unit, and the neighbours at the front of the list; what stands behind the last is as it was
+-- The answer when done: the ground with its bound, the unit, and how many neighbours are listed.
 abbrev pub because : Field → List ℕ → ℕ → Reasoned
 because F s i = Because (reasonOf F s i) (leastUnit F) (length (reasonList F s i))
 
+-- The call: 1 to 6 and 8, then 12, 13 and 9, then the reason, with the neighbours at the front of the list.
 unfoldable pub reasonCall : Field → List ℕ → ℕ → List ℕ → List Float → List ℕ → Left
 reasonCall F s i l f u =
     called
     (usual Refuses (lent l f u) (readyTests F s (length f) (length u)) (laterStages F s i l f u)
     (left (because F s i) (over (reasonList F s i) l) (cleared zero64 f) (cleared 0 u)))
 
--- the table's number of an answer
+-- The table's number of an answer of `reason`: 0 with a reason, else that of the refusal.
 abbrev pub reasonedNumber : Reasoned → ℕ
 reasonedNumber (Because g k m) = 0
 reasonedNumber (Refuses r) = numberOf r
 
--- item t of the list that is left
+-- Item t of the list of neighbours that `reason` leaves.
 abbrev pub item : Field → List ℕ → ℕ → List ℕ → List Float → List ℕ → ℕ → ℕ
 item F s i l f u t = getD (reasonCall F s i l f u .lent .list) t 0

@@ -13,7 +13,7 @@ use Rattle.field.specs.Field.{Field, variables, entries, rowEnd, columnEnd}
 abbrev pub joinsAt : Field → ℕ → ℕ → ℕ → Bool
 joinsAt F i j k = (eqb (rowEnd F k) i && eqb (columnEnd F k) j) || (eqb (columnEnd F k) i && eqb (rowEnd F k) j)
 
--- one of the first k entries does
+-- Whether one of the first k entries joins i to j.
 unfoldable pub joinsTo : Field → ℕ → ℕ → ℕ → Bool
 joinsTo F i j zero = false
 joinsTo F i j (suc k) = joinsTo F i j k || joinsAt F i j k
@@ -22,11 +22,12 @@ joinsTo F i j (suc k) = joinsTo F i j k || joinsAt F i j k
 unfoldable pub isListed : Field → List ℕ → ℕ → ℕ → Bool
 isListed F r i j = not (isFree r j) && joinsTo F i j (entries F)
 
--- those below n, rising
+-- The neighbours of i below n that have a value in r, rising.
 unfoldable pub listedTo : Field → List ℕ → ℕ → ℕ → List ℕ
 listedTo F r i zero = []
 listedTo F r i (suc n) = listedTo F r i n ++ cond (isListed F r i n) (n ∷ []) []
 
+-- The neighbours of i that have a value in r, over all variables of the field, rising.
 unfoldable pub listedOf : Field → List ℕ → ℕ → List ℕ
 listedOf F r i = listedTo F r i (variables F)
 

@@ -77,14 +77,15 @@ pub record Told : Type 0 where
   pub answer : Reasoned
   pub list : List ℕ
 
+-- What the call says past its tests, made of the answer and the answer list.
 abbrev pub told : Reasoned → List ℕ → Told
 told r l = record { answer = r; list = l }
 
--- 9 where the list has no room
+-- The ground with the listed neighbours where the list has room, and 9 where it has none.
 unfoldable pub fitted : Ground → ℕ → List ℕ → List ℕ → Told
 fitted g k listed l = cond (leb (length listed) (length l)) (told (Because g k (length listed)) (over listed l)) (told (Refuses Room) (cleared 0 l))
 
--- 13 where no bound is strict
+-- The answer for a ground and its neighbours: 13 where no bound is strict, else what fits the list.
 unfoldable pub withList : Ground → ℕ → List ℕ → List ℕ → Told
 withList Given k listed l = told (Refuses Unforced) l
 withList (Lower b) k listed l = fitted (Lower b) k listed l
@@ -94,10 +95,10 @@ withList (Upper b) k listed l = fitted (Upper b) k listed l
 unfoldable pub freeTold : Field → List ℕ → ℕ → ℕ → List ℕ → Told
 freeTold F s i k l = withList (groundOf k (judgeOf (rowOf F (basis F s i) i))) k (listedOf F (basis F s i) i) l
 
--- any: 13 where there is no such variable
+-- The answer for any variable of an exact field: 13 where there is no such variable.
 unfoldable pub toldOf : Field → List ℕ → ℕ → ℕ → List ℕ → Told
 toldOf F s i k l = cond (ltb i (variables F)) (cond (isFree s i) (freeTold F s i k l) (told (Because Given k 0) l)) (told (Refuses Unforced) l)
 
--- 12 where the field is not exact
+-- The answer past the tests: 12 where the field is not exact.
 unfoldable pub gradedTold : Field → List ℕ → ℕ → List ℕ → Told
 gradedTold F s i l = cond (isExact F) (toldOf F s i (leastUnit F) l) (told (Refuses Inexact) l)

@@ -65,7 +65,7 @@ fn answer_free(
     finish(ground, unit, values, list)
 }
 
-// Any variable of an exact field.
+// Answers for any variable of an exact field, and lists its neighbours where there is room.
 pub fn answer(
     c: &[f64],
     rows: &[u16],

@@ -53,7 +53,7 @@ fn in_half_units(x: f64, unit: u8) -> f64
     times(0.5, unit - 21, x)
 }
 
-// What a conclusion rests on.
+// The ground of a conclusion, with its bound counted in half units of 2^(unit - 20).
 pub fn explain(found: Conclusion, unit: u8) -> Ground
     ensures { λ r. ⌜ r ≡ groundOf unit (found .verdict) ⌝ }
 {

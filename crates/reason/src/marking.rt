@@ -44,7 +44,7 @@ fn counted(count: usize, v: u8) -> usize
     count + 1
 }
 
-// How many are marked.
+// How many values are marked as listed neighbours.
 pub fn count_marked(values: &[u8]) -> usize
     requires { ⌜ length (now values) ≤ 4096 ⌝ }
     ensures { λ r. ⌜ r ≡ length (threes (before values) (length (before values))) ⌝ }

@@ -207,7 +207,7 @@ pub spelled-parsed : {s : List ℕ} {u : Told} {rest : List ℕ} → Spells s no
 unfolding parsed
 spelled-parsed {s} {u} {rest} w = complete (w .told) s 0 (suc (length s)) rest (w .bytes) (omega arith) (omega arith)
 
--- a field is answered exactly if it is spelled at the front, and `end` is the index behind it
+-- Theorem. A field is answered exactly if it is spelled at the front, and `end` is the index behind it.
 pub parsed-means : (s : List ℕ) → ((i : ℕ) → getD s i 0 < 256) → (u : Told) (end : ℕ) → end ≤ length s
     → (parsed s ≡ outcome true u end) ↔ Spells s nothing u (drop end s)
 unfolding parsed
@@ -216,7 +216,7 @@ parsed-means s bytes u end h = (
   λ w. spelled-parsed w ∙ ap (outcome true u) (omega (arith, length-drop end s)),
 )
 
--- the field is all of the input exactly if that is well-formed
+-- Theorem. The field is all of the input exactly if that is well-formed.
 pub whole-means : (s : List ℕ) → ((i : ℕ) → getD s i 0 < 256) → (u : Told) → (parsed s ≡ outcome true u (length s)) ↔ WellFormed s u
 whole-means s bytes u =
     let none-left : drop (length s) s ≡ [] = drop-of-length-le s {i = length s} (omega arith) in

@@ -17,11 +17,12 @@ use Rattle.records.specs.declared.parsing.Turn.the-variants.{On, Stop}
 
 -- ---- the call
 
+-- The answer of `parse`: how many variables and entries are told and the index behind the field, or that the input is refused.
 abbrev pub answerOf : Bool → Told → ℕ → Parsed
 answerOf true t end = Field (length (t .linear)) (length (t .quad)) end
 answerOf false t end = Refused
 
--- five lists
+-- Five lists in one record: the field's four and the start values.
 abbrev pub listsOf : List Float → List ℕ → List ℕ → List Float → List ℕ → Told
 listsOf c rows cols q start = record { linear = c; rows = rows; cols = cols; quad = q; start = start }
 
@@ -45,6 +46,7 @@ pub record Parses (s : List ℕ) (p : Told) (r : Parsed) (p′ : Told) : Type 0 
 
 -- ---- a step
 
+-- Where the reading stands, made of the index of the next record and how many variables and entries are told.
 abbrev pub tally : ℕ → ℕ → ℕ → Tally
 tally at n m = record { at = at; variables = n; entries = m }
 
@@ -52,16 +54,20 @@ tally at n m = record { at = at; variables = n; entries = m }
 abbrev pub stored : {A : Type 0} → Bool → ℕ → A → List A → List A
 stored b i x l = cond b (set l i x) l
 
+-- What follows a record: reading goes on with this tally where it is allowed, and stops where it is not.
 abbrev pub goOn : Bool → Tally → Turn
 goOn b t = cond b (On t) (Stop Refused)
 
+-- What one step leaves: whether reading goes on, and the five lent lists.
 pub record Noted : Type 0 where
   pub turn : Turn
   pub lists : Told
 
+-- The result of a step, made of whether reading goes on and of the five lists.
 abbrev pub noted : Turn → Told → Noted
 noted r p = record { turn = r; lists = p }
 
+-- One record noted: its numbers go into the lists where they are allowed, and the tally follows.
 unfoldable pub note : Record → Tally → Told → Noted
 note (Weight x next) t p =
     let b = mayDeclare (t .variables) in

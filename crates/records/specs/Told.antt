@@ -19,9 +19,11 @@ pub record Told : Type 0 where
   pub quad : List Float
   pub start : List ℕ
 
+-- The field that the records of an input tell, without its start values.
 abbrev pub fieldTold : Told → Field
 fieldTold t = fieldOf (t .linear) (t .rows) (t .cols) (t .quad)
 
+-- What is told before the first record: no variable and no entry.
 abbrev pub nothing : Told
 nothing = record { linear = []; rows = []; cols = []; quad = []; start = [] }
 
@@ -29,16 +31,19 @@ nothing = record { linear = []; rows = []; cols = []; quad = []; start = [] }
 abbrev pub withWeight : Float → Told → Told
 withWeight x t = record { linear = t .linear ++ x ∷ []; rows = t .rows; cols = t .cols; quad = t .quad; start = t .start ++ 2 ∷ [] }
 
+-- What is told, with one entry more: its row, its column and its pair weight.
 abbrev pub withEntry : ℕ → ℕ → Float → Told → Told
 withEntry row col x t = record { linear = t .linear; rows = t .rows ++ row ∷ []; cols = t .cols ++ col ∷ []; quad = t .quad ++ x ∷ []; start = t .start }
 
+-- What is told, with the start value b for variable v in place of free.
 abbrev pub withGiven : ℕ → ℕ → Told → Told
 withGiven v b t = record { linear = t .linear; rows = t .rows; cols = t .cols; quad = t .quad; start = set (t .start) v b }
 
--- up to 256 variables and 1,024 entries
+-- Whether one variable more may be declared: up to 256 in all.
 abbrev pub mayDeclare : ℕ → Bool
 mayDeclare variables = ltb variables 256
 
+-- Whether one entry more may be told by the records: up to 1,024 in all.
 abbrev pub mayEnter : ℕ → Bool
 mayEnter entries = ltb entries 1024
 
@@ -52,6 +57,7 @@ pub record Outcome : Type 0 where
   pub told : Told
   pub end : ℕ
 
+-- The outcome of a reading, made of whether a field was read, what was told and the index behind it.
 abbrev pub outcome : Bool → Told → ℕ → Outcome
 outcome b t end = record { whole = b; told = t; end = end }
 
@@ -60,9 +66,11 @@ pub data Turned : Type 0 where
   more : Told → ℕ → Turned
   ended : Bool → Told → ℕ → Turned
 
+-- The reading ends at a record that is not well-formed or not allowed: no field was read.
 abbrev pub fault : Told → Turned
 fault t = ended false t 0
 
+-- What one record adds to what is told, or the end: a record that is not allowed is a fault.
 unfoldable pub taken : Record → Told → Turned
 taken (Weight x next) t = cond (mayDeclare (length (t .linear))) (more (withWeight x t) (next .at)) (fault t)
 taken (Entry row col x next) t = cond (mayEnter (length (t .quad))) (more (withEntry row col x t) (next .at)) (fault t)
@@ -70,6 +78,7 @@ taken (Given v b next) t = cond (mayGive v b (length (t .linear)) (t .start)) (m
 taken (End next) t = ended true t (next .at)
 taken Malformed t = fault t
 
+-- What is read on after a record, where the reading goes on, and the outcome where it has ended.
 abbrev pub following : (ℕ → Told → Outcome) → Turned → Outcome
 following read (more t at) = read at t
 following read (ended b t end) = outcome b t end

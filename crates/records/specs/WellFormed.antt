@@ -19,6 +19,7 @@ spell (weight bits) = 86 ∷ 67 ∷ bytesOf 8 bits
 spell (entry row col bits) = 81 ∷ 69 ∷ (bytesOf 2 row ++ (bytesOf 2 col ++ bytesOf 8 bits))
 spell (given variable value) = 70 ∷ 88 ∷ (bytesOf 2 variable ++ (value ∷ []))
 
+-- The bytes of a list of items, one after another, with ZZ behind them.
 unfoldable pub spelled : List Item → List ℕ
 spelled [] = 90 ∷ 90 ∷ []
 spelled (i ∷ is) = spell i ++ spelled is
@@ -50,6 +51,6 @@ pub record Spells (s : List ℕ) (t u : Told) (rest : List ℕ) : Type 0 where
 abbrev pub longestInput : ℕ
 longestInput = 18178
 
--- a field that tells u is all of s
+-- The input s is well-formed and tells u: it spells fine items, from nothing told on, and ends with ZZ.
 abbrev pub WellFormed : List ℕ → Told → Type 0
 WellFormed s u = Spells s nothing u []

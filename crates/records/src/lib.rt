@@ -19,6 +19,7 @@ const FX: u64 = 0x5846;
 
 const ZZ: u64 = 0x5a5a;
 
+// A place in the input: the index of the byte at which the next record begins.
 pub struct Cursor {
     pub at: usize,
 }
@@ -80,6 +81,7 @@ fn given_record(bytes: &[u8], at: usize) -> Record
 }
 
 impl Cursor {
+    // Reads the record at this place; one that is cut short or has no known mark is malformed.
     pub fn read(self, bytes: &[u8]) -> Record
         ensures { λ r. ⌜ r ≡ readAt (before bytes) (self .at) ⌝ }
     {

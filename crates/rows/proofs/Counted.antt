@@ -42,7 +42,7 @@ module _ {u : ℕ} {F : Field} (exact : ExactIn u F) where
     high-under = bound-under max0 (max0-under (2 ^ 31))
 
     module _ {s : List ℕ} (start : StartFor (variables F) s) where
-      -- at every prefix of the entries
+      -- Theorem. After every prefix of the entries a row is worth its two bounds over that prefix, in whole numbers.
       pub row-to-worth : (k : ℕ) → k ≤ entries F → RowWorth u (rowTo F s i k) (boundTo min0 u F (view s) i k) (boundTo max0 u F (view s) i k)
       unfolding rowTo atEntry sum
       row-to-worth zero l =
@@ -61,6 +61,7 @@ module _ {u : ℕ} {F : Field} (exact : ExactIn u F) where
           let first = end-worth (row-to-worth k (omega arith)) (omega arith) (omega arith) x small i r (getD s c 0) (start .small c) in
           as-row (end-worth first (omega arith) (omega arith) x small i c (getD s r 0) (start .small r)) (omega arith) (omega arith)
 
+      -- Theorem. On an exact field the row of i is worth low and high of the field in whole numbers.
       pub row-worth : RowWorth u (rowOf F s i) (low (wholeOf u F) s i) (high (wholeOf u F) s i)
       unfolding rowOf
       row-worth = row-to-worth (entries F) (omega arith)
@@ -71,7 +72,7 @@ module _ {u : ℕ} {F : Field} (exact : ExactIn u F) where
       pub upper-test : lt (rowOf F s i .upper) zero64 ≡ ltb (high (wholeOf u F) s i .plus) (high (wholeOf u F) s i .less)
       upper-test = below-zero (row-worth .upper)
 
-      -- the verdict on the row forces the value that the meaning forces
+      -- Theorem. The verdict on the row forces the value that the meaning forces.
       pub value-is : valueOf (judgeOf (rowOf F s i)) ≡ verdict (wholeOf u F) s i
       unfolding verdict
       value-is = value-worth row-worth

@@ -53,6 +53,6 @@ module _ {F : Field} {s : List ℕ} where
       → ((rowEnd F k < length s) × (columnEnd F k < length s)) × ((variables F + rowEnd F k < length f) × (variables F + columnEnd F k < length f))
   ends-in ready k h = omega (arith, ready .shaped .row-below k h, ready .shaped .column-below k h)
 
--- THE PROMISE OF `fill` IS TIGHT: any two results that it permits are equal
+-- Theorem. THE PROMISE OF `fill` IS TIGHT: any two results that it permits are equal.
 pub filled-unique : (F : Field) (s : List ℕ) {f₀ f f₁ : List Float} → Filled F s f₀ f → Filled F s f₀ f₁ → f ≡ f₁
 filled-unique F s a b = written-unique a b

@@ -53,15 +53,18 @@ module _ {u : ℕ} {t q : Float} {a c d : Whole} (h : Worth u t a) (k : Worth u 
 -- ---- the operations: bounds within 2^50 leave room for a coefficient within 2^31
 
 module _ {u : ℕ} {r : Row} {a b : Whole} (h : RowWorth u r a b) (near-a : Under (2 ^ 50) a) (near-b : Under (2 ^ 50) b) {q : Float} {c : Whole} (k : Worth u q c) (small : Under (2 ^ 31) c) where
+  -- Theorem. Adding a free end adds min(q, 0) to the lower number and max(q, 0) to the upper one.
   pub add-free-worth : RowWorth u (addFree r q) (a ⊕ min0 c) (b ⊕ max0 c)
   add-free-worth = record { lower = add-picked (h .lower) k _ (picks-min k) (omega arith); upper = add-picked (h .upper) k _ (picks-max k) (omega arith) }
 
+  -- Theorem. Removing a free end takes min(q, 0) from the lower number and max(q, 0) from the upper one.
   pub remove-free-worth : RowWorth u (removeFree r q) (a ⊖ min0 c) (b ⊖ max0 c)
   remove-free-worth = record { lower = sub-picked (h .lower) k _ (picks-min k) (omega arith); upper = sub-picked (h .upper) k _ (picks-max k) (omega arith) }
 
   fixed-by : (v : ℕ) {d : Whole} → Worth u (mul binary64 q (ofInt binary64 (pos v))) d → Under (2 ^ 31) d → RowWorth u (addFixed r q v) (a ⊕ d) (b ⊕ d)
   fixed-by v z w = record { lower = add-worth (h .lower) z (omega arith); upper = add-worth (h .upper) z (omega arith) }
 
+  -- Theorem. Adding a fixed end adds q where its value is 1, and nothing where it is 0, to both numbers.
   pub add-fixed-worth : (v : ℕ) → v < 2 → RowWorth u (addFixed r q v) (a ⊕ share (min0 c) c v) (b ⊕ share (max0 c) c v)
   unfolding share
   add-fixed-worth zero l = fixed-by 0 (as-worth (times-worth 0 (omega arith) k (omega arith)) (omega arith)) (omega arith)
@@ -84,7 +87,7 @@ module _ {u : ℕ} {r : Row} {a b : Whole} (h : RowWorth u r a b) (near-a : Unde
       go true = term-worth v l
       go false = as-row h (omega arith) (omega arith)
 
--- the free term is removed, and the fixed one added
+-- Theorem. A moved term, the free one removed and the fixed one added, moves both numbers of a row by what it changes.
 pub moved-worth : {u : ℕ} {r : Row} {a b : Whole} → RowWorth u r a b → Under (2 ^ 49) a → Under (2 ^ 49) b → {q : Float} {c : Whole} → Worth u q c → Under (2 ^ 31) c → (v : ℕ) → v < 2
     → RowWorth u (addFixed (removeFree r q) q v) (a ⊖ min0 c ⊕ share (min0 c) c v) (b ⊖ max0 c ⊕ share (max0 c) c v)
 moved-worth h near-a near-b k small v l =
@@ -113,7 +116,7 @@ module _ {u : ℕ} {r : Row} {a b : Whole} (h : RowWorth u r a b) where
       by false false true = refl
       by false false false = refl
 
-  -- flat exactly if both whole numbers are 0
+  -- Theorem. A row is flat exactly if both whole numbers that it is worth are 0.
   pub is-flat-worth : isFlat (judgeOf r) ≡ (eqb (a .plus) (a .less) && eqb (b .plus) (b .less))
   is-flat-worth = rw (judge-worth, flat-worth) (by (ltb (a .less) (a .plus)) (ltb (b .plus) (b .less)) (eqb (a .plus) (a .less)) (eqb (b .plus) (b .less)) refl refl refl refl)
     where

@@ -7,6 +7,7 @@ use Rattle.field.specs.Field.{Field}
 use Rattle.field.specs.Reading.{wholeOf}
 use Rattle.rows.specs.declared.Row.{Row}
 
+-- The row's lower bound is a units and its upper bound b units, both whole numbers of the unit u.
 pub record RowWorth (u : ℕ) (r : Row) (a b : Whole) : Type 0 where
   pub lower : Worth u (r .lower) a
   pub upper : Worth u (r .upper) b

@@ -21,7 +21,7 @@ addFree r a = record {
   upper = cond (le zero64 a) (add binary64 (r .upper) a) (r .upper);
 }
 
--- and is removed from the same
+-- A free end is removed from the bounds to which it was added.
 abbrev pub removeFree : Row → Float → Row
 removeFree r a = record {
   lower = cond (le a zero64) (sub binary64 (r .lower) a) (r .lower);
@@ -35,7 +35,7 @@ addFixed r a v = record {
   upper = add binary64 (r .upper) (mul binary64 a (ofInt binary64 (pos v)));
 }
 
--- and is removed from both
+-- A fixed end is removed: coefficient times value from both bounds.
 abbrev pub removeFixed : Row → Float → ℕ → Row
 removeFixed r a v = record {
   lower = sub binary64 (r .lower) (mul binary64 a (ofInt binary64 (pos v)));
@@ -46,7 +46,7 @@ removeFixed r a v = record {
 unfoldable pub addTerm : Row → Float → ℕ → Row
 addTerm r a v = cond (eqb v 2) (addFree r a) (addFixed r a v)
 
--- and the same term taken out
+-- The term of an end with the byte v taken out, where 2 is free.
 unfoldable pub removeTerm : Row → Float → ℕ → Row
 removeTerm r a v = cond (eqb v 2) (removeFree r a) (removeFixed r a v)
 

@@ -9,13 +9,15 @@ use Rattle.rows.specs.declared.Row.{Row}
 use Rattle.rows.specs.Row.{addTerm}
 use Rattle.rows.specs.Model.{coeffOf, rowTo, rowOf}
 
+-- Row t as it stands in lent floats f at the front of which n rows are kept.
 abbrev pub rowOn : List Float → ℕ → ℕ → Row
 rowOn f n t = record { lower = getD f t nan; upper = getD f (n + t) nan }
 
+-- The lent floats with row t replaced: both of its bounds written, and nothing else.
 abbrev pub putRow : List Float → ℕ → ℕ → Row → List Float
 putRow f n t r = set (set f t (r .lower)) (n + t) (r .upper)
 
--- a term goes into row t
+-- The lent floats after the term of an end with the byte v went into row t.
 unfoldable pub addAt : List Float → ℕ → ℕ → Float → ℕ → List Float
 addAt f n t a v = putRow f n t (addTerm (rowOn f n t) a v)
 
@@ -53,6 +55,6 @@ pub record Passed (F : Field) (s : List ℕ) (f₀ f : List Float) (k : ℕ) : T
   pub within : k ≤ entries F
   pub written : Written (variables F) (λ i. rowTo F s i k) f₀ f (variables F)
 
--- all rows are the model's
+-- All rows that stand in f are the model's, and the rest of it is as it was.
 abbrev pub Filled : Field → List ℕ → List Float → List Float → Type 0
 Filled F s f₀ f = Written (variables F) (rowOf F s) f₀ f (variables F)

@@ -5,6 +5,7 @@ pub mod store;
 ghost use mathlib.Core.Path.{_≡_};
 ghost use Rattle.rows.specs.Row.{startRow, addFree, removeFree, addFixed, removeFixed, addTerm, removeTerm, judgeOf, concludeOf, isFlat};
 
+// A row of the gradient: a lower and an upper bound on the gradient of one variable.
 pub struct Row {
     pub lower: f64,
     pub upper: f64,
@@ -19,6 +20,7 @@ pub enum Verdict {
 }
 
 impl Verdict {
+    // Whether this verdict is flat, which says that both bounds of the row are 0.
     pub fn is_flat(self) -> bool
         ensures { λ r. ⌜ r ≡ isFlat self ⌝ }
     {
@@ -31,12 +33,14 @@ impl Verdict {
     }
 }
 
+// A variable together with the verdict on its row, as a caller acts on it.
 pub struct Conclusion {
     pub variable: u16,
     pub verdict: Verdict,
 }
 
 impl Row {
+    // The row of a variable before any entry is counted: both bounds are its linear weight.
     pub fn start(linear: f64) -> Row
         ensures { λ r. ⌜ r ≡ startRow linear ⌝ }
     {
@@ -46,6 +50,7 @@ impl Row {
         }
     }
 
+    // Adds an entry whose other end is free: a coefficient at most 0 to lower, one at least 0 to upper.
     pub fn add_free(self, coeff: f64) -> Row
         ensures { λ r. ⌜ r ≡ addFree self coeff ⌝ }
     {
@@ -59,6 +64,7 @@ impl Row {
         row
     }
 
+    // Takes out an entry whose other end was free, from the bounds to which its coefficient was added.
     pub fn remove_free(self, coeff: f64) -> Row
         ensures { λ r. ⌜ r ≡ removeFree self coeff ⌝ }
     {
@@ -72,6 +78,7 @@ impl Row {
         row
     }
 
+    // Adds an entry whose other end has a value: coefficient times value to both bounds.
     pub fn add_fixed(self, coeff: f64, value: u8) -> Row
         ensures { λ r. ⌜ r ≡ addFixed self coeff value ⌝ }
     {
@@ -82,6 +89,7 @@ impl Row {
         }
     }
 
+    // Takes out an entry whose other end had a value: coefficient times value from both bounds.
     pub fn remove_fixed(self, coeff: f64, value: u8) -> Row
         ensures { λ r. ⌜ r ≡ removeFixed self coeff value ⌝ }
     {
@@ -103,7 +111,7 @@ impl Row {
         }
     }
 
-    // The same term taken out.
+    // Takes out the term of an end with this byte, where 2 is free.
     pub fn remove_term(self, coeff: f64, value: u8) -> Row
         ensures { λ r. ⌜ r ≡ removeTerm self coeff value ⌝ }
     {
@@ -114,6 +122,7 @@ impl Row {
         }
     }
 
+    // The verdict on the row: zero by its lower bound, else one by its upper bound, else flat or open.
     pub fn judge(self) -> Verdict
         ensures { λ r. ⌜ r ≡ judgeOf self ⌝ }
     {
@@ -129,6 +138,7 @@ impl Row {
         Verdict::Open
     }
 
+    // The verdict on the row, together with the variable whose row it is.
     pub fn conclude(self, variable: u16) -> Conclusion
         ensures { λ r. ⌜ r ≡ concludeOf self variable ⌝ }
     {

@@ -6,6 +6,7 @@ ghost use lib.ListN.{length};
 ghost use Rattle.scratch.specs.Lent.{before, after};
 ghost use Rattle.rows.specs.Stored.{rowOn, putRow};
 
+// Reads row t of the n rows at the front of lent floats: lower at t, upper at n + t.
 pub fn row_at(f: &[f64], n: usize, t: usize) -> Row
     requires { ⌜ n + t < length (now f) ⌝ }
     ensures { λ r. ⌜ r ≡ rowOn (before f) n t ⌝ }
@@ -17,6 +18,7 @@ pub fn row_at(f: &[f64], n: usize, t: usize) -> Row
     }
 }
 
+// Writes row t of the n rows at the front of lent floats: lower at t, upper at n + t.
 pub fn put_row(f: &mut [f64], n: usize, t: usize, row: Row)
     requires { ⌜ n + t < length (now f) ⌝ }
     ensures { λ _. ⌜ after f ≡ putRow (before f) n t row ⌝ }

@@ -1,4 +1,11 @@
 -- THE BRIDGE: on an exact field the floats reach the closure of the field in whole numbers. Assumes nothing.
+-- The idea. While a variable is served, the values run ahead of the rows: a value counts in a row only once its term there has been moved.
+-- So the proof follows a view, what each entry has seen of the values so far: a variable is free for an entry until its term has been moved there.
+-- Throughout the run three things hold. The row of each free variable is worth low and high at the view, in whole numbers, since no sum rounds.
+-- What is seen forces no free variable, but for those still to be judged. And a variable that has a value is seen by every entry, or is
+-- being served, or waits in the queue and is seen by none. Each step keeps all three (Invariant, Sight and Serve).
+-- Bounds at a view that lags are never tighter than those at the values, so each value that is forced is one that the rule forces.
+-- At the end nothing waits: every entry sees the values themselves, and no free variable is forced there. So the values are the closure.
 use Prim.Native.Nat.{ℕ, zero, suc, _+_, _≤_, _<_}
 use mathlib.Core.Path.{_≡_, refl, sym, ap, _∙_}
 use mathlib.Core.Logic.{_≢_, inl, inr, ⊎-elim}

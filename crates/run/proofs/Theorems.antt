@@ -33,7 +33,7 @@ use Rattle.run.proofs.Bridge.{start-rows-worth, propagate-ends}
 
 -- ---- on every field, exact or not
 
--- A row acts by its two strict tests alone, so a flat one is passed over as an open one is.
+-- Theorem. A row acts by its two strict tests alone, so a flat one is passed over as an open one is.
 pub judged-strict : (run : Run) (t : ℕ)
     → judged run t ≡ cond (lt zero64 (rowFor run t .lower)) (force run t 0) (cond (lt (rowFor run t .upper) zero64) (force run t 1) run)
 unfolding judged settle
@@ -46,7 +46,7 @@ judged-strict run t = by (lt zero64 (rowFor run t .lower)) (lt (rowFor run t .up
     by false false true = refl
     by false false false = refl
 
--- The queue of a run has room for n variables.
+-- Theorem. The queue of a run has room for n variables.
 pub propagate-room : (F : Field) {s : List ℕ} → StartFor (variables F) s → (rows : List Row) → Room (variables F) s (propagate F s rows .values) (propagate F s rows .queue)
 propagate-room F start rows = room-propagate F rows start
 
@@ -72,11 +72,11 @@ closure-adds F start i free set = omega (arith, closure-valid F start .small i)
 -- ---- on an exact field
 
 module _ {u : ℕ} {F : Field} (shaped : Shaped F) (exact : ExactIn u F) where
-  -- From rows that are worth low and high of every free variable, the run ends in the closure, and in such rows there.
+  -- Theorem. From rows that are worth low and high of every free variable, the run ends in the closure, and in such rows there.
   pub propagate-closes : {s : List ℕ} → StartFor (variables F) s → (rows : List Row) → variables F ≤ length rows → RowsWorth u F s rows → Ended u F s (propagate F s rows)
   propagate-closes start rows long worth = propagate-ends shaped exact start rows long worth
 
-  -- All such rows lead to the same values and to the same queue.
+  -- Theorem. All such rows lead to the same values and to the same queue.
   pub rows-of-worth : {s : List ℕ} → StartFor (variables F) s → (rows rows′ : List Row) → variables F ≤ length rows → variables F ≤ length rows′
       → RowsWorth u F s rows → RowsWorth u F s rows′ → (propagate F s rows′ .values ≡ propagate F s rows .values) × (propagate F s rows′ .queue ≡ propagate F s rows .queue)
   rows-of-worth start rows rows′ long long′ worth worth′ = let a = worth-agree shaped exact start rows rows′ long long′ worth worth′ in (a .values, a .queue)
@@ -86,7 +86,7 @@ module _ {u : ℕ} {F : Field} (shaped : Shaped F) (exact : ExactIn u F) where
   unfolding closureRun
   closure-run-closes {s} start = propagate-closes start (upTo (rowOf F s) (variables F)) (omega (arith, length-upTo (rowOf F s) (variables F))) (start-rows-worth shaped exact start)
 
-  -- What the floats reach is the closure in whole numbers.
+  -- Theorem. What the floats reach is the closure in whole numbers.
   pub closure-is-closure : {s : List ℕ} → StartFor (variables F) s → Closure (Forces (wholeOf u F)) s (closure F s)
   unfolding closure
   closure-is-closure start = closure-run-closes start .closed

@@ -58,7 +58,7 @@ module _ {F : Field} {g : Run → Run} {s a b : Cells} (A : Does F g s a) (B : D
       = A .kept .words-rest ∙ ap (λ (t : ℕ). drop (base F + t) (s .words)) same-tail ∙ sym (B .kept .words-rest) in
       three-parts (base F) (a .tail) (a .words) ∙ rw (front, queue, rest) (sym (three-parts (base F) (b .tail) (b .words)))
 
-  -- two results of one step are equal
+  -- Theorem. Two results of one step are equal.
   pub does-unique : a ≡ b
   does-unique = all same-values same-floats same-words same-tail
     where

@@ -20,6 +20,7 @@ pub record Cells : Type 0 where
   pub words : List ℕ
   pub tail : ℕ
 
+-- The lent lists of a run in one record: values, floats, words, and how many variables the queue holds.
 abbrev pub cells : List ℕ → List Float → List ℕ → ℕ → Cells
 cells vs f u tail = record { values = vs; floats = f; words = u; tail = tail }
 

@@ -74,7 +74,7 @@ pub fn passes_at(values: &[u8], f: &[f64], n: usize, i: usize) -> bool
     value == 2
 }
 
-// Variable i of the scan.
+// The scan at variable i: a free one is judged by its row, and forced where that says so.
 pub fn scan_at(
     c: &[f64],
     rows: &[u16],

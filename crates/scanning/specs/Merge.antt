@@ -41,13 +41,15 @@ always p = true
 abbrev pub listAt : List ℕ → ℕ → ℕ → ℕ
 listAt u from p = getD u (from + p) 0
 
--- of the words of places from index `from` on: the entries, those with i in the one list of ends, and the end in the other
+-- The entry that the word at position p names, of the words of places from index `from` on.
 abbrev pub placeAt : List ℕ → ℕ → ℕ → ℕ
 placeAt u from p = entryIn (listAt u from p)
 
+-- Whether the entry at position p has variable i at its near end, the one that is asked for.
 abbrev pub nearAt : List ℕ → List ℕ → ℕ → ℕ → ℕ → Bool
 nearAt near u from i p = eqb (getD near (placeAt u from p) 0) i
 
+-- The variable at the far end of the entry at position p, by which the scan goes on.
 abbrev pub farAt : List ℕ → List ℕ → ℕ → ℕ → ℕ
 farAt far u from p = getD far (placeAt u from p) 0
 

@@ -4,6 +4,7 @@ ghost use lib.Ieee.{binary64, ofBits};
 ghost use Rattle.scratch.specs.Lent.{before, after};
 ghost use Rattle.scratch.specs.Cleared.{cleared};
 
+// Writes 0 into every byte of the slice; its length stays as it is.
 pub fn clear_bytes(bytes: &mut [u8])
     ensures { λ _. ⌜ after bytes ≡ cleared 0 (before bytes) ⌝ }
 {
@@ -12,6 +13,7 @@ pub fn clear_bytes(bytes: &mut [u8])
     }
 }
 
+// Writes 0 into every u16 of the slice, as an answer list of variables is left on refusal 9.
 pub fn clear_shorts(shorts: &mut [u16])
     ensures { λ _. ⌜ after shorts ≡ cleared 0 (before shorts) ⌝ }
 {
@@ -20,6 +22,7 @@ pub fn clear_shorts(shorts: &mut [u16])
     }
 }
 
+// Writes 0 into every u32 of the slice, as the lent word scratch is left.
 pub fn clear_words(words: &mut [u32])
     ensures { λ _. ⌜ after words ≡ cleared 0 (before words) ⌝ }
 {
@@ -28,6 +31,7 @@ pub fn clear_words(words: &mut [u32])
     }
 }
 
+// Writes 0.0 into every f64 of the slice, as the lent float scratch is left.
 pub fn clear_floats(floats: &mut [f64])
     ensures { λ _. ⌜ after floats ≡ cleared (ofBits binary64 0) (before floats) ⌝ }
 {
@@ -36,18 +40,21 @@ pub fn clear_floats(floats: &mut [f64])
     }
 }
 
+// A byte as a usize, the same number, for use as an index or in a sum.
 pub fn wide_byte(x: u8) -> usize
     ensures { λ r. ⌜ r ≡ x ⌝ }
 {
     x as usize
 }
 
+// A u16 as a usize, the same number, for use as an index of a variable.
 pub fn wide_short(x: u16) -> usize
     ensures { λ r. ⌜ r ≡ x ⌝ }
 {
     x as usize
 }
 
+// A u32 as a usize, the same number, for use as a place or an offset.
 pub fn wide_word(x: u32) -> usize
     ensures { λ r. ⌜ r ≡ x ⌝ }
 {

@@ -13,6 +13,7 @@ use Rattle.shift.specs.Closing.{closed}
 abbrev pub Left : Type 0
 Left = any.Left Counted Field
 
+-- What the call `shift` leaves, made of its answer and the field's four lists.
 abbrev pub left : Counted → Field → Left
 left r G = any.left r G
 

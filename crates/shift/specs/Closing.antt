@@ -29,6 +29,7 @@ unfoldable pub linearTo : Field → ℕ → List Float
 linearTo F zero = F .linear
 linearTo F (suc k) = cond (onDiagonal F k) (intoLinear F k (linearTo F k)) (linearTo F k)
 
+-- Whether entry k is off the diagonal, and so stays an entry of the shifted field.
 abbrev pub keptAt : Field → ℕ → Bool
 keptAt F k = not (onDiagonal F k)
 
@@ -41,6 +42,7 @@ pub record Closing : Type 0 where
   pub lists : Field
   pub kept : ℕ
 
+-- The four lists of a field, together with how many entries are kept at their front.
 abbrev pub closing : Field → ℕ → Closing
 closing G m = record { lists = G; kept = m }
 
@@ -55,7 +57,7 @@ closedTo F k =
     (over (map (quadOf F) (keptTo F k)) (F .quad)))
     (length (keptTo F k))
 
--- after all of them
+-- The lists after all entries: the shifted field at their front, and its number of entries.
 unfoldable pub closed : Field → Closing
 closed F = closedTo F (entries F)
 

@@ -5,6 +5,7 @@ use lib.ListN.{getD}
 use Rattle.endian.specs.Bytes.{numberAt}
 use Rattle.stream.specs.declared.head.Head.{Head}
 
+-- The head of a case in its 77 bytes: the code, eleven lengths, and four numbers of the call's own.
 abbrev pub headOf : List ℕ → Head
 headOf s = record {
   code = getD s 0 0;

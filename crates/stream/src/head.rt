@@ -11,17 +11,22 @@ ghost use Rattle.scratch.specs.Lent.{before};
 ghost use Rattle.endian.specs.Bytes.{numberAt};
 ghost use Rattle.stream.specs.Heads.{headOf, listOf, contentsOf, Lists, Lent, Fits};
 
-// The longest lists of a field and of start values, the longest answer list and the longest scratch.
+// The most linear weights, and the most start values, that a case may hold.
 pub const VARIABLES: usize = 4_100;
 
+// The most rows, columns and pair weights that a case may hold.
 pub const ENTRIES: usize = 32_772;
 
+// The most elements that a list of constraints or of answers may have in a case.
 pub const LISTED: usize = 1_500_002;
 
+// The longest f64 scratch that a case may ask for, in elements.
 pub const FLOATS: usize = 163_900;
 
+// The longest u32 scratch that a case may ask for, in elements.
 pub const WORDS: usize = 589_900;
 
+// The head of a case: the call's code, the length of each list and scratch, and the call's other numbers.
 pub struct Head {
     pub code: u8,
     pub linear: usize,
@@ -62,6 +67,7 @@ fn byte(x: usize) -> u8
     if x < 255 { x as u8 } else { 255 }
 }
 
+// Reads the head of a case from its 77 bytes; a probed value above 255 is read as 255.
 pub fn parse(bytes: &[u8]) -> Head
     requires { ⌜ 77 ≤ length (now bytes) ⌝ }
     ensures { λ r. ⌜ r ≡ headOf (before bytes) ⌝ }

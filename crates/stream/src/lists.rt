@@ -13,6 +13,7 @@ ghost use Rattle.rows.specs.Stored.{upTo};
 ghost use Rattle.endian.specs.Bytes.{numberAt, floatAt};
 ghost use Rattle.stream.specs.Lists.{sameWeight};
 
+// Fills a list with the bytes of a case that stand from index `at` on.
 pub fn take_bytes(bytes: &[u8], at: usize, list: &mut [u8])
     requires { ⌜ at + length (now list) ≤ length (now bytes) ⌝ }
     ensures { λ _. ⌜ after list ≡ upTo (λ i. getD (before bytes) (at + i) 0) (length (before list)) ⌝ }
@@ -22,6 +23,7 @@ pub fn take_bytes(bytes: &[u8], at: usize, list: &mut [u8])
     }
 }
 
+// Fills a list with the little-endian u16 that stand from index `at` on.
 pub fn take_shorts(bytes: &[u8], at: usize, list: &mut [u16])
     requires { ⌜ at + 2 * length (now list) ≤ length (now bytes) ⌝ }
     ensures { λ _. ⌜ after list ≡ upTo (λ i. numberAt 2 (before bytes) (at + 2 * i)) (length (before list)) ⌝ }
@@ -31,6 +33,7 @@ pub fn take_shorts(bytes: &[u8], at: usize, list: &mut [u16])
     }
 }
 
+// Fills a list with the little-endian f64 that stand from index `at` on, bit for bit.
 pub fn take_floats(bytes: &[u8], at: usize, list: &mut [f64])
     requires { ⌜ at + 8 * length (now list) ≤ length (now bytes) ⌝ }
     ensures { λ _. ⌜ after list ≡ upTo (λ i. floatAt (before bytes) (at + 8 * i)) (length (before list)) ⌝ }
@@ -40,6 +43,7 @@ pub fn take_floats(bytes: &[u8], at: usize, list: &mut [f64])
     }
 }
 
+// Writes the byte x into every place of the slice, as lent lists begin a case.
 pub fn fill_bytes(bytes: &mut [u8], x: u8)
     ensures { λ _. ⌜ after bytes ≡ cleared x (before bytes) ⌝ }
 {
@@ -48,6 +52,7 @@ pub fn fill_bytes(bytes: &mut [u8], x: u8)
     }
 }
 
+// Writes the u16 x into every place of the slice, as lent lists begin a case.
 pub fn fill_shorts(shorts: &mut [u16], x: u16)
     ensures { λ _. ⌜ after shorts ≡ cleared x (before shorts) ⌝ }
 {
@@ -56,6 +61,7 @@ pub fn fill_shorts(shorts: &mut [u16], x: u16)
     }
 }
 
+// Writes the u32 x into every place of the slice, as lent scratch begins a case.
 pub fn fill_words(words: &mut [u32], x: u32)
     ensures { λ _. ⌜ after words ≡ cleared x (before words) ⌝ }
 {
@@ -64,6 +70,7 @@ pub fn fill_words(words: &mut [u32], x: u32)
     }
 }
 
+// Writes the f64 x into every place of the slice, as lent scratch begins a case.
 pub fn fill_floats(floats: &mut [f64], x: f64)
     ensures { λ _. ⌜ after floats ≡ cleared x (before floats) ⌝ }
 {
@@ -87,6 +94,7 @@ pub fn same_bytes(bytes: &[u8], at: usize, list: &[u8]) -> bool
     true
 }
 
+// Whether a list still holds the u16 that stand in the bytes from index `at` on.
 pub fn same_shorts(bytes: &[u8], at: usize, list: &[u16]) -> bool
     requires { ⌜ at + 2 * length (now list) ≤ length (now bytes) ⌝ }
     ensures { λ r. ⌜ r ≡ allBelow (λ i. eqb (getD (before list) i 0) (numberAt 2 (before bytes) (at + 2 * i))) (length (before list)) ⌝ }
@@ -114,6 +122,7 @@ fn same_weight(x: f64, y: f64) -> bool
     f64::to_bits(x) == f64::to_bits(y)
 }
 
+// Whether a list still holds the weights that stand in the bytes from index `at` on, bit for bit.
 pub fn same_floats(bytes: &[u8], at: usize, list: &[f64]) -> bool
     requires { ⌜ at + 8 * length (now list) ≤ length (now bytes) ⌝ }
     ensures { λ r. ⌜ r ≡ allBelow (λ i. sameWeight (getD (before list) i nan) (floatAt (before bytes) (at + 8 * i))) (length (before list)) ⌝ }
@@ -128,6 +137,7 @@ pub fn same_floats(bytes: &[u8], at: usize, list: &[f64]) -> bool
     true
 }
 
+// Whether every byte of the slice is x, as a list that must be left unchanged or cleared.
 pub fn all_bytes(bytes: &[u8], x: u8) -> bool
     ensures { λ r. ⌜ r ≡ allBelow (λ i. eqb (getD (before bytes) i 0) x) (length (before bytes)) ⌝ }
 {
@@ -141,6 +151,7 @@ pub fn all_bytes(bytes: &[u8], x: u8) -> bool
     true
 }
 
+// Whether every u16 of the slice is x, as a list that must be left unchanged or cleared.
 pub fn all_shorts(shorts: &[u16], x: u16) -> bool
     ensures { λ r. ⌜ r ≡ allBelow (λ i. eqb (getD (before shorts) i 0) x) (length (before shorts)) ⌝ }
 {
@@ -154,6 +165,7 @@ pub fn all_shorts(shorts: &[u16], x: u16) -> bool
     true
 }
 
+// Whether every u32 of the slice is x, as scratch that must be left unchanged or cleared.
 pub fn all_words(words: &[u32], x: u32) -> bool
     ensures { λ r. ⌜ r ≡ allBelow (λ i. eqb (getD (before words) i 0) x) (length (before words)) ⌝ }
 {
@@ -167,6 +179,7 @@ pub fn all_words(words: &[u32], x: u32) -> bool
     true
 }
 
+// Whether every u64 of the slice is x, as scratch that must be left unchanged or cleared.
 pub fn all_longs(longs: &[u64], x: u64) -> bool
     ensures { λ r. ⌜ r ≡ allBelow (λ i. eqb (getD (before longs) i 0) x) (length (before longs)) ⌝ }
 {
@@ -186,6 +199,7 @@ fn equal(x: f64, y: f64) -> bool
     x == y
 }
 
+// Whether every f64 of the slice is equal to x, as scratch that must be left unchanged or cleared.
 pub fn all_floats(floats: &[f64], x: f64) -> bool
     ensures { λ r. ⌜ r ≡ allBelow (λ i. eq (getD (before floats) i nan) x) (length (before floats)) ⌝ }
 {

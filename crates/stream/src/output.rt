@@ -7,7 +7,7 @@ ghost use lib.Dec.{ltb};
 ghost use lib.ListN.{length};
 ghost use Rattle.scratch.specs.Lent.{after};
 
-// The lesser of two.
+// The lesser of two numbers of bytes.
 pub fn least(a: usize, b: usize) -> usize
     ensures { λ r. ⌜ r ≤ a ⌝ }
     ensures { λ r. ⌜ r ≤ b ⌝ }
@@ -25,6 +25,7 @@ pub fn flush(out: &[u8], used: usize) -> usize
     0
 }
 
+// Writes one byte behind those used, after the buffer has been sent to standard output where it is full.
 pub fn put(out: &mut [u8], used: usize, byte: u8) -> usize
     ensures { λ r. ⌜ r ≤ length (after out) ⌝ }
 {
@@ -40,6 +41,7 @@ pub fn put(out: &mut [u8], used: usize, byte: u8) -> usize
     1
 }
 
+// Writes these bytes behind those used, through `put`, and answers how many are used then.
 pub fn put_text(out: &mut [u8], used: usize, text: &[u8]) -> usize
     ensures { λ r. ⌜ r ≤ length (after out) ⌝ }
 {
@@ -52,6 +54,7 @@ pub fn put_text(out: &mut [u8], used: usize, text: &[u8]) -> usize
     at
 }
 
+// Writes a number in decimal digits behind the bytes used, through `put_text`.
 pub fn put_number(out: &mut [u8], used: usize, n: usize) -> usize
     ensures { λ r. ⌜ r ≤ length (after out) ⌝ }
 {
@@ -213,7 +216,7 @@ pub fn put_entries(out: &mut [u8], used: usize, rows: &[u16], cols: &[u16], q: &
     put_each_entry(out, used, rows, cols, q)
 }
 
-// What was promised, if it was found so.
+// Writes what was promised under its name, if it was found so.
 pub fn put_promise(out: &mut [u8], used: usize, promise: &[u8], is_kept: bool) -> usize
     ensures { λ r. ⌜ r ≤ length (after out) ⌝ }
 {

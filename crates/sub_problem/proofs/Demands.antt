@@ -42,7 +42,7 @@ use Rattle.sub_problem.proofs.Shape.{new-variables, new-entries, reduce
 use Rattle.sub_problem.proofs.Objective.{objective, reduced-whole, constant-whole}
 use Rattle.sub_problem.proofs.Bests as bests
 
--- any two results that the promise permits are equal
+-- Theorem. Any two results that the promise permits are equal.
 pub one-result : (F : Field) (s l : List ℕ) (f : List Float) (u : List ℕ) (x y : Left) → x ≡ subProblemCall F s l f u → y ≡ subProblemCall F s l f u → x ≡ y
 one-result F s l f u = any.one-result (subProblemCall F s l f u)
 
@@ -74,17 +74,17 @@ told {F} {s} {g} {n} {m} {k} e =
     record { grade = a; new-n = b; new-m = c; is-constant = d }
 
 module _ (F : Field) (s l : List ℕ) (f : List Float) (u : List ℕ) where
-  -- DEMAND 1. The call is refused with r exactly if the tests before r's own pass, and its own fails: 9 is the last, for more free variables than the map list has places.
+  -- Theorem. DEMAND 1. The call is refused with r exactly if the tests before r's own pass, and its own fails: 9 is the last, for more free variables than the map list has places.
   pub refused-when : (r : Refusal) → (subProblemCall F s l f u .answer ≡ Refused r) ↔ FirstToFail (subProblemTable F s l (length f) (length u)) r
   unfolding subProblemCall table
   refused-when = usual.refused-when Refused _ _ _ _ same-refused (not-finished F s l f u) refl
 
-  -- A refusal by another test changes nothing lent.
+  -- Theorem. A refusal by another test changes nothing lent.
   pub refused-leaves : (r : Refusal) → r ≢ Room → subProblemCall F s l f u .answer ≡ Refused r → subProblemCall F s l f u ≡ left (Refused r) F l f u
   unfolding subProblemCall
   refused-leaves r n e = usual.refused-leaves Refused _ _ _ _ same-refused (not-finished F s l f u) r (other-stage n no-stage) e
 
-  -- It is 9 exactly if all other tests pass and there are more free variables than places,
+  -- Theorem. It is 9 exactly if all other tests pass and there are more free variables than places.
   pub room-when : (subProblemCall F s l f u .answer ≡ Refused Room) ↔ (Admitted F s (length f) (length u) × (length l < length (back s)))
   unfolding subProblemCall
   room-when =
@@ -92,12 +92,12 @@ module _ (F : Field) (s l : List ℕ) (f : List Float) (u : List ℕ) where
       let p = admitted-passes F s (length f) (length u) in
       ((λ e. (p .0 (t .0 e .0), leb-false _ _ (t .0 e .1))), λ h. t .1 (p .1 (h .0), lt-leb _ _ (h .1)))
 
-  -- and then the field is unchanged, and the map list and both scratches are all zeros.
+  -- Theorem. On 9 the field is unchanged, and the map list and both scratches are all zeros.
   pub room-leaves : subProblemCall F s l f u .answer ≡ Refused Room → subProblemCall F s l f u ≡ left (Refused Room) F (cleared 0 l) (cleared zero64 f) (cleared 0 u)
   unfolding subProblemCall
   room-leaves e = usual.later-leaves Refused _ _ _ _ same-refused (not-finished F s l f u) Room _ (never-room F s (length f) (length u)) (this-stage no-stage) e
 
-  -- It is done exactly if the field, the start values and both scratches are as the table asks, and the map list has room.
+  -- Theorem. It is done exactly if the field, the start values and both scratches are as the table asks, and the map list has room.
   pub done-when : (subProblemCall F s l f u .answer ≡ Done (gradeOf F) (length (back s)) (length (stays F s)) (constant F s)) ↔ (Admitted F s (length f) (length u) × (length (back s) ≤ length l))
   unfolding subProblemCall finished table
   done-when =
@@ -105,7 +105,7 @@ module _ (F : Field) (s l : List ℕ) (f : List Float) (u : List ℕ) where
       (group-is (openTests F s (length f) (length u)) _ (admitted-passes F s (length f) (length u)) (last-is Room _ (le-is (length (back s)) (length l))))
 
   module _ {g : Grade} {n m : ℕ} {k : Float} (e : subProblemCall F s l f u .answer ≡ Done g n m k) where
-    -- Then the smaller problem stands at the front of the caller's lists with zeros behind it, the map back at the front of its list, and both scratches are all zeros.
+    -- Theorem. Then the smaller problem stands at the front of the caller's lists with zeros behind it, the map back at the front of its list, and both scratches are all zeros.
     pub done-leaves : subProblemCall F s l f u ≡ finished F s l f u
     unfolding subProblemCall
     done-leaves = usual.done-leaves Refused _ _ _ _ same-refused (not-finished F s l f u) (λ r z. done-apart r (sym e ∙ z))
@@ -120,7 +120,7 @@ module _ (F : Field) (s l : List ℕ) (f : List Float) (u : List ℕ) where
     says : Told F s g n m k
     says = told (answered ∙ e)
 
-    -- The grade is that of the field as it was given.
+    -- Theorem. The grade is that of the field as it was given.
     pub grade-given : g ≡ gradeOf F
     grade-given = sym (says .grade)
 
@@ -132,7 +132,7 @@ module _ (F : Field) (s l : List ℕ) (f : List Float) (u : List ℕ) where
     unfolding finished
     map-is = ap (λ (x : Left). x .lent .map-list) done-leaves
 
-    -- The first n weights and the first m entries are the smaller problem,
+    -- Theorem. The first n weights and the first m entries are the smaller problem.
     pub is-reduced : firstOf n m (subProblemCall F s l f u .lent .lists) ≡ reduced F s
     is-reduced =
         rw (
@@ -143,26 +143,26 @@ module _ (F : Field) (s l : List ℕ) (f : List Float) (u : List ℕ) where
           over-front (map (quadOf F) (stays F s)) (cleared zero64 (F .quad)) (length-map (stays F s) (quadOf F) ∙ says .new-m),
         )
 
-    -- k is the constant,
+    -- Theorem. k is the constant.
     pub is-constant : k ≡ constant F s
     is-constant = sym (says .is-constant)
 
-    -- and the first n places of the map list are the free variables, rising: the map back;
+    -- Theorem. The first n places of the map list are the free variables, rising: the map back.
     pub is-back : take n (subProblemCall F s l f u .lent .map-list) ≡ freeTo s (length s)
     is-back = ap (take n) map-is ∙ over-front (back s) l (says .new-n) ∙ back-free s (length s)
 
-    -- its places past them are unchanged.
+    -- Theorem. Places of the map list past the map back are unchanged.
     pub map-past : (i : ℕ) → n ≤ i → getD (subProblemCall F s l f u .lent .map-list) i 0 ≡ getD l i 0
     map-past i h = rw map-is (over-past (back s) l i 0 (omega (arith, says .new-n)))
 
     zeros : {A : Type 0} (z d : A) (a o : List A) (i : ℕ) → length a ≤ i → i < length o → getD (closedUp z a o) i d ≡ z
     zeros z d a o i h b = over-past a (cleared z o) i d h ∙ getD-replicate (length o) i z d b
 
-    -- Places past the new ends are zero: of c ..
+    -- Theorem. Places past the new ends are zero: of c.
     pub linear-past-zero : (i : ℕ) → n ≤ i → i < variables F → linearOf (subProblemCall F s l f u .lent .lists) i ≡ zero64
     linear-past-zero i h b = rw lists-are (zeros zero64 nan (map (adjusted F s) (back s)) (F .linear) i (omega (arith, length-map (back s) (adjusted F s), says .new-n)) b)
 
-    -- .. and of the entries.
+    -- Theorem. Places past the new ends are zero: of the entries.
     pub entry-past-zero : (j : ℕ) → m ≤ j → j < entries F
         → (rowEnd (subProblemCall F s l f u .lent .lists) j ≡ 0) × ((columnEnd (subProblemCall F s l f u .lent .lists) j ≡ 0) × (quadOf (subProblemCall F s l f u .lent .lists) j ≡ zero64))
     entry-past-zero j h b =
@@ -175,19 +175,19 @@ module _ (F : Field) (s l : List ℕ) (f : List Float) (u : List ℕ) where
           ),
         )
 
-    -- The smaller problem has n variables and m entries,
+    -- Theorem. The smaller problem has n variables and m entries.
     pub new-sizes : (variables (firstOf n m (subProblemCall F s l f u .lent .lists)) ≡ n) × (entries (firstOf n m (subProblemCall F s l f u .lent .lists)) ≡ m)
     new-sizes = (ap variables is-reduced ∙ new-variables F s ∙ says .new-n, ap entries is-reduced ∙ new-entries F s ∙ says .new-m)
 
-    -- is shaped as a field must be: in order, and every row and column below n,
+    -- Theorem. The smaller problem is shaped as a field must be: in order, and every row and column below n.
     pub new-shaped : Shaped (firstOf n m (subProblemCall F s l f u .lent .lists))
     new-shaped = rw is-reduced (reduced-shaped F s (admitted .shaped) (admitted .start .long))
 
-    -- and is in standard form where the field was.
+    -- Theorem. The smaller problem is in standard form where the field was.
     pub new-standard : Standard F → Standard (firstOf n m (subProblemCall F s l f u .lent .lists))
     new-standard h = subst (λ (G : Field). Standard G) (sym is-reduced) (reduced-standard F s (admitted .shaped) (admitted .start .long) h)
 
-    -- Completions of the start values and choices of n values correspond one to one.
+    -- Theorem. Completions of the start values and choices of n values correspond one to one.
     pub completions-correspond : OneToOne (Completion s) (Completion (allFree n)) (restrict s) (extend s)
     completions-correspond = subst (λ (j : ℕ). OneToOne (Completion s) (Completion (allFree j)) (restrict s) (extend s)) (says .new-n) (bests.completions (admitted .start .small))
 
@@ -218,17 +218,18 @@ serves-whole S = record { linear = λ i h. weighs-more (omega arith) (S .exact .
 
 -- DEMAND 3, on exact fields, in every unit that serves.
 module _ (F : Field) (s l : List ℕ) (f : List Float) (u : List ℕ) {n m : ℕ} {k : Float} (e : subProblemCall F s l f u .answer ≡ Done Exact n m k) {unit : ℕ} (serving : Serves unit F) where
-  -- THE OBJECTIVE: f of a completion is the smaller problem's f at its free values, plus the constant,
+  -- Theorem. THE OBJECTIVE: f of a completion is the smaller problem's f at its free values, plus the constant.
   pub keeps-f : {x : List ℕ} → Completion s x → twice-f (wholeOf unit F) x ≈ twice-f (wholeOf unit (firstOf n m (subProblemCall F s l f u .lent .lists))) (restrict s x) ⊕ read unit k
   keeps-f c = whole-keeps-f F s l f u e (serves-whole serving) (omega (arith, serving .to)) c
 
-  -- where every new weight and the constant are whole numbers, so that nothing is lost in the reading,
+  -- Theorem. Every new weight is a whole number, so that nothing is lost in the reading.
   pub new-whole : AllWhole unit (firstOf n m (subProblemCall F s l f u .lent .lists))
   new-whole = all-whole F s l f u e (serves-whole serving) (omega (arith, serving .to))
 
+  -- Theorem. The constant is a whole number of half units, the one that is read of it.
   pub constant-read : Worth unit k (read unit k)
   constant-read = whole-constant F s l f u e (serves-whole serving) (omega (arith, serving .to))
 
-  -- and best completions correspond one to one.
+  -- Theorem. Best completions of both problems correspond one to one.
   pub bests-correspond : OneToOne (Best (wholeOf unit F) s) (Best (wholeOf unit (firstOf n m (subProblemCall F s l f u .lent .lists))) (allFree n)) (restrict s) (extend s)
   bests-correspond = whole-bests F s l f u e (serves-whole serving) (omega (arith, serving .to))

@@ -20,7 +20,7 @@ use Rattle.sub_problem.specs.declared.Reduced.{Reduced}
 use Rattle.sub_problem.specs.declared.Reduced.the-variants.{Done, Refused}
 use Rattle.sub_problem.specs.Reduced.{back, stays, constant, reduced}
 
--- the table's number of an answer
+-- The table's number of an answer of `sub_problem`: 0 when done, else that of the refusal.
 abbrev pub reducedNumber : Reduced → ℕ
 reducedNumber (Done g n m k) = 0
 reducedNumber (Refused r) = numberOf r
@@ -32,13 +32,15 @@ pub record Lent : Type 0 where
   pub floats : List Float
   pub words : List ℕ
 
+-- What is lent to `sub_problem`, in one record: the field's lists, the map list, the floats and the words.
 abbrev pub lent : Field → List ℕ → List Float → List ℕ → Lent
 lent G l f u = record { lists = G; map-list = l; floats = f; words = u }
 
--- the answer, and what is lent afterwards
+-- The answer of `sub_problem`, and all that is lent to it afterwards.
 abbrev pub Left : Type 0
 Left = any.Left Reduced Lent
 
+-- What the call `sub_problem` leaves, made of its answer and of all that is lent.
 abbrev pub left : Reduced → Field → List ℕ → List Float → List ℕ → Left
 left r G l f u = any.left r (lent G l f u)
 

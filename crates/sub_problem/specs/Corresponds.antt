@@ -14,7 +14,7 @@ use Rattle.sub_problem.specs.Reduced.{back, newIndex}
 abbrev pub allFree : ℕ → List ℕ
 allFree n = replicate n 2
 
--- x at the free variables
+-- The values of x at the free variables, in order: a completion as the smaller problem has it.
 abbrev pub restrict : List ℕ → List ℕ → List ℕ
 restrict s x = map (λ i. getD x i 0) (back s)
 

@@ -27,25 +27,31 @@ valueOf s i = ofInt binary64 (pos (getD s i 0))
 
 -- ---- the entries: both ends free, one, or none
 
+-- Whether both ends of entry k are free, so that it stays an entry of the smaller problem.
 abbrev pub staysAt : Field → List ℕ → ℕ → Bool
 staysAt F s k = isFree s (rowEnd F k) && isFree s (columnEnd F k)
 
+-- Whether one of two tests passes and the other does not, whichever it is.
 abbrev pub lone : Bool → Bool → Bool
 lone a b = cond a (not b) b
 
+-- Whether one end of entry k is free and the other given, so that it goes into a linear weight.
 abbrev pub loneAt : Field → List ℕ → ℕ → Bool
 loneAt F s k = lone (isFree s (rowEnd F k)) (isFree s (columnEnd F k))
 
+-- Whether both ends of entry k are given, so that it goes into the constant.
 abbrev pub givenAt : Field → List ℕ → ℕ → Bool
 givenAt F s k = not (isFree s (rowEnd F k)) && not (isFree s (columnEnd F k))
 
--- where one end is free: that end, and the other
+-- The free end of an entry k that has one free end and one given end.
 abbrev pub freeEnd : Field → List ℕ → ℕ → ℕ
 freeEnd F s k = cond (isFree s (rowEnd F k)) (rowEnd F k) (columnEnd F k)
 
+-- The given end of an entry k that has one free end and one given end.
 abbrev pub givenEnd : Field → List ℕ → ℕ → ℕ
 givenEnd F s k = cond (isFree s (rowEnd F k)) (columnEnd F k) (rowEnd F k)
 
+-- Half of q of entry k in f64, which is what it counts in f where both its ends are 1.
 abbrev pub halfOf : Field → ℕ → Float
 halfOf F k = mul binary64 half64 (quadOf F k)
 
@@ -64,7 +70,7 @@ gatheredTo F s (suc k) = cond (loneAt F s k) (intoGathered F s k (gatheredTo F s
 unfoldable pub adjusted : Field → List ℕ → ℕ → Float
 adjusted F s i = add binary64 (getD (gatheredTo F s (entries F)) i nan) (linearOf F i)
 
--- 0.5q times both values
+-- What an entry with both ends given puts into the constant x: 0.5q times both values.
 abbrev pub intoConstant : Field → List ℕ → ℕ → Float → Float
 intoConstant F s k x = add binary64 x (mul binary64 (mul binary64 (halfOf F k) (valueOf s (rowEnd F k))) (valueOf s (columnEnd F k)))
 
@@ -78,10 +84,11 @@ unfoldable pub withGiven : List Float → List ℕ → Float → ℕ → Float
 withGiven c s x zero = x
 withGiven c s x (suc i) = cond (isFree s i) (withGiven c s x i) (add binary64 (withGiven c s x i) (mul binary64 (getD c i nan) (valueOf s i)))
 
+-- The constant after all entries and the first i variables: what the given ones add to f by themselves.
 abbrev pub constantTo : Field → List ℕ → ℕ → Float
 constantTo F s i = withGiven (F .linear) s (givenTo F s (entries F)) i
 
--- the constant (rule 10.5)
+-- The constant: what the given variables and the entries between them add to f (rule 10.5).
 abbrev pub constant : Field → List ℕ → Float
 constant F s = constantTo F s (variables F)
 
@@ -89,7 +96,7 @@ constant F s = constantTo F s (variables F)
 abbrev pub stays : Field → List ℕ → List ℕ
 stays F s = picked (staysAt F s) (entries F)
 
--- THE SMALLER PROBLEM
+-- THE SMALLER PROBLEM: the free variables renumbered, adjusted linear weights, and the entries that stay.
 abbrev pub reduced : Field → List ℕ → Field
 reduced F s =
     fieldOf

@@ -22,16 +22,18 @@ pub record NumbersTo (s : List ℕ) (k : ℕ) (u : List ℕ) : Type 0 where
   pub long : length s ≤ length u
   pub at : (i : ℕ) → i < k → getD u i 0 ≡ newIndex s i
 
+-- The words begin with the new number of each variable, all of them.
 abbrev pub Numbers : List ℕ → List ℕ → Type 0
 Numbers s u = NumbersTo s (length s) u
 
--- and so is the count
+-- The first k words are the new numbers, and `count` is the next new number.
 pub record Numbered (s : List ℕ) (k : ℕ) (u : List ℕ) (count : ℕ) : Type 0 where
   pub numbers : NumbersTo s k u
   pub counted : count ≡ newIndex s k
 
 -- ---- the entries' terms
 
+-- The field has its shape, and its start values are n bytes of 0, 1 or 2: what each part of the call needs.
 pub record Usable (F : Field) (s : List ℕ) : Type 0 where
   pub shaped : Shaped F
   pub start : StartFor (variables F) s
@@ -62,20 +64,22 @@ pub record Rising (n : ℕ) (b : List ℕ) (count : ℕ) : Type 0 where
   pub behind : (t : ℕ) → t < count → t ≤ getD b t 0
   pub below : (t : ℕ) → t < count → getD b t 0 < n
 
--- what is gathered, and then c
+-- What is gathered at variable i, and then its c: the adjusted linear weight.
 abbrev pub sumAt : List Float → List Float → ℕ → Float
 sumAt f c i = add binary64 (getD f i nan) (getD c i nan)
 
--- an entry as it stands goes to the place `kept` with new numbers, where both its ends are free
+-- The entries as they stand while they close up: the three lists, and how many are kept at their front.
 pub record Entries : Type 0 where
   pub rows : List ℕ
   pub cols : List ℕ
   pub quad : List Float
   pub kept : ℕ
 
+-- Three lists of entries, together with how many entries are kept at their front.
 abbrev pub entriesOf : List ℕ → List ℕ → List Float → ℕ → Entries
 entriesOf rows cols q m = record { rows = rows; cols = cols; quad = q; kept = m }
 
+-- Entry k goes to the next kept place with new numbers where both its ends are free; else nothing changes.
 unfoldable pub closeAt : List ℕ → ℕ → Entries → Entries
 closeAt s k E =
     cond (isFree s (getD (E .rows) k 0))
@@ -84,7 +88,7 @@ closeAt s k E =
     E)
     E
 
--- after the first k entries
+-- The entries after the first k have closed up, with the rest of each list as it was.
 unfoldable pub closedTo : Field → List ℕ → ℕ → Entries
 closedTo F s k =
     entriesOf
@@ -103,7 +107,7 @@ pub record Closable (s : List ℕ) (k kept : ℕ) (rows cols : List ℕ) (q : Li
   pub row-below : getD rows k 0 < length s
   pub column-below : getD cols k 0 < length s
 
--- after all of them, with zeros behind
+-- The entries after all have closed up, with zeros behind those that stay.
 unfoldable pub closedEntries : Field → List ℕ → Entries
 closedEntries F s =
     entriesOf

@@ -71,7 +71,7 @@ pub fn close_entries(
     kept
 }
 
-// Zeros from a place on.
+// Writes 0.0 into every f64 from index `from` on: the places behind the weights that stay.
 pub fn clear_floats_from(floats: &mut [f64], from: usize)
     requires { ⌜ from ≤ length (now floats) ⌝ }
     ensures { λ _. ⌜ after floats ≡ over (take from (before floats)) (cleared (ofBits binary64 0) (before floats)) ⌝ }
@@ -81,6 +81,7 @@ pub fn clear_floats_from(floats: &mut [f64], from: usize)
     }
 }
 
+// Writes 0 into every u16 from index `from` on: the places behind the entries that stay.
 pub fn clear_shorts_from(shorts: &mut [u16], from: usize)
     requires { ⌜ from ≤ length (now shorts) ⌝ }
     ensures { λ _. ⌜ after shorts ≡ over (take from (before shorts)) (cleared 0 (before shorts)) ⌝ }

@@ -81,7 +81,7 @@ fn add_given(c: &[f64], start: &[u8], i: usize, sum: f64) -> f64
     sum + c[i] * (v as f64)
 }
 
-// All given variables, rising.
+// The sum x with c times value of every given variable added, rising.
 pub fn add_all_given(c: &[f64], start: &[u8], from: f64) -> f64
     requires { ⌜ length (now start) ≡ length (now c) ⌝ }
     ensures { λ r. ⌜ r ≡ withGiven (before c) (before start) from (length (before c)) ⌝ }

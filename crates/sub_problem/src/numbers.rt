@@ -47,7 +47,7 @@ fn enter(start: &[u8], u: &[u32], map: &mut [u16], i: usize)
     }
 }
 
-// All of them, rising.
+// Writes the old number of each new variable to the front of the map list, rising.
 pub fn list_back(start: &[u8], u: &[u32], map: &mut [u16])
     requires { ⌜ Numbers (now start) (now u) ⌝ }
     requires { ⌜ length (back (now start)) ≤ length (now map) ⌝ }

@@ -59,7 +59,7 @@ unfolding ofRead
 read-one (field t) = by-grade (accepted t) (isExact (fieldTold t))
 read-one fault = refl
 
--- a field is read or refused
+-- Theorem. A field is read or refused, and never both.
 pub read-or-refused : (p : Piece) → reads p + refusals p ≡ 1
 unfolding ofRead isRead
 read-or-refused (field t) = by (accepted t)
@@ -136,17 +136,17 @@ none-plus t = rw (
 )
 
 module _ (most : ℕ) (s : List ℕ) where
-  -- each total is the sum over the pieces that are counted
+  -- Theorem. Each total is the sum over the pieces that are counted.
   pub totals-are : tallyOf most s .totals ≡ totalsOf (counted most none (pieces s))
   unfolding tallyOf tallyOn
   totals-are = none-plus (totalsOf (counted most none (pieces s)))
 
-  -- the number read is that of exact and inexact fields
+  -- Theorem. The number read is that of the exact and of the inexact fields together.
   pub read-splits : tallyOf most s .totals .read ≡ tallyOf most s .totals .exact + tallyOf most s .totals .inexact
   unfolding totalsOf
   read-splits = rw totals-are (sum-two reads exacts inexacts read-one (counted most none (pieces s)))
 
-  -- those given, forced and free are all variables of the fields that are read
+  -- Theorem. Those given, forced to 0, forced to 1 and free are all variables of the fields that are read.
   pub variables-split : sumOf variables (counted most none (pieces s))
       ≡ tallyOf most s .totals .given + tallyOf most s .totals .zero + tallyOf most s .totals .one + tallyOf most s .totals .free
   unfolding totalsOf
@@ -154,7 +154,7 @@ module _ (most : ℕ) (s : List ℕ) where
 
 -- ---- the rate
 
--- the two numbers of the rate: 1000 times the forced is the whole number times the rest, and a remainder below the rest
+-- Theorem. The two numbers of the rate are the quotient and the remainder of 1000 times the forced by those not given.
 pub rate-is : (forced rest a b : ℕ) → b < rest → 1000 * forced ≡ a * rest + b → rateText forced rest ≡ decimal a ++ (space ++ decimal b)
 unfolding rateText
 rate-is forced rest a b h e =
@@ -164,7 +164,7 @@ rate-is forced rest a b h e =
     let remainder : 1000 * forced % rest ≡ b = ap (λ (x : ℕ). x % rest) e ∙ mul-add-mod-self-right a rest b ∙ mod-eq-of-lt h in
     simp (ne-eqb rest 0 some) (rw (quotient, remainder))
 
--- a whole number and its remainder, which is below the rest
+-- Theorem. Where some variable is not given, the rate has two numbers, and the second is below the number of those not given.
 pub rate-shown : (forced rest : ℕ) → 0 < rest
     → (a : ℕ) × (b : ℕ) × (b < rest) × (1000 * forced ≡ a * rest + b) × (rateText forced rest ≡ decimal a ++ (space ++ decimal b))
 rate-shown forced rest pos =
@@ -174,18 +174,19 @@ rate-shown forced rest pos =
     let splits : 1000 * forced ≡ a * rest + b = sym (div-add-mod' (1000 * forced) rest) in
     (a, b, less, splits, rate-is forced rest a b less splits)
 
+-- Theorem. Where every variable is given, the rate is one dash.
 pub rate-dash : (forced : ℕ) → rateText forced 0 ≡ 45 ∷ []
 unfolding rateText
 rate-dash forced = refl
 
 -- ---- the fields
 
--- an empty input has no field
+-- Theorem. An empty input has no field.
 pub no-field : pieces [] ≡ []
 unfolding pieces piecesFrom
 no-field = refl
 
--- a field that is spelled at the front is the first, and what stands behind its ZZ has the others
+-- Theorem. A field that is spelled at the front is the first, and what stands behind its ZZ has the others.
 pub next-field : (s : List ℕ) (u : Told) (rest : List ℕ) → Spells s nothing u rest → pieces s ≡ field u ∷ pieces rest
 next-field s u rest w =
     let is = spelled-parsed w in
@@ -195,7 +196,7 @@ next-field s u rest w =
     ap (drop (length s - length rest)) (w .bytes) ∙ drop-at (spelled (w .items)) rest (length s - length rest) (omega (arith, ap length (w .bytes), long)) in
     pieces-front s (omega (arith, ends .later, ends .reached)) ∙ ap (followed pieces s) is ∙ ap (λ (l : List ℕ). field u ∷ pieces l) behind
 
--- where no field is spelled at the front, the input is malformed there, and what follows is not looked at
+-- Theorem. Where no field is spelled at the front, the input is malformed there, and what follows is not looked at.
 pub fault-ends : (s : List ℕ) → ((i : ℕ) → getD s i 0 < 256) → 0 < length s → ((u : Told) (rest : List ℕ) → Spells s nothing u rest → ⊥) → pieces s ≡ fault ∷ []
 fault-ends s bytes some not-one = pieces-front s some ∙ go (parsed s .whole) refl
   where
@@ -263,12 +264,12 @@ none-within most = record {
   free = omega arith;
 }
 
--- 19: which pieces are counted
+-- Theorem. The pieces that are counted stand in front, pass no limit, and would pass it with the next one.
 pub counted-well : (most : ℕ) (s : List ℕ) → Counts most (pieces s) (counted most none (pieces s))
 unfolding totalsOf sumOf
 counted-well most s = counted-from most [] (pieces s) (none-within most)
 
--- no total passes the limit
+-- Theorem. No total of a tally passes the limit.
 pub none-passes : (most : ℕ) (s : List ℕ) → AtMost most (tallyOf most s .totals)
 none-passes most s = subst (AtMost most) (sym (totals-are most s)) (counted-well most s .within)
 
@@ -297,7 +298,7 @@ not-full : (b : Bool) → cond b Malformed Whole ≡ Full → ⊥
 not-full true e = let z : _≡_ {A = ℕ} 0 1 = cc in omega arith
 not-full false e = let z : _≡_ {A = ℕ} 0 1 = cc in omega arith
 
--- 19 is told exactly where a total over all pieces passes the limit
+-- Theorem. 19 is told exactly where a total over all pieces passes the limit.
 pub full-exactly : (most : ℕ) (s : List ℕ)
     → (tallyOf most s .ending ≡ Full → AtMost most (totalsOf (pieces s)) → ⊥) × ((AtMost most (totalsOf (pieces s)) → ⊥) → tallyOf most s .ending ≡ Full)
 unfolding tallyOf tallyOn endingOf
@@ -329,16 +330,16 @@ full-exactly most s = (told (rest-of .rest) (rest-of .front) (rest-of .passes), 
 
 -- ---- the public step
 
--- a step that goes on leaves the tally of what stands behind its field, with the totals so far
+-- Theorem. A step that goes on leaves the tally of what stands behind its field, with the totals so far.
 pub step-goes-on : (most : ℕ) (t : Totals) (s : List ℕ) {t′ : Totals} {end : ℕ} → stepped most t s ≡ On t′ end → tallyOn most t s ≡ tallyOn most t′ (drop end s)
 step-goes-on most t s {t′} {end} e =
     let moved = step-moves most t s e in
     tally-step most t s (omega (arith, moved .0, moved .1)) ∙ ap (afterStep (tallyOn most) s) e
 
--- one that does not gives the tally
+-- Theorem. A step that does not go on gives the tally of the whole input.
 pub step-ends : (most : ℕ) (t : Totals) (s : List ℕ) {ending : Ending} {t′ : Totals} → 0 < length s → stepped most t s ≡ Over ending t′ → tallyOn most t s ≡ tally ending t′
 step-ends most t s some e = tally-step most t s some ∙ ap (afterStep (tallyOn most) s) e
 
--- a step that goes on passes no limit
+-- Theorem. A step that goes on leaves no total above the limit.
 pub step-within : (most : ℕ) (t : Totals) (s : List ℕ) {t′ : Totals} {end : ℕ} → stepped most t s ≡ On t′ end → AtMost most t′
 step-within most t s e = within-all (step-on most t s e .3)

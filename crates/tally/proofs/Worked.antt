@@ -21,6 +21,7 @@ use Rattle.tally.specs.Tally.{countsOf, totalsOf, plus, larger, largest,
 use Rattle.tally.specs.Text.{eachText, rateText, lineOf, endingText, tallyText}
 use Rattle.tally.specs.Cases.{Holds, empty, case-g, one-given, end-alone, all-given, inexact, remainder, one-refused, cut, limited}
 
+-- Theorem. The ten lines worked by hand are what the tally prints.
 pub worked : Holds empty × Holds case-g × Holds one-given × Holds end-alone × Holds all-given × Holds inexact × Holds remainder × Holds one-refused × Holds cut × Holds limited
 unfolding tallyText endingText lineOf rateText eachText tallyOf tallyOn endingOf hasFault counted isWithin largest larger plus totalsOf countsOf sumOf
     pieces piecesFrom countTo hasPassed accepted isRead valuesOf ofRead isForcedTo spelled spell bytesOf parsed readFrom taken readAt markedAt weightAt entryAt

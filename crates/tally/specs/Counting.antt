@@ -21,22 +21,25 @@ use Rattle.tally.specs.declared.Met.{Met}
 use Rattle.tally.specs.declared.Met.the-variants.{Field as Found, Malformed}
 use Rattle.tally.specs.declared.counting.Fates.{Fates}
 
+-- How many variables are given, forced to 0, forced to 1 and free.
 abbrev pub fates : ℕ → ℕ → ℕ → ℕ → Fates
 fates given to-zero to-one free = record { given = given; zero = to-zero; one = to-one; free = free }
 
--- of the first n variables
+-- The same of the first n variables, from their start values and their values at the end.
 unfoldable pub fatesOf : List ℕ → List ℕ → ℕ → Fates
 fatesOf start values n =
     fates (countTo (λ i. not (isFree start i)) n) (countTo (isForcedTo 0 start values) n) (countTo (isForcedTo 1 start values) n) (countTo (isFree values) n)
 
+-- What a field that is read adds: one field, its grade, and its variables.
 unfoldable pub withFates : ℕ → ℕ → Fates → Totals
 withFates exact inexact d = totals 1 exact inexact 0 (d .given) (d .zero) (d .one) (d .free)
 
--- a field that is read
+-- What a field that is read adds, by its grade.
 unfoldable pub readCounts : Grade → List ℕ → List ℕ → Totals
 readCounts Exact start values = withFates 1 0 (fatesOf start values (length start))
 readCounts Inexact start values = withFates 0 1 (fatesOf start values (length start))
 
+-- What a field adds whose tests were made: one refused field where a test failed.
 unfoldable pub checkedCounts : Checked → Field → List ℕ → Totals
 checkedCounts Passed F s = readCounts (gradeOf F) s (closure F s)
 checkedCounts (Failed r) F s = countsOf fault

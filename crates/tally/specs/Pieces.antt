@@ -1,4 +1,4 @@
--- The fields of an input, and what each adds to the totals (document 02, C-22), each total by a definition of its own. Assumes nothing.
+-- The fields of an input, and what each adds to the totals, each total by a definition of its own (rules 20.1 to 20.5). Assumes nothing.
 use Prim.Native.Nat.{ℕ, zero, suc, _+_}
 use mathlib.Core.Bool.{Bool, true, false, not, _&&_, cond}
 use mathlib.Core.List.{List, [], _∷_}
@@ -30,12 +30,13 @@ piecesFrom zero s = []
 piecesFrom (suc k) [] = []
 piecesFrom (suc k) (b ∷ s) = followed (piecesFrom k) (b ∷ s) (parsed (b ∷ s))
 
--- "fields one after another, each ended by ZZ"; each has two bytes at least, so as many as there are bytes are enough
+-- The fields one after another, each ended by ZZ (20.1); each has two bytes at least, so as many as there are bytes are enough.
 unfoldable pub pieces : List ℕ → List Piece
 pieces s = piecesFrom (length s) s
 
 -- ---- what one adds
 
+-- 1 where it holds, else 0.
 abbrev pub one : Bool → ℕ
 one b = cond b 1 0
 
@@ -44,6 +45,7 @@ unfoldable pub countTo : (ℕ → Bool) → ℕ → ℕ
 countTo p zero = 0
 countTo p (suc n) = countTo p n + one (p n)
 
+-- Whether no test failed.
 unfoldable pub hasPassed : Checked → Bool
 hasPassed Passed = true
 hasPassed (Failed r) = false
@@ -52,6 +54,7 @@ hasPassed (Failed r) = false
 unfoldable pub accepted : Told → Bool
 accepted t = hasPassed (tested (standardTests (fieldTold t) (t .start)))
 
+-- Whether a piece is a field that its tests accept.
 unfoldable pub isRead : Piece → Bool
 isRead (field t) = accepted t
 isRead fault = false
@@ -60,21 +63,24 @@ isRead fault = false
 unfoldable pub valuesOf : Told → List ℕ
 valuesOf t = closure (fieldTold t) (t .start)
 
--- "refused fields count only as refused, not as read": what a field has, where it is read
+-- What a field has where it is read: a refused one counts as refused alone (20.5).
 unfoldable pub ofRead : (Told → ℕ) → Piece → ℕ
 ofRead g (field t) = cond (accepted t) (g t) 0
 ofRead g fault = 0
 
--- the number read, exact, inexact and refused
+-- How many fields it is that are read: one or none.
 abbrev pub reads : Piece → ℕ
 reads = ofRead (λ t. 1)
 
+-- How many exact fields that are read.
 abbrev pub exacts : Piece → ℕ
 exacts = ofRead (λ t. one (isExact (fieldTold t)))
 
+-- How many inexact fields that are read.
 abbrev pub inexacts : Piece → ℕ
 inexacts = ofRead (λ t. one (not (isExact (fieldTold t))))
 
+-- How many refused ones: a field that a test refuses, or a malformed record.
 abbrev pub refusals : Piece → ℕ
 refusals p = one (not (isRead p))
 
@@ -82,16 +88,19 @@ refusals p = one (not (isRead p))
 unfoldable pub isForcedTo : ℕ → List ℕ → List ℕ → ℕ → Bool
 isForcedTo value start values i = isFree start i && eqb (getD values i 0) value
 
--- "variables given, forced to 0, forced to 1 and free at the end"
+-- The variables that its records give.
 abbrev pub givens : Piece → ℕ
 givens = ofRead (λ t. countTo (λ i. not (isFree (t .start) i)) (length (t .linear)))
 
+-- The variables that no record gives and that are 0 at the end.
 abbrev pub zeros : Piece → ℕ
 zeros = ofRead (λ t. countTo (isForcedTo 0 (t .start) (valuesOf t)) (length (t .linear)))
 
+-- The variables that no record gives and that are 1 at the end.
 abbrev pub ones : Piece → ℕ
 ones = ofRead (λ t. countTo (isForcedTo 1 (t .start) (valuesOf t)) (length (t .linear)))
 
+-- The variables that are free at the end.
 abbrev pub frees : Piece → ℕ
 frees = ofRead (λ t. countTo (isFree (valuesOf t)) (length (t .linear)))
 
@@ -99,7 +108,7 @@ frees = ofRead (λ t. countTo (isFree (valuesOf t)) (length (t .linear)))
 abbrev pub variables : Piece → ℕ
 variables = ofRead (λ t. length (t .linear))
 
--- "the sum over fields"
+-- The sum over pieces.
 unfoldable pub sumOf : (Piece → ℕ) → List Piece → ℕ
 sumOf g [] = 0
 sumOf g (p ∷ ps) = g p + sumOf g ps

@@ -1,4 +1,4 @@
--- The text of a tally (document 02, C-22): "only one line for all, parted by spaces", and a refusal's line before it. Assumes nothing.
+-- The text of a tally: one line of totals parted by spaces, and a refusal's line before it (rules 20.7 and 20.9). Assumes nothing.
 use Prim.Native.Nat.{ℕ, _+_, _*_, _/_, _%_}
 use mathlib.Core.Bool.{cond}
 use mathlib.Core.List.{List, [], _∷_, _++_}
@@ -14,7 +14,7 @@ unfoldable pub eachText : List ℕ → List ℕ
 eachText [] = []
 eachText (n ∷ ns) = (decimal n ++ space) ++ eachText ns
 
--- "forced per thousand of those not given, as a whole number and its remainder, or one dash where there are none"
+-- The forced per thousand of those not given, as a whole number and its remainder, or one dash where there are none (20.7).
 unfoldable pub rateText : ℕ → ℕ → List ℕ
 rateText forced rest = cond (eqb rest 0) (45 ∷ []) (decimal (1000 * forced / rest) ++ (space ++ decimal (1000 * forced % rest)))
 
@@ -24,11 +24,12 @@ lineOf t =
     eachText (t .read ∷ t .exact ∷ t .inexact ∷ t .refused ∷ [])
     ++ (eachText (t .given ∷ t .zero ∷ t .one ∷ t .free ∷ []) ++ (rateText (t .zero + t .one) (t .zero + t .one + t .free) ++ newline))
 
--- "Either prints its line before the tally"
+-- The line of a refusal, which stands before the tally (20.9).
 unfoldable pub endingText : Ending → List ℕ
 endingText Whole = []
 endingText Malformed = refusedText 11
 endingText Full = refusedText 19
 
+-- What is printed: the refusal, if there is one, and the line of totals.
 unfoldable pub tallyText : Tally → List ℕ
 tallyText y = endingText (y .ending) ++ lineOf (y .totals)

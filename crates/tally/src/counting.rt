@@ -8,6 +8,7 @@ ghost use Rattle.scratch.specs.Lent.{before};
 ghost use Rattle.tally.specs.Pieces.{one as oneOf};
 ghost use Rattle.tally.specs.Counting.{fatesOf};
 
+// How many variables are given, forced to 0, forced to 1 and free at the end.
 pub struct Fates {
     pub given: u64,
     pub zero: u64,
@@ -37,6 +38,7 @@ fn forced(was: u8, is: u8, value: u8) -> u64
     if was == 2 { equal(is, value) } else { 0 }
 }
 
+// Counts the variables of a field by what became of them.
 pub fn count(start: &[u8], values: &[u8]) -> Fates
     requires { ⌜ length (now values) ≡ length (now start) ⌝ }
     requires { ⌜ length (now start) ≤ 256 ⌝ }

@@ -27,7 +27,7 @@ from {most} {t} {held} (onward {x = x} {xs = xs} some turns rest) bytes =
     ∙ turns .keeps some (joined xs) (back-bytes x (joined xs) bytes)
     ∙ ap (tallyOn most t) (append-assoc held x (joined xs))
 
--- ANY CUT of the input into reads gives the tally of the whole input
+-- Theorem. Any cut of the input into reads gives the tally of the whole input.
 pub any-cut : (most : ℕ) (xs : List (List ℕ)) (y : Tally) → Bytes (joined xs) → Loops most none [] xs y → y ≡ tallyOf most (joined xs)
 unfolding tallyOf
 any-cut most xs y bytes loop = from loop bytes

@@ -1,4 +1,4 @@
--- What the loop over an input does that is read in parts into a bounded buffer: one read, and all reads (document 02, C-22). Assumes nothing.
+-- What the loop over an input does that is read in parts into a bounded buffer: one read, and all reads (rule 20.10). Assumes nothing.
 use Prim.Native.Nat.{ℕ, _+_, _-_, _*_, _^_, _<_}
 use mathlib.Core.Path.{_≡_}
 use mathlib.Core.List.{List, [], _∷_, _++_}
@@ -9,6 +9,7 @@ use Rattle.tally.specs.declared.Ending.{Ending}
 use Rattle.tallying.specs.declared.Turned.{Turned}
 use Rattle.tallying.specs.declared.Turned.the-variants.{On, Over}
 
+-- Every element is a byte.
 abbrev pub Bytes : List ℕ → Type 0
 Bytes s = (i : ℕ) → getD s i 0 < 256
 
@@ -19,6 +20,7 @@ abbrev pub toCome : ℕ → Turned → List ℕ → List ℕ → Tally
 toCome most (On t held) buffer more = tallyOn most t (take held buffer ++ more)
 toCome most (Over e t) buffer more = tally e t
 
+-- The tally as the end of a turn.
 abbrev pub overOf : Tally → Turned
 overOf y = Over (y .ending) (y .totals)
 
@@ -58,6 +60,7 @@ pub record Nearer (room : ℕ) (t : Totals) (held : ℕ) (t′ : Totals) (k : �
   pub inside : k < room
   pub less : toGo room t′ k < toGo room t held
 
+-- After a turn: nearer to the end where the loop goes on, and small totals where it is over.
 abbrev pub Goes : ℕ → Totals → ℕ → Turned → Type 0
 Goes room t held (On t′ k) = Nearer room t held t′ k
 Goes room t held (Over e t′) = Small t′

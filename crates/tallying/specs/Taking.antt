@@ -35,10 +35,12 @@ pub record Onto (last : Bool) (t : Totals) (s : List ℕ) (t′ : Totals) (at : 
   pub moved : longestInput < length s → 0 < at
   pub further : longestInput < length s → fieldsOf t < fieldsOf t′
 
+-- What is left after fields were taken: an index behind them, or the tally with small totals.
 abbrev pub Went : Bool → Totals → List ℕ → Turned → Type 0
 Went last t s (On t′ at) = Onto last t s t′ at
 Went last t s (Over e t′) = Small t′
 
+-- Fields were taken from the front: whatever may follow, the tally to come is what it was.
 pub record Takes (last : Bool) (most : ℕ) (t : Totals) (s : List ℕ) (r : Turned) : Type 0 where
   pub same : (more : List ℕ) → Follows last more → leftOf most r s more ≡ tallyOn most t (s ++ more)
   pub went : Went last t s r

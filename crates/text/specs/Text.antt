@@ -11,6 +11,7 @@ use Rattle.field.specs.declared.Grade.{Grade}
 use Rattle.field.specs.declared.Grade.the-variants.{Exact, Inexact}
 use Rattle.scratch.specs.Over.{over}
 
+-- The byte of the decimal digit n, a number below 10, in ASCII.
 abbrev pub digit : ℕ → ℕ
 digit n = 48 + n
 
@@ -23,10 +24,11 @@ digits (suc k) n = cond (ltb n 10) (digit n ∷ []) (digits k (n / 10) ++ digit 
 unfoldable pub decimal : ℕ → List ℕ
 decimal n = digits 20 n
 
--- a space, and the end of a line
+-- The one byte of a space, which stands between the two numbers of an x line.
 abbrev pub space : List ℕ
 space = 32 ∷ []
 
+-- The one byte that ends every line of the text, which is a line feed.
 abbrev pub newline : List ℕ
 newline = 10 ∷ []
 
@@ -51,6 +53,7 @@ endLine count = (101 ∷ 110 ∷ 100 ∷ 32 ∷ []) ++ (decimal count ++ newline
 abbrev pub isForced : List ℕ → List ℕ → ℕ → Bool
 isForced start values i = isFree start i && not (isFree values i)
 
+-- The variable i, as a list of one, where it is forced, and the empty list elsewhere.
 abbrev pub forcedAt : List ℕ → List ℕ → ℕ → List ℕ
 forcedAt start values i = cond (isForced start values i) (i ∷ []) []
 
@@ -59,10 +62,12 @@ unfoldable pub forced : List ℕ → List ℕ → ℕ → List ℕ
 forced start values zero = []
 forced start values (suc n) = forced start values n ++ forcedAt start values n
 
+-- The x lines of these variables, in order, each with its value.
 unfoldable pub forcedLines : List ℕ → List ℕ → List ℕ
 forcedLines values [] = []
 forcedLines values (i ∷ is) = forcedLine i (getD values i 0) ++ forcedLines values is
 
+-- The text of an answer: the grade, an x line for each forced variable, rising, and their count.
 unfoldable pub answerText : Grade → List ℕ → List ℕ → List ℕ
 answerText grade start values =
     let is = forced start values (length start) in

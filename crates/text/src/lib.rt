@@ -15,6 +15,7 @@ fn put(out: &mut [u8], at: usize, byte: u8) -> usize
     at + 1
 }
 
+// Writes these bytes from index `at` on, and answers the index behind them.
 pub fn put_bytes(out: &mut [u8], at: usize, text: &[u8]) -> usize
     requires { ⌜ at + length (now text) ≤ length (now out) ⌝ }
     ensures { λ r. ⌜ Wrote (before text) (before out) at (after out) r ⌝ }
@@ -146,6 +147,7 @@ pub fn write_answer(grade: Grade, start: &[u8], values: &[u8], out: &mut [u8]) -
     put_end(out, shown.at, shown.count)
 }
 
+// Writes `refused` with its number and the end of the line at the front, and answers how long that is.
 pub fn write_refused(number: usize, out: &mut [u8]) -> usize
     requires { ⌜ number < 1000 ⌝ }
     requires { ⌜ 12 ≤ length (now out) ⌝ }

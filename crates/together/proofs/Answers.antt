@@ -28,7 +28,7 @@ use Rattle.anchors.specs.Model as model
 use Rattle.anchors.specs.Call as anchors
 use Rattle.together.specs.Worked.{two-pairs, swallowing, one-pair, listings, given, expected, closed, enumerated}
 
--- the anchors are those worked by hand
+-- Theorem. The anchors are those worked by hand.
 pub anchors-worked : map given listings ≡ map expected listings
 unfolding called staged keeping anchors.anchorsCall
     openTests looseTests shapeTests fewVariables listsMatch inOrder isFine firstFrom wrongAt faultOf offDiagonal weightsFinite startFits floatsFit wordsFit

@@ -31,7 +31,7 @@ one-inside (v ∷ x) zero h = omega arith
 one-inside (v ∷ x) (suc i) h = omega (arith, one-inside x i h)
 
 module _ (F : Field) (s : List ℕ) (least : ℕ) (list : List ℕ) (f : List Float) (u : List ℕ) (k : ℕ) (e : anchorsCall F s least list f u .answer ≡ Counts grade.Exact k) where
-  -- On an exact field, for every choice of 0 or 1 at each of the listed anchors, some best completion makes all those choices at once,
+  -- Theorem. On an exact field, for every choice of 0 or 1 at each of the listed anchors, some best completion makes all those choices at once,
   -- and obeys every gradient value, probe value, probe constraint and pair constraint found from the same start values.
   pub all-at-once : {unit : ℕ} → Serves unit F → (choice : ℕ → ℕ) → ((j : ℕ) → j < k → choice j < 2)
       → AllAtOnce unit F s (anchorsCall F s least list f u .lent .list) k choice
@@ -57,13 +57,13 @@ module _ (F : Field) (s : List ℕ) (least : ℕ) (list : List ℕ) (f : List Fl
       let long : length (T .completion) ≡ variables F = T .best .completion .extends .as-long ∙ fit F s least list f u _ k e .start .long in
       omega (arith, long, one-inside (T .completion) (getD (anchorsCall F s least list f u .lent .list) j 0) (T .chosen j h))
 
-  -- No listed anchor has a gradient or a probe value: the other choice would break it.
+  -- Theorem. No listed anchor has a gradient or a probe value: the other choice would break it.
   pub anchor-unvalued : (j : ℕ) → j < k → (v : ℕ) → v < 2 → Leaves F s (getD (anchorsCall F s least list f u .lent .list) j 0) v → ⊥
   anchor-unvalued j h v few found =
       let T = all-at-once unit-serves (λ i. 1 - v) (λ i g. omega arith) in
       omega (arith, T .chosen j h, T .obeys .values _ v (anchor-below j h) few found)
 
-  -- No record joins two listed anchors: the choice of a pair that it forbids would break it.
+  -- Theorem. No record joins two listed anchors: the choice of a pair that it forbids would break it.
   pub anchors-unjoined : (r : Record) → Lists F s r → (i j : ℕ) → i < k → j < k
       → r .lower ≡ getD (anchorsCall F s least list f u .lent .list) i 0 → r .higher ≡ getD (anchorsCall F s least list f u .lent .list) j 0 → ⊥
   anchors-unjoined r found i j hi hj lower higher = T .obeys .records r found (rw (at-lower, at-higher) (forbidden .1))

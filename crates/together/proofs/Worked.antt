@@ -129,7 +129,7 @@ only-made a b ha hb = record {
         at (suc (suc (suc (suc zero)))) h = rest .last
         at (suc (suc (suc (suc (suc i))))) h = absurd (omega (arith, more .as-long))
 
--- ALL FOUR CHOICES at the anchors 0 and 2 of two pairs, each with its one best completion
+-- Theorem. ALL FOUR CHOICES at the anchors 0 and 2 of two pairs, each with its one best completion.
 pub four-choices : EachBest two-pairs four
 four-choices = rw (units-worked .0)
     (only-made 0 0 (omega arith) (omega arith), (only-made 0 1 (omega arith) (omega arith), (only-made 1 0 (omega arith) (omega arith), (only-made 1 1 (omega arith) (omega arith), _))))
@@ -168,7 +168,7 @@ only-opposite = record {
     at y best z (suc zero) h = let g = rw z at (best .least opposite opposite-full) in omega (arith, g, best .completion .full 1)
     at y best z (suc (suc i)) h = absurd (omega (arith, best .completion .extends .as-long))
 
--- ENUMERATED VALUES ARE NOT AMONG WHAT IT OBEYS: on case m the components are 1,0, and the one best completion with 0 at the anchor is 0,1
+-- Theorem. ENUMERATED VALUES ARE NOT AMONG WHAT IT OBEYS: on case m the components are 1,0, and the one best completion with 0 at the anchor is 0,1.
 pub enumerated-apart : (enumerated one-pair .lent .values ≡ 1 ∷ 0 ∷ []) × EachBest one-pair turned
 enumerated-apart = (components-worked .1, rw (units-worked .1) (only-opposite, _))
 
@@ -204,7 +204,7 @@ at-first x best = by (zero-or-one (full 0)) (zero-or-one (full 4))
     by (inl e) (inl d) = let g = rw (e, d) at (best .least unswallowed unswallowed-full) in absurd (omega (arith, g, full 1, full 2, full 3, full 5))
     by (inl e) (inr d) = let g = rw (e, d) at (best .least unswallowed unswallowed-full) in absurd (omega (arith, g, full 1, full 2, full 3, full 5))
 
--- EXACTNESS CANNOT BE DROPPED: variable 4 is an anchor, and no best completion, counted in quarters, of which each weight is a whole number, obeys the gradient value x0 = 0
+-- Theorem. EXACTNESS CANNOT BE DROPPED: variable 4 is an anchor, and no best completion, counted in quarters, of which each weight is a whole number, obeys the gradient value x0 = 0.
 pub exactness-needed : IsBest 1072 swallowing (1 ∷ 0 ∷ 1 ∷ 0 ∷ 0 ∷ 1 ∷ []) × ((x : List ℕ) → IsBest 1072 swallowing x → Obeys swallowing (free swallowing) x → ⊥)
 exactness-needed = (
   record { completion = unswallowed-full; least = λ y c. least-rate y (c .full) (zero-or-one (c .full 0)) (zero-or-one (c .full 4)) },

@@ -22,12 +22,15 @@ use Rattle.components.specs.Call as components
 
 -- ---- fields
 
+-- The weight -0.5, of each end of a pair that is symmetric under opposite values.
 abbrev pub minus-half : Float
 minus-half = fin true 1 (negsuc 0)
 
+-- The weight 1.0, as of the variable that stands beside the two pairs.
 abbrev pub one : Float
 one = fin false 1 (pos 0)
 
+-- The weight 2.0, as of the entry that joins the two ends of a symmetric pair.
 abbrev pub two : Float
 two = fin false 1 (pos 1)
 
@@ -50,12 +53,15 @@ one-pair = fieldOf (minus-half ∷ minus-half ∷ []) (0 ∷ []) (1 ∷ []) (two
 
 -- ---- what the calls answer, in scratch of the least length
 
+-- Start values with which every variable of the field is free.
 abbrev pub free : Field → List ℕ
 free F = replicate (variables F) 2
 
+-- Float scratch of the least length that the tests allow, all zeros.
 abbrev pub floats : Field → List Float
 floats F = replicate (8 * variables F + 4 * entries F + 16) zero64
 
+-- Word scratch of the least length that the tests allow, all zeros.
 abbrev pub words : Field → List ℕ
 words F = replicate (16 * variables F + 8 * entries F + 16) 0
 
@@ -66,9 +72,11 @@ pub record Listing : Type 0 where
   pub grade : Grade
   pub list : List ℕ
 
+-- A worked listing, made of a field, its start values, its grade and its anchors.
 abbrev pub anchored : Field → List ℕ → Grade → List ℕ → Listing
 anchored F s g l = record { field = F; start = s; grade = g; list = l }
 
+-- The fields whose anchors were worked by hand, each with the answer that is expected.
 abbrev pub listings : List Listing
 listings =
     anchored two-pairs (free two-pairs) Exact (0 ∷ 2 ∷ [])
@@ -78,17 +86,19 @@ listings =
     ∷ anchored one-pair (free one-pair) Exact (0 ∷ [])
     ∷ []
 
--- what the promise of the call gives, with a list of zeros as long as the anchors, and what stands there
+-- What the promise of `anchors` gives, with a list of zeros just long enough for the anchors.
 abbrev pub given : Listing → anchors.Left
 given x = anchors.anchorsCall (x .field) (x .start) 0 (replicate (length (x .list)) 0) (floats (x .field)) (words (x .field))
 
+-- What stands worked by hand: the grade, how many anchors, and the anchors in the list.
 abbrev pub expected : Listing → anchors.Left
 expected x = anchors.left (Counts (x .grade) (length (x .list))) (x .list) (floats (x .field)) (words (x .field))
 
--- the gradient values of nothing given, and the enumerated ones
+-- What `closure` answers and leaves with nothing given: the gradient values.
 abbrev pub closed : Field → closure.Left
 closed F = closure.closureCall F (free F) (floats F) (words F)
 
+-- What `components` answers and leaves with nothing given: the enumerated values.
 abbrev pub enumerated : Field → values.Left
 enumerated F = components.componentsCall F (free F) (floats F) (words F)
 
@@ -98,7 +108,7 @@ enumerated F = components.componentsCall F (free F) (floats F) (words F)
 abbrev pub IsBest : ℕ → Field → List ℕ → Type 0
 IsBest unit F x = Best (wholeOf unit F) (free F) x
 
--- and the only one that has the values of t
+-- x is the only best completion of nothing given that has the values of t.
 pub record OnlyBest (unit : ℕ) (F : Field) (t x : List ℕ) : Type 0 where
   pub best : IsBest unit F x
   pub has : Extends t x
@@ -109,6 +119,7 @@ pub record Choice : Type 0 where
   pub values : List ℕ
   pub completion : List ℕ
 
+-- A worked choice, made of the values at anchors and of a completion that has them.
 abbrev pub chosen : List ℕ → List ℕ → Choice
 chosen t x = record { values = t; completion = x }
 

@@ -38,7 +38,7 @@ valuesLeft F u = region (valuesAt F) (variables F) u
 unfoldable pub roomed : List ℕ → ℕ → List ℕ → ℕ → ℕ → ℕ → Left
 roomed list held u lo hi n = cond (leb n (length u - hi)) (left (Holds held) list u) (flushed list held u lo hi)
 
--- where they end then
+-- Where the gathered numbers end after room was made: at their beginning if they were flushed.
 unfoldable pub endAfter : ℕ → ℕ → ℕ → ℕ → ℕ
 endAfter long lo hi n = cond (leb n (long - hi)) hi lo
 

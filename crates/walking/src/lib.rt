@@ -34,7 +34,7 @@ pub fn make_room(
     flush(list, held, u, lo, hi)
 }
 
-// Where they end then.
+// Answers where the gathered numbers end once room was made: where they begin, if they were flushed.
 pub fn end_after(long: usize, lo: usize, hi: usize, n: usize) -> usize
     requires { ⌜ hi ≤ long ⌝ }
     ensures { λ r. ⌜ r ≡ endAfter long lo hi n ⌝ }

@@ -194,6 +194,7 @@ module _ (u : ℕ) (l : 64 < u) (h : u < 2067) where
       (λ w. let z = subst (λ (y : Float). T (finite y) → T (wholeIn binary64 u y) → Fits u y ↔ (exponent x * lead + digits x ≤ limitOf u)) same (fields-size u (omega arith) s (digits x) small (exponent x)) n w in
       (z .1, z .0)))
 
+  -- Theorem. Two comparisons on the bits of |x| say whether x is whole in the unit u and at most 2^31 units.
   pub pattern-weighs : (x : Float) → T (fits binary64 x) → ((u < beyond (pattern x)) × (pattern x ≤ limitOf u)) ↔ (T (wholeIn binary64 u x) × (plus binary64 u x + minus binary64 u x ≤ 2 ^ 31))
   unfolding pattern wholeIn
   pattern-weighs nan t = infinite refl

@@ -21,18 +21,23 @@ use Rattle.weights.proofs.Same as S
 -- ---- two floats
 
 module _ {u : ℕ} {x y : Float} {a b : Whole} where
+  -- Theorem. A sum in f64 is exact where both parts are whole in the unit and the sum is small.
   pub add-worth : Worth u x a → Worth u y b → Small (a ⊕ b) → Worth u (add binary64 x y) (a ⊕ b)
   add-worth h k w = record { unit = h .unit; is = C.add-counts binary64 u (omega (arith, h .unit)) x y _ _ _ _ (h .is) (k .is) w }
 
+  -- Theorem. A difference in f64 is exact where both parts are whole in the unit and the difference is small.
   pub sub-worth : Worth u x a → Worth u y b → Small (a ⊖ b) → Worth u (sub binary64 x y) (a ⊖ b)
   sub-worth h k w = record { unit = h .unit; is = C.sub-counts binary64 u (omega (arith, h .unit)) x y _ _ _ _ (h .is) (k .is) w }
 
+  -- Theorem. A float below another is a ledger below the other: the test in f64 is that of whole numbers.
   pub lt-worth : Worth u x a → Worth u y b → lt x y ≡ ltb (a .plus + b .less) (b .plus + a .less)
   lt-worth h k = O.lt-counts binary64 u _ _ _ _ x y (h .is) (k .is)
 
+  -- Theorem. A float at most another is a ledger at most the other, as tests.
   pub le-worth : Worth u x a → Worth u y b → le x y ≡ leb (a .plus + b .less) (b .plus + a .less)
   le-worth h k = O.le-counts binary64 u _ _ _ _ x y (h .is) (k .is)
 
+  -- Theorem. Two floats are equal exactly if their ledgers are the same number, as tests.
   pub eq-worth : Worth u x a → Worth u y b → eq x y ≡ eqb (a .plus + b .less) (b .plus + a .less)
   eq-worth h k = O.eq-counts binary64 u _ _ _ _ x y (h .is) (k .is)
 
@@ -66,12 +71,15 @@ unfolding ofBits
 four-is = (refl, refl)
 
 module _ {u : ℕ} {x : Float} {a : Whole} where
+  -- Theorem. Turning the sign turns the ledger, with no condition.
   pub neg-worth : Worth u x a → Worth u (neg x) (nothing ⊖ a)
   neg-worth h = as-worth {a = record { plus = a .less; less = a .plus }} (record { unit = h .unit; is = C.neg-counts binary64 u x _ _ (h .is) }) (omega arith)
 
+  -- Theorem. Clearing the sign makes a ledger its size, with no condition.
   pub magnitude-worth : Worth u x a → Worth u (magnitude x) (size a)
   magnitude-worth h = record { unit = h .unit; is = S.magnitude-counts binary64 u _ _ x (h .is) }
 
+  -- Theorem. Half of x, in f64, is as many half units as x is units, where that is small.
   pub half-worth : Worth (suc u) x a → Small a → Worth u (mul binary64 half64 x) a
   half-worth h w = rw half-is (record { unit = omega (arith, h .unit); is = C.half-counts binary64 u (omega (arith, h .unit)) x _ _ (h .is) w })
 
@@ -79,15 +87,18 @@ module _ {u : ℕ} {x : Float} {a : Whole} where
   by-worth : (y : Float) (v : ℕ) → HasValue y false v 1 → Worth u x a → Small (a ⊙ v) → Worth u (mul binary64 x y) (a ⊙ v)
   by-worth y v is h w = record { unit = h .unit; is = C.whole-counts binary64 u (omega (arith, h .unit)) x y _ _ v (h .is) is w }
 
+  -- Theorem. A product with a whole number is exact where it is small.
   pub times-worth : (v : ℕ) → v ≤ 2 ^ 53 → Worth u x a → Small (a ⊙ v) → Worth u (mul binary64 x (ofInt binary64 (pos v))) (a ⊙ v)
   times-worth v b h w = by-worth (ofInt binary64 (pos v)) v (C.ofInt-value binary64 v b) h w
 
   pub whole-worth : (y : Float) (v : ℕ) → HasValue y false v 1 → Worth u x a → Small (a ⊙ v) → Worth u (mul binary64 y x) (a ⊙ v)
   whole-worth y v is h w = rw (C.mul-swap binary64 y x) (by-worth y v is h w)
 
+  -- Theorem. Twice x, in f64, is exact where it is small.
   pub two-worth : Worth u x a → Small (a ⊙ 2) → Worth u (mul binary64 two64 x) (a ⊙ 2)
   two-worth h w = whole-worth two64 2 two-is h w
 
+  -- Theorem. Four times x, in f64, is exact where it is small.
   pub four-worth : Worth u x a → Small (a ⊙ 4) → Worth u (mul binary64 four64 x) (a ⊙ 4)
   four-worth h w = whole-worth four64 4 four-is h w
 
@@ -113,7 +124,7 @@ module _ {u : ℕ} {x : Float} {a : Whole} (h : Worth u x a) where
   pub at-least-zero : le zero64 x ≡ leb (a .less) (a .plus)
   at-least-zero = le-worth (zero-worth (h .unit)) h ∙ ap₂ leb (zero-add (a .less)) (add-zero (a .plus))
 
--- what is left over of an error-free sum is 0
+-- Theorem. What is left over of an error-free sum is 0.
 pub two-sum : {u : ℕ} {x y : Float} {a b : Whole} → Worth u x a → Worth u y b → Small b → Small (a ⊕ b) → ne (sub binary64 y (sub binary64 (add binary64 x y) x)) zero64 ≡ false
 unfolding ne
 two-sum {u} {x} {y} {a} {b} h k v w =
@@ -127,6 +138,7 @@ pub read-worth : {u : ℕ} (x : Float) → u ≤ 2044 → T (wholeIn binary64 u 
 read-worth {u} x b t = record { unit = b; is = S.read-counts binary64 u x t }
 
 module _ {u : ℕ} {x : Float} {a : Whole} (h : Worth u x a) where
+  -- Theorem. What is worth a ledger in a unit is a whole number of that unit.
   pub worth-whole : T (wholeIn binary64 u x)
   worth-whole = S.counts-whole binary64 u _ _ x (h .is)
 

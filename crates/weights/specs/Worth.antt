@@ -31,15 +31,18 @@ clear nan = false
 clear (inf s) = not s
 clear (fin s m e) = not s
 
--- 0.0, 0.5, 2.0 and 4.0
+-- The float 0.0, with which lent float scratch is cleared and sums begin.
 abbrev pub zero64 : Float
 zero64 = ofBits binary64 0
 
+-- The float 0.5, by which q is multiplied to be a coefficient of a row.
 abbrev pub half64 : Float
 half64 = ofBits binary64 0x3fe0_0000_0000_0000
 
+-- The float 2.0, by which q of a diagonal entry is multiplied in a balance.
 abbrev pub two64 : Float
 two64 = ofBits binary64 0x4000_0000_0000_0000
 
+-- The float 4.0, by which c of a variable is multiplied in its balance.
 abbrev pub four64 : Float
 four64 = ofBits binary64 0x4010_0000_0000_0000

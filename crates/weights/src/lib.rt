@@ -12,12 +12,14 @@ const LEADING: u64 = 4503599627370496;
 // 2^63, the weight of the sign
 const SIGN: u64 = 9223372036854775808;
 
+// Half of q in f64: the coefficient of an entry in the rows of its two ends.
 pub fn half(q: f64) -> f64
     ensures { λ r. ⌜ r ≡ mul binary64 half64 q ⌝ }
 {
     0.5 * q
 }
 
+// x with its sign cleared; a zero of either sign becomes 0.0, and a NaN stays.
 pub fn magnitude(x: f64) -> f64
     ensures { λ r. ⌜ r ≡ magnitudeOf x ⌝ }
 {
@@ -30,6 +32,7 @@ pub fn magnitude(x: f64) -> f64
     x
 }
 
+// Whether x is a finite f64, and so neither a NaN nor an infinity.
 pub fn is_finite(x: f64) -> bool
     ensures { λ r. ⌜ r ≡ finite x ⌝ }
 {

@@ -5,17 +5,21 @@ use mathlib.Core.Path.{_≡_}
 use mathlib.Core.Bool.{Bool, true, false}
 use Prim.Native.Nat.{ℕ, zero, suc, _+_, _*_, _-_, _≤_, _<_}
 
+-- A whole number as a ledger of what is gained and what is spent: it stands for plus - less, and may be below 0.
 pub record Whole : Type 0 where
   pub plus : ℕ
   pub less : ℕ
 
+-- The ledger of 0 in which nothing is gained and nothing is spent.
 abbrev pub nothing : Whole
 nothing = record { plus = 0; less = 0 }
 
+-- The sum of two whole numbers: what both gain, and what both spend.
 infixl 65 _⊕_
 abbrev pub _⊕_ : Whole → Whole → Whole
 a ⊕ b = record { plus = a .plus + b .plus; less = a .less + b .less }
 
+-- The difference a - b: what b gains is spent, and what it spends is gained.
 infixl 65 _⊖_
 abbrev pub _⊖_ : Whole → Whole → Whole
 a ⊖ b = record { plus = a .plus + b .less; less = a .less + b .plus }
@@ -35,10 +39,11 @@ unfoldable pub sum : ℕ → (ℕ → Whole) → Whole
 sum zero g = nothing
 sum (suc k) g = sum k g ⊕ g k
 
--- the smaller of a and 0, and the larger
+-- The smaller of a and 0, as a ledger on which nothing is gained.
 abbrev pub min0 : Whole → Whole
 min0 a = record { plus = 0; less = a .less - a .plus }
 
+-- The larger of a and 0, as a ledger on which nothing is spent.
 abbrev pub max0 : Whole → Whole
 max0 a = record { plus = a .plus - a .less; less = 0 }
 
@@ -55,12 +60,15 @@ a ⊑ b = a .plus + b .less ≤ b .plus + a .less
 abbrev pub _≈_ : Whole → Whole → Type 0
 a ≈ b = a .plus + b .less ≡ b .plus + a .less
 
+-- The number is 0: as much is gained as is spent, on whichever ledger.
 abbrev pub Zero : Whole → Type 0
 Zero a = a .plus ≡ a .less
 
+-- The number is above 0: on its ledger more is gained than is spent.
 abbrev pub Above0 : Whole → Type 0
 Above0 a = a .less < a .plus
 
+-- The number is below 0: on its ledger more is spent than is gained.
 abbrev pub Below0 : Whole → Type 0
 Below0 a = a .plus < a .less
 

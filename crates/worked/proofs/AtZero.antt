@@ -15,14 +15,14 @@ use Rattle.rows.specs.Row.{addTerm}
 use Rattle.rows.specs.Model.{atEnd, atEntry, rowTo, rowOf}
 use Rattle.worked.specs.Fields.{nought, two, minus-two, joined}
 
--- Case e, c=(0,0), (0,1) 2: the lower bound is exactly 0
+-- Theorem. Case e, c=(0,0), (0,1) 2: the lower bound is exactly 0.
 pub lower-at-zero : (i : ℕ) → i < 2 → (let F = joined (nought ∷ nought ∷ []) two in (rowOf F (2 ∷ 2 ∷ []) i .lower ≡ nought) × (low (wholeOf (unitOf F) F) (2 ∷ 2 ∷ []) i ≈ nothing))
 unfolding rowOf rowTo atEntry atEnd addTerm add mul le ofBits sum share plus minus unitOf firstOf serves allWeigh weighs wholeIn allBelow
 lower-at-zero zero h = (refl, refl)
 lower-at-zero (suc zero) h = (refl, refl)
 lower-at-zero (suc (suc i)) h = absurd (omega arith)
 
--- Case f, (0,1) -2: the upper bound is exactly 0
+-- Theorem. Case f, (0,1) -2: the upper bound is exactly 0.
 pub upper-at-zero : (i : ℕ) → i < 2 → (let F = joined (nought ∷ nought ∷ []) minus-two in (rowOf F (2 ∷ 2 ∷ []) i .upper ≡ nought) × (high (wholeOf (unitOf F) F) (2 ∷ 2 ∷ []) i ≈ nothing))
 unfolding rowOf rowTo atEntry atEnd addTerm add mul le ofBits sum share plus minus unitOf firstOf serves allWeigh weighs wholeIn allBelow
 upper-at-zero zero h = (refl, refl)

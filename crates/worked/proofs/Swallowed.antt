@@ -21,7 +21,7 @@ unfolding sum plus minus
 least y full =
     ⊎-elim (λ e. rw e (omega (arith, full 1, full 2, full 3))) (λ e. rw e (omega (arith, full 1, full 2, full 3))) (zero-or-one (getD y 0 0) (full 0))
 
--- 1,0,1,0 is a best completion
+-- Theorem. 1,0,1,0 is a best completion.
 pub swallowed-best : Best rates free best
 swallowed-best = record {
   completion = record { extends = record { as-long = refl; kept = kept }; full = full };
@@ -42,7 +42,7 @@ swallowed-best = record {
     full (suc (suc (suc zero))) = omega arith
     full (suc (suc (suc (suc i)))) = omega arith
 
--- and the values that the running sum forces are no best one's
+-- Theorem. The values that the running sum forces are no best completion's.
 pub swallowed-forced : Best rates free forced → ⊥
 unfolding sum plus minus
 swallowed-forced b = let h = b .least best (swallowed-best .completion) in omega (arith, h)

@@ -7,7 +7,7 @@ use Rattle.scratch.specs.All.{allBelow}
 use Rattle.field.specs.Grade.{weighs, allWeigh, serves, firstOf, unitOf}
 use Rattle.worked.specs.Units.{servingTo, serving, graded, smallest, many}
 
--- the smallest unit is the one worked by hand, and so many serve
+-- Theorem. The smallest unit is the one worked by hand, and so many serve.
 pub units-worked : (map unitOf graded ≡ smallest) × (map serving graded ≡ many)
 unfolding unitOf firstOf servingTo serves allWeigh weighs wholeIn plus minus allBelow ofBits
 units-worked = (refl, refl)

@@ -62,7 +62,7 @@ use Rattle.allow.specs.Answer as answer
 use Rattle.allow.specs.Call as allow
 use Rattle.worked.specs.Cases.{cases, given, numbers, expected}
 
--- each call's promise gives exactly the answer of the list, and leaves exactly what it says in all that was lent
+-- Theorem. Each call's promise gives exactly the answer of the list, and leaves exactly what it says in all that was lent.
 pub worked : map given cases ≡ map expected cases
 unfolding given expected numbers
     called staged keeping values.valuesBy

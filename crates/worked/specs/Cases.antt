@@ -102,6 +102,7 @@ pub data Case : Type 0 where
 abbrev pub both : List ℕ
 both = 0 ∷ 1 ∷ 6 ∷ 0 ∷ 1 ∷ 9 ∷ []
 
+-- All values worked by hand, one after another, each under the sentence that it stands for.
 abbrev pub cases : List Case
 cases =
     -- case a: nothing forced
@@ -308,23 +309,27 @@ pub data Outcome : Type 0 where
   in-entries : mend.Left → Outcome
   in-reach : allow.Left → Outcome
 
--- scratch of the least length, with numbers in it
+-- Float scratch of the least length that the tests allow, with numbers in it.
 abbrev pub floats : Field → List Float
 floats F = replicate (8 * variables F + 4 * entries F + 16) two
 
+-- Word scratch of the least length that the tests allow, with numbers in it.
 abbrev pub words : Field → List ℕ
 words F = replicate (16 * variables F + 8 * entries F + 16) 7
 
+-- The word scratch of `propagate`, of the least length for these values and records, with numbers in it.
 abbrev pub constraint-words : List ℕ → List ℕ → List ℕ
 constraint-words s k = replicate (16 * length s + 8 * room k + 16) 7
 
+-- The u64 scratch of `allow`, of the least length for n variables, with numbers in it.
 abbrev pub reach-longs : ℕ → List ℕ
 reach-longs n = replicate (128 * n) 7
 
+-- The word scratch of `allow`, of the least length for n variables and these records, with numbers in it.
 abbrev pub reach-words : ℕ → List ℕ → List ℕ
 reach-words n k = replicate (16 * n + 8 * room k + 16) 7
 
--- nothing given
+-- Start values with nothing given: every variable of the field is free.
 abbrev pub free : Field → List ℕ
 free F = replicate (variables F) 2
 
@@ -332,6 +337,7 @@ free F = replicate (variables F) 2
 abbrev pub lent : List ℕ → List ℕ
 lent l = replicate (length l) 7 ++ (9 ∷ [])
 
+-- An answer at the front of the list that was lent, with the element behind it as it was.
 abbrev pub front : List ℕ → List ℕ
 front l = l ++ (9 ∷ [])
 
@@ -348,11 +354,12 @@ closed G F =
 abbrev pub bounds : Field → List Float
 bounds F = replicate (variables F + variables F) two
 
--- the number of one operation's answer, and those of all, one after another
+-- The number that one operation on the record answers: 0, or that of its refusal.
 abbrev pub numberTo : Field → Kept → Operation → ℕ
 numberTo F K (pin i v) = checkedNumber (keeping.pinCall F K i v .answer)
 numberTo F K (release i) = checkedNumber (keeping.releaseCall F K i .answer)
 
+-- The numbers that these operations answer, one after another, each on what the last one left.
 unfoldable pub numbers : Field → Kept → List Operation → List ℕ
 numbers F K [] = []
 numbers F K (o ∷ os) = numberTo F K o ∷ numbers F (operated F K o) os
@@ -361,6 +368,7 @@ numbers F K (o ∷ os) = numberTo F K o ∷ numbers F (operated F K o) os
 abbrev pub begun : Field → List ℕ → Kept
 begun F s = keeping.recordLeft F s (bounds F) 7 (floats F) (words F)
 
+-- The record that is made from s and then goes through these operations.
 abbrev pub after : Field → List ℕ → List Operation → Kept
 after F s os = operatedAll F (begun F s) os
 

@@ -10,89 +10,109 @@ use Rattle.margins.specs.Model.{tiny64}
 
 -- ---- weights
 
+-- The weight 0.0, of a variable or of a stored entry that adds nothing.
 abbrev pub nought : Float
 nought = fin false 0 (pos 0)
 
+-- The weight 0.5, which forces the one variable of case c to 0.
 abbrev pub half : Float
 half = fin false 1 (negsuc 0)
 
+-- The weight -0.5, which forces the one variable of case d to 1.
 abbrev pub minus-half : Float
 minus-half = fin true 1 (negsuc 0)
 
+-- The weight 1.0, as of the first variable of `feared` and of `cancelling`.
 abbrev pub one : Float
 one = fin false 1 (pos 0)
 
+-- The weight -1.0, as the linear weight of both variables of cases i and j.
 abbrev pub minus-one : Float
 minus-one = fin true 1 (pos 0)
 
+-- The weight 2.0, as of the entry of case e, where a lower bound is exactly 0, and of case m.
 abbrev pub two : Float
 two = fin false 1 (pos 1)
 
+-- The weight -2.0, as of the entry of case f, where an upper bound is exactly 0.
 abbrev pub minus-two : Float
 minus-two = fin true 1 (pos 1)
 
+-- The weight 4.0, as of the entry that joins the two variables of cases g, h, i and n.
 abbrev pub four : Float
 four = fin false 1 (pos 2)
 
+-- The weight -5.0, as the linear weight of the first variable of cases g and h.
 abbrev pub minus-five : Float
 minus-five = fin true 5 (pos 0)
 
+-- The weight 6.0, as of the entry of case j, at which pairs give a constraint.
 abbrev pub six : Float
 six = fin false 3 (pos 1)
 
+-- The weight 3.0, as the linear weight of the third variable of `crossed`.
 abbrev pub three : Float
 three = fin false 3 (pos 0)
 
+-- The weight -3.0, as an upper bound of the record of `edited`.
 abbrev pub minus-three : Float
 minus-three = fin true 3 (pos 0)
 
+-- The weight -4.0, as a lower bound of the record of `edited` with x0 pinned at 1.
 abbrev pub minus-four : Float
 minus-four = fin true 1 (pos 2)
 
+-- The weight -6.0, as the pair weight of the entry (0,2) of `crossed`.
 abbrev pub minus-six : Float
 minus-six = fin true 3 (pos 1)
 
+-- The weight 7.0, as c of the last variable of `crossed` with x1 given 1.
 abbrev pub seven : Float
 seven = fin false 7 (pos 0)
 
+-- The weight 8.0, as the pair weight of the entry (1,2) of `crossed`.
 abbrev pub eight : Float
 eight = fin false 1 (pos 3)
 
--- 2^30
+-- The weight 2^30, the largest c of which 2c is at most 2^31 of the unit 1.
 abbrev pub limit : Float
 limit = fin false 1 (pos 30)
 
+-- The weight -0.25, the small rate beside 2^61 of the swallowed rate.
 abbrev pub minus-quarter : Float
 minus-quarter = fin true 1 (negsuc 1)
 
+-- The weight 1/16, which is exact since 2c is whole in every unit up to 1/8.
 abbrev pub sixteenth : Float
 sixteenth = fin false 1 (negsuc 3)
 
+-- The weight -0.0, which is a whole number of every unit, as 0.0 is.
 abbrev pub minus-nought : Float
 minus-nought = fin true 0 (pos 0)
 
--- the least finite f64
+-- The least finite f64, minus its largest number.
 abbrev pub least : Float
 least = fin true 9007199254740991 (pos 971)
 
--- 1e308, and its negative
+-- The weight 1e308, two of which have a sum that is not finite.
 abbrev pub huge : Float
 huge = fin false 156575653125701 (pos 976)
 
+-- The weight -1e308, which comes too late to mend a sum that has overflowed.
 abbrev pub minus-huge : Float
 minus-huge = fin true 156575653125701 (pos 976)
 
--- 2^30 + 0.5
+-- The weight 2^30 + 0.5, which was exact in halves and is so in no unit now.
 abbrev pub above-limit : Float
 above-limit = fin false 2147483649 (negsuc 0)
 
 -- ---- fields
 
--- no entry
+-- The field of these linear weights and no entry.
 abbrev pub alone : List Float → Field
 alone c = fieldOf c [] [] []
 
--- the one entry (0,1)
+-- The field of these linear weights and the one entry (0,1) of weight q.
 abbrev pub joined : List Float → Float → Field
 joined c q = fieldOf c (0 ∷ []) (1 ∷ []) (q ∷ [])
 
@@ -231,13 +251,15 @@ heavy-rate = fin true 1 (pos 40)
 abbrev pub listed : ℕ → List ℕ → List ℕ → List Float → Field
 listed n rows cols q = fieldOf (replicate n nought) rows cols q
 
--- 2^53, and 2^53 + 4
+-- The weight 2^53, above which f64 does not hold every whole number.
 abbrev pub whole-limit : Float
 whole-limit = fin false 1 (pos 53)
 
+-- The weight 2^53 + 4, as the sum of 5 and 2^53 and 1 added in this order.
 abbrev pub past-whole : Float
 past-whole = fin false 2251799813685249 (pos 2)
 
+-- The weight 5.0, the first of a sum that rounds at each step.
 abbrev pub five : Float
 five = fin false 5 (pos 0)
 

@@ -13,13 +13,16 @@ unfoldable pub every : {A : Type 0} → (A → Bool) → List A → Bool
 every p [] = true
 every p (x ∷ l) = p x && every p l
 
+-- Whether a caller can lend the field: its weights are f64, and its rows and columns u16.
 abbrev pub heldField : Field → Bool
 heldField F =
     every (fits binary64) (F .linear) && every (fits binary64) (F .quad) && every (λ i. ltb i 65536) (F .rows) && every (λ i. ltb i 65536) (F .cols)
 
+-- Whether a caller can lend these start values: each is a byte.
 abbrev pub heldBytes : List ℕ → Bool
 heldBytes s = every (λ v. ltb v 256) s
 
+-- Whether a caller can ask for the operation: its variable is a u16, and its value a byte.
 abbrev pub heldOperation : Operation → Bool
 heldOperation (pin i v) = ltb i 65536 && ltb v 256
 heldOperation (release i) = ltb i 65536

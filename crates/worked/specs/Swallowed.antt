@@ -5,11 +5,11 @@ use Rattle.meaning.specs.Field.{Field}
 use Rattle.field.specs.Reading.{wholeOf}
 use Rattle.worked.specs.Fields.{swallowing}
 
--- the field in quarters
+-- The swallowing field in whole numbers of quarters.
 abbrev pub rates : Field
 rates = wholeOf 1072 swallowing
 
--- nothing is given
+-- Start values of the swallowing field with nothing given.
 abbrev pub free : List ℕ
 free = 2 ∷ 2 ∷ 2 ∷ 2 ∷ []
 

@@ -17,6 +17,7 @@ servingTo F (suc k) = servingTo F k + cond (serves (k + finest) F) 1 0
 abbrev pub serving : Field → ℕ
 serving F = servingTo F 41
 
+-- The fields whose units were worked by hand, each under the units that serve it.
 abbrev pub graded : List Field
 graded =
     -- n=0, and c=(0): every unit
@@ -48,6 +49,6 @@ graded =
 abbrev pub smallest : List ℕ
 smallest = 1053 ∷ 1053 ∷ 1053 ∷ 1054 ∷ 1073 ∷ 1074 ∷ 1093 ∷ 1094 ∷ 1053 ∷ 1094 ∷ 1094 ∷ 1094 ∷ 1094 ∷ 1094 ∷ []
 
--- how many serve each
+-- How many of the 41 units serve each of these fields, in their order.
 abbrev pub many : List ℕ
 many = 41 ∷ 41 ∷ 18 ∷ 18 ∷ 1 ∷ 20 ∷ 1 ∷ 0 ∷ 1 ∷ 0 ∷ 0 ∷ 0 ∷ 0 ∷ 0 ∷ []

@@ -33,7 +33,7 @@ start-with {s = s} start i v free small = record {
 
 module _ {F : Field} {s : List ℕ} {f : List Float} {u : List ℕ} {known : Known} (R : Remembers F s f u known) (i v : ℕ) (free : getD s i 0 ≡ 2) (small : v < 2)
     {c : Cells} (P : Probes F s i v (cells s f u 0) c) where
-  -- On every field, exact or not, a probe leaves the closure of the start values with the one value added,
+  -- Theorem. On every field, exact or not, a probe leaves the closure of the start values with the one value added.
   pub probe-values : c .values ≡ closure F (set s i v)
   unfolding runIn
   probe-values = ap (λ (r : Run). r .values) (P .run) ∙ renewed.probe-is-closure (R .placed .shaped) (R .start) i v free small
@@ -47,27 +47,27 @@ module _ {F : Field} {s : List ℕ} {f : List Float} {u : List ℕ} {known : Kno
   pub probe-closes : {w : ℕ} → ExactIn w F → Probed (wholeOf w F) s i v (c .values)
   probe-closes exact = rw probe-values (run.closure-is-closure (R .placed .shaped) exact (start-with (R .start) i v free small))
 
-  -- What it touched can be put back,
+  -- Theorem. What it touched can be put back.
   pub probe-restores : Touched F s i c
   probe-restores = again.probed-touched R i v free small P
 
   module _ {f₂ : List Float} (W : Filled F s (c .floats) f₂) where
-    -- and then the floats are what they were,
+    -- Theorem. When what a probe touched is put back, the floats are what they were.
     pub restored-floats : f₂ ≡ f
     restored-floats = again.floats-again R i v free small P W
 
-    -- and the workspace stands for the next probe.
+    -- Theorem. When what a probe touched is put back, the workspace stands for the next probe.
     pub restored-remembers : Remembers F s f₂ (c .words) known
     restored-remembers = again.remembers-again R i v free small P W
 
--- Two results of one probe are equal.
+-- Theorem. Two results of one probe are equal.
 pub probe-unique : {F : Field} {s : List ℕ} {i v : ℕ} {s₀ a b : Cells} → Probes F s i v s₀ a → Probes F s i v s₀ b → a ≡ b
 probe-unique {F} {s} {i} {v} {s₀} A B = does-unique (does A) (does B)
   where
     does : {c : Cells} → Probes F s i v s₀ c → Does F (λ run. probeRun F s i v) s₀ c
     does P = record { run = P .run; kept = P .kept }
 
--- So are two results of putting back: the values are the start values, and the floats are determined.
+-- Theorem. So are two results of putting back: the values are the start values, and the floats are determined.
 pub restore-unique : (F : Field) (s : List ℕ) {f₁ f₂ f₃ : List Float} → Filled F s f₁ f₂ → Filled F s f₁ f₃ → f₂ ≡ f₃
 restore-unique F s A B = written-unique A B
 

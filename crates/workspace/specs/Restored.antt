@@ -18,12 +18,12 @@ use Rattle.scanning.specs.Merge.{listAt, Joined}
 abbrev pub backAt : ℕ → List Float → ℕ → List Float
 backAt n f t = putRow f n t (rowOn (drop (n + n) f) n t)
 
--- the rows of the other ends of places of x
+-- The floats with the rows of the other ends of these places of x put back from the copy.
 unfoldable pub backAll : ℕ → List ℕ → List ℕ → ℕ → List Float → List ℕ → List Float
 backAll n rows cols x f [] = f
 backAll n rows cols x f (k ∷ ks) = backAll n rows cols x (backAt n f (otherEnd rows cols x k)) ks
 
--- of all its places
+-- The floats with the rows of all neighbours of x put back from the copy.
 unfoldable pub back : ℕ → List ℕ → List ℕ → ℕ → List Float → List Float
 back n rows cols x f = backAll n rows cols x f (places rows cols x)
 

@@ -4,6 +4,7 @@ ghost use lib.Ieee.{nan};
 ghost use Rattle.scratch.specs.Lent.{before, after};
 ghost use Rattle.workspace.specs.Shifted.{Shiftable, Shifted};
 
+// Copies `count` floats inside one slice, from `from` on to `to` on; the rest stays as it is.
 pub fn copy_floats(f: &mut [f64], from: usize, to: usize, count: usize)
     requires { ⌜ Shiftable from to count (length (now f)) ⌝ }
     ensures { λ _. ⌜ Shifted nan from to count (before f) (after f) ⌝ }
@@ -13,6 +14,7 @@ pub fn copy_floats(f: &mut [f64], from: usize, to: usize, count: usize)
     }
 }
 
+// Copies `count` words inside one slice, from `from` on to `to` on; the rest stays as it is.
 pub fn copy_words(u: &mut [u32], from: usize, to: usize, count: usize)
     requires { ⌜ Shiftable from to count (length (now u)) ⌝ }
     ensures { λ _. ⌜ Shifted 0 from to count (before u) (after u) ⌝ }
