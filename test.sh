@@ -1,5 +1,5 @@
 #!/bin/sh
-# Passes all tests: where python3 is there those of tools/records and of what the pages cite, those of the scripts, then every crate proved from nothing, the must-fail edits and the programs'
+# Passes all tests: where python3 is there those of tools/records, of what the pages cite and of the sentences above definitions, those of the scripts, then every crate proved from nothing, the must-fail edits and the programs'
 # runs, then those of the program presolve and of the library for C and Rust, which rest on the crates proved just before.
 # The last line is `N passed, 0 failed`.
 set -eu
@@ -22,8 +22,10 @@ if command -v python3 >/dev/null; then
     python3 tools/test_records.py || give_up 'The tests of tools/records fail.'
     python3 tools/test_cited.py || give_up 'The tests of tools/cited fail.'
     python3 tools/cited || give_up 'A page cites what is not there, or a theorem whose statement names what stands outside specs/.'
+    python3 tools/test_sentences.py || give_up 'The tests of tools/sentences fail.'
+    python3 tools/sentences || give_up 'A definition or a public function has no sentence, or the mark of a theorem is not where docs/PROMISES.md says.'
 else
-    echo "There is no python3 here: the tests of tools/records, and of what the pages cite, are passed over."
+    echo "There is no python3 here: the tests of tools/records, of what the pages cite, and of the sentences above definitions are passed over."
 fi
 
 # The moments of the last run that passed tell how much time is left. They stand in target/, which rt ci removes, so they are kept aside meanwhile.
