@@ -1,4 +1,4 @@
-/* Every call once, on values that document 01 works by hand, and some refusals. */
+/* Every call once by its exported function, on small fields that are easily worked by hand, and some refusals. */
 #include <stdio.h>
 #include <string.h>
 

@@ -2,7 +2,7 @@
 #include <stdio.h>
 #include <string.h>
 
-#include "ombradiec.h"
+#include "ombradiec_field.h"
 
 enum { GROUPS = 9, PAIRS = 6 };
 
@@ -12,15 +12,19 @@ static const double c[GROUPS] = {6, 4, 3, -3, -2.5, -0.5, -0.5, -0.5, 0.5};
 static const uint16_t rows[PAIRS] = {0, 1, 3, 4, 6, 3};
 static const uint16_t cols[PAIRS] = {2, 2, 4, 5, 7, 8};
 static const double q[PAIRS] = {-2, -2, 2, 2, 2, -2};
+static const struct ombradiec_field field = {c, GROUPS, rows, cols, q, PAIRS};
 
 static double floats[OMBRADIEC_FLOATS(GROUPS, PAIRS)];
 static uint32_t words[OMBRADIEC_WORDS(GROUPS, PAIRS)];
+static const struct ombradiec_scratch scratch = {
+    floats, OMBRADIEC_FLOATS(GROUPS, PAIRS), words, OMBRADIEC_WORDS(GROUPS, PAIRS), NULL, 0};
 
 static int refused(const char *call, ombradiec_answer answer)
 {
-    if (OMBRADIEC_REFUSAL(answer) != OMBRADIEC_DONE)
-        printf("%s refused %d\n", call, OMBRADIEC_REFUSAL(answer));
-    return OMBRADIEC_REFUSAL(answer) != OMBRADIEC_DONE;
+    int number = OMBRADIEC_REFUSAL(answer);
+    if (number != OMBRADIEC_DONE)
+        printf("%s refused %d: %s\n", call, number, ombradiec_refusal_text(number));
+    return number != OMBRADIEC_DONE;
 }
 
 /* the groups whose value is new */
@@ -39,15 +43,13 @@ int main(void)
     given[8] = 1; /* the menu is always late */
 
     memcpy(forced, given, GROUPS);
-    ombradiec_answer answer = ombradiec_closure(c, GROUPS, rows, PAIRS, cols, PAIRS, q, PAIRS, forced, GROUPS, floats,
-                                                OMBRADIEC_FLOATS(GROUPS, PAIRS), words, OMBRADIEC_WORDS(GROUPS, PAIRS));
+    ombradiec_answer answer = ombradiec_closure_of(&field, forced, &scratch);
     if (refused("closure", answer))
         return 1;
     printf("forced in every best plan, grade %s:\n", OMBRADIEC_EXACT(answer) ? "exact" : "inexact");
     print_new(given, forced);
 
-    answer = ombradiec_anchors(c, GROUPS, rows, PAIRS, cols, PAIRS, q, PAIRS, forced, GROUPS, 2, anchors, GROUPS, floats,
-                               OMBRADIEC_FLOATS(GROUPS, PAIRS), words, OMBRADIEC_WORDS(GROUPS, PAIRS));
+    answer = ombradiec_anchors_of(&field, forced, 2, anchors, &scratch);
     if (refused("anchors", answer))
         return 1;
     printf("in either window, each in some best plan:\n");
@@ -55,8 +57,7 @@ int main(void)
         printf("  %s\n", names[anchors[k]]);
 
     memcpy(plan, given, GROUPS);
-    answer = ombradiec_preprocess(c, GROUPS, rows, PAIRS, cols, PAIRS, q, PAIRS, plan, GROUPS, floats,
-                                  OMBRADIEC_FLOATS(GROUPS, PAIRS), words, OMBRADIEC_WORDS(GROUPS, PAIRS));
+    answer = ombradiec_preprocess_of(&field, plan, &scratch);
     if (refused("preprocess", answer))
         return 1;
     printf("the rest, in one best plan:\n");

@@ -1,7 +1,8 @@
 /* Ombradiec: a presolver for quadratic 0/1 problems.
  *
- * Link target/staticlib/libombradiec.a, which `rt staticlib ombradiec` makes, into an x86-64 Linux program. Of the C
- * library it needs memset and memcpy, and nothing else.
+ * Link target/staticlib/libombradiec.a, which `rt staticlib ombradiec` makes, into an x86-64 Linux program, or
+ * target/native/libombradiec.a, which `tools/native ombradiec` makes, on another processor; docs/LINKING.md has the lines. Of
+ * the C library it needs memset and memcpy, and nothing else. ombradiec_field.h has the same calls with fewer arguments.
  *
  * A slice is a pointer and a length in elements. A slice that a call writes to overlaps no other slice of the call.
  * The pointer of an empty slice is aligned and not null. Floats are computed as C starts: rounded to nearest, and
@@ -13,10 +14,14 @@
  * Start values are n bytes: 0, 1, or OMBRADIEC_FREE. `f` and `u` are scratch, of at least OMBRADIEC_FLOATS(n, m)
  * and OMBRADIEC_WORDS(n, m) elements; what they hold does not matter.
  *
- * What each call promises, for every input, is proved: see README.md.
+ * What each call promises, for every input, is proved: see README.md. What stands here in C, the macros and
+ * ombradiec_refusal_text, is shown by runs.
  */
 #ifndef OMBRADIEC_H
 #define OMBRADIEC_H
+
+/* the version of the library, of this header and of the crate in rust/ */
+#define OMBRADIEC_VERSION "0.3.0"
 
 #include <stddef.h>
 #include <stdint.h>
@@ -25,29 +30,37 @@
 extern "C" {
 #endif
 
-/* What a call answers, in one number: bits 0 to 7 the refusal, 8 to 15 the grade, 16 to 43 the count, 44 to 63 the
- * pairs examined, of reason 4 times the unit and the ground, of sub_problem the variables left, of mend the changes. A refusal has neither a grade nor counts; of ROW, COLUMN, REPEAT and ORDER the count's bits hold the
- * position of the first entry at fault. */
+/* a value as one of another type */
+#ifdef __cplusplus
+#define OMBRADIEC_AS(type, value) (static_cast<type>(value))
+#else
+#define OMBRADIEC_AS(type, value) ((type)(value))
+#endif
+
+/* What a call answers, in one number: bits 0 to 7 the refusal, 8 to 15 the grade, 16 to 43 the count, 44 to 63 the pairs
+ * examined, of reason 4 times the unit and the ground, of sub_problem the variables left, of mend the changes. A refusal
+ * has neither a grade nor counts; of ROW, COLUMN, REPEAT and ORDER the count's bits hold the position of the first entry at
+ * fault. */
 typedef uint64_t ombradiec_answer;
 
 /* 0, or the refusal */
-#define OMBRADIEC_REFUSAL(answer) ((int)((answer) & 0xff))
+#define OMBRADIEC_REFUSAL(answer) OMBRADIEC_AS(int, (answer) & 0xff)
 /* 1 if the field is exact, so that no sum rounds; 0 if it is not */
-#define OMBRADIEC_EXACT(answer) ((int)((answer) >> 8 & 0xff))
+#define OMBRADIEC_EXACT(answer) OMBRADIEC_AS(int, (answer) >> 8 & 0xff)
 /* the items in the answer list; of shift, sub_problem and mend the new number of entries; of closure and close the free
  * variables with a flat row */
-#define OMBRADIEC_COUNT(answer) ((size_t)((answer) >> 16 & 0xfffffff))
+#define OMBRADIEC_COUNT(answer) OMBRADIEC_AS(size_t, (answer) >> 16 & 0xfffffff)
 /* of ROW, COLUMN, REPEAT and ORDER: the position of the first entry at fault, from 0, in the lists given */
 #define OMBRADIEC_POSITION(answer) OMBRADIEC_COUNT(answer)
 /* of pairs: the pairs examined */
-#define OMBRADIEC_PAIRS(answer) ((size_t)((answer) >> 44))
+#define OMBRADIEC_PAIRS(answer) OMBRADIEC_AS(size_t, (answer) >> 44)
 /* of reason: the ground, and k of the unit 2^(k - 20), from 0 to 40 */
-#define OMBRADIEC_GROUND(answer) ((int)((answer) >> 44 & 3))
-#define OMBRADIEC_UNIT(answer) ((int)((answer) >> 46))
+#define OMBRADIEC_GROUND(answer) OMBRADIEC_AS(int, (answer) >> 44 & 3)
+#define OMBRADIEC_UNIT(answer) OMBRADIEC_AS(int, (answer) >> 46)
 /* of sub_problem: the variables left, which are also the items of the map */
-#define OMBRADIEC_LEFT(answer) ((size_t)((answer) >> 44))
+#define OMBRADIEC_LEFT(answer) OMBRADIEC_PAIRS(answer)
 /* of mend: the changes, which are the items of the report */
-#define OMBRADIEC_CHANGES(answer) ((size_t)((answer) >> 44))
+#define OMBRADIEC_CHANGES(answer) OMBRADIEC_PAIRS(answer)
 /* of allow: 1 for yes, 0 for no; of a no the lowest variable each of whose values implies the other */
 #define OMBRADIEC_ALLOWS(answer) OMBRADIEC_EXACT(answer)
 #define OMBRADIEC_NAMED(answer) OMBRADIEC_COUNT(answer)
@@ -75,6 +88,53 @@ typedef uint64_t ombradiec_answer;
 #define OMBRADIEC_ROOM 9      /* an answer list does not fit; each is all zeros then, so both lists of a probe */
 #define OMBRADIEC_CLASH 10    /* the constraints clash */
 
+/* the words of a refusal */
+static inline const char *ombradiec_refusal_text(int number)
+{
+    switch (number) {
+    case OMBRADIEC_DONE:
+        return "done";
+    case OMBRADIEC_VARIABLES:
+        return "there are more than 4,096 variables";
+    case OMBRADIEC_LISTS:
+        return "the entry lists differ in length, or have more than 32,768 entries";
+    case OMBRADIEC_DIAGONAL:
+        return "an entry is on the diagonal: its row is its column";
+    case OMBRADIEC_WEIGHTS:
+        return "a weight is not finite";
+    case OMBRADIEC_START:
+        return "the start values are not one 0, 1 or 2 for each variable";
+    case OMBRADIEC_ARGUMENT:
+        return "a probed variable, a probed value or a constraint is not as the call asks";
+    case OMBRADIEC_SCRATCH:
+        return "a scratch is too short";
+    case OMBRADIEC_ROOM:
+        return "an answer list does not fit";
+    case OMBRADIEC_CLASH:
+        return "the constraints clash";
+    case 11: /* of the record program alone */
+        return "the input is not well-formed: an unknown mark, a cut record, more than 256 weights or 1,024 entries, "
+               "a value that is above 1, given twice or for a variable not declared before it, no ZZ, or bytes after "
+               "it";
+    case OMBRADIEC_INEXACT:
+        return "the field is inexact";
+    case OMBRADIEC_UNFORCED:
+        return "the variable is none of the field, or is free at the end";
+    case OMBRADIEC_ROW:
+        return "an entry's row is not a variable";
+    case OMBRADIEC_COLUMN:
+        return "an entry's column is not a variable";
+    case OMBRADIEC_REPEAT:
+        return "an entry has the same place as the entry before";
+    case OMBRADIEC_ORDER:
+        return "an entry is out of order: entries rise by column, then row";
+    case OMBRADIEC_SUM:
+        return "the weights at one place have a sum that is not finite";
+    default:
+        return "no refusal has this number";
+    }
+}
+
 /* a start value, or a probe value, that is not given */
 #define OMBRADIEC_FREE 2
 
@@ -87,13 +147,38 @@ typedef uint64_t ombradiec_answer;
 #define OMBRADIEC_MOST_REACHED 1024
 
 /* the least scratch for n variables and m entries, in elements; of propagate and allow m is the number of records */
-#define OMBRADIEC_FLOATS(n, m) (8 * (size_t)(n) + 4 * (size_t)(m) + 16)
-#define OMBRADIEC_WORDS(n, m) (16 * (size_t)(n) + 8 * (size_t)(m) + 16)
+#define OMBRADIEC_FLOATS(n, m) (8 * OMBRADIEC_AS(size_t, n) + 4 * OMBRADIEC_AS(size_t, m) + 16)
+#define OMBRADIEC_WORDS(n, m) (16 * OMBRADIEC_AS(size_t, n) + 8 * OMBRADIEC_AS(size_t, m) + 16)
 /* the least u64 scratch of allow for n variables, in elements */
-#define OMBRADIEC_REACH_WORDS(n) (128 * (size_t)(n))
+#define OMBRADIEC_REACH_WORDS(n) (128 * OMBRADIEC_AS(size_t, n))
 /* enough for every field, and of words for propagate and allow too */
 #define OMBRADIEC_MOST_FLOATS OMBRADIEC_FLOATS(OMBRADIEC_MOST_VARIABLES, OMBRADIEC_MOST_ENTRIES)
 #define OMBRADIEC_MOST_WORDS OMBRADIEC_WORDS(OMBRADIEC_MOST_VARIABLES, OMBRADIEC_MOST_CONSTRAINTS)
+
+/* The lengths of the lists that a call gives, in elements, for n variables and m entries. */
+/* exactly: the start values, the values of the probes and of a record, and the list of close; the assignment of allow */
+#define OMBRADIEC_VALUES(n) OMBRADIEC_AS(size_t, n)
+/* exactly: the bounds of a record; the counts of allow */
+#define OMBRADIEC_BOUNDS(n) (2 * OMBRADIEC_AS(size_t, n))
+#define OMBRADIEC_COUNTS(n) (2 * OMBRADIEC_AS(size_t, n))
+/* at most: the list of no_effect, of anchors and of reason, and the map of sub_problem */
+#define OMBRADIEC_LIST(n) OMBRADIEC_AS(size_t, n)
+/* at most: the report of mend */
+#define OMBRADIEC_REPORT(m) (3 * OMBRADIEC_AS(size_t, m))
+/* a list of so many constraints */
+#define OMBRADIEC_RECORDS(count) (3 * OMBRADIEC_AS(size_t, count))
+/* the greatest count of constraints, one for a pair of variables: of probe, also cold; of probe_limited, where each has a
+ * candidate for an end; and of pairs */
+#define OMBRADIEC_FOUND(n) (OMBRADIEC_AS(size_t, n) * (OMBRADIEC_AS(size_t, n) - 1) / 2)
+#define OMBRADIEC_FOUND_LIMITED(n, candidates) \
+    (OMBRADIEC_AS(size_t, candidates) < OMBRADIEC_AS(size_t, n) \
+         ? OMBRADIEC_FOUND(n) - OMBRADIEC_FOUND(OMBRADIEC_AS(size_t, n) - OMBRADIEC_AS(size_t, candidates)) \
+         : OMBRADIEC_FOUND(n))
+#define OMBRADIEC_FOUND_PAIRS(n, limit) \
+    OMBRADIEC_LESSER(OMBRADIEC_LESSER(OMBRADIEC_AS(size_t, limit), OMBRADIEC_MOST_PAIRS), OMBRADIEC_FOUND(n))
+#define OMBRADIEC_LESSER(a, b) ((a) < (b) ? (a) : (b))
+/* the same for every field: 8,386,560, in a list of 25,159,680 elements */
+#define OMBRADIEC_MOST_FOUND OMBRADIEC_FOUND(OMBRADIEC_MOST_VARIABLES)
 
 /* A constraint is a record of three numbers in a list: the lower variable, the higher variable, and the set of the pairs
  * of values that they may not have, the lower variable's value first: a sum of some of the four bits below. An answer

@@ -1,6 +1,9 @@
-use crate::answer::{read, Done, Refusal};
-use crate::field::{Field, Scratch, Values};
-use crate::library::*;
+use crate::answer::{Done, Refusal};
+use crate::field::{Field, Scratch};
+use crate::lent;
+use crate::values::Values;
+use alloc::vec;
+use alloc::vec::Vec;
 
 /// The rows of an exact field, kept as variables are pinned and released: each free variable's two bounds, and how many rows
 /// are strict. It owns its field and its lists, so that what it holds is always that of its values.
@@ -14,7 +17,7 @@ use crate::library::*;
 ///
 /// kept.pin(1, false)?;
 /// assert_eq!((kept.bounds(1), kept.bounds(2), kept.strict()), (None, Some((0.5, 0.5)), 2));
-/// assert_eq!(kept.close(&mut scratch)?.0.given().collect::<Vec<_>>(), [(0, true), (1, false), (2, false)]);
+/// assert_eq!(kept.close(&mut scratch)?.0, [true, false, false].iter().copied().collect());
 /// assert_eq!(kept.pin(1, false), Err(Refusal::Argument));
 ///
 /// kept.release(1)?;
@@ -32,111 +35,30 @@ pub struct Kept {
 impl Kept {
     /// The record of the values. Only exact fields have one: another is [`Refusal::Inexact`].
     pub fn new(field: Field, values: Values, scratch: &mut Scratch) -> Result<Kept, Refusal> {
-        let mut kept = Kept { bounds: vec![0.0; 2 * field.variables()], field, values, strict: 0 };
-        let (f, u) = scratch.lend(kept.field.variables(), kept.field.quad.len());
-        let Field { linear: c, rows, cols, quad: q } = &kept.field;
-        read(unsafe {
-            ombradiec_keep(
-                c.as_ptr(),
-                c.len(),
-                rows.as_ptr(),
-                rows.len(),
-                cols.as_ptr(),
-                cols.len(),
-                q.as_ptr(),
-                q.len(),
-                kept.values.0.as_ptr(),
-                kept.values.0.len(),
-                kept.bounds.as_mut_ptr(),
-                kept.bounds.len(),
-                &mut kept.strict,
-                f.as_mut_ptr(),
-                f.len(),
-                u.as_mut_ptr(),
-                u.len(),
-            )
-        })?;
-        Ok(kept)
+        let (mut bounds, mut strict) = (vec![0.0; 2 * field.variables()], 0);
+        lent::keep(&field.lent(), values.lent(), &mut bounds, &mut strict, &mut scratch.lend_for(&field))?;
+        Ok(Kept { field, values, bounds, strict })
     }
 
     /// Gives a free variable a value. The rows of its neighbours and its own change, and no other; nothing is forced.
     /// [`Refusal::Argument`] where the variable is not below n or not free; then nothing changes.
     pub fn pin(&mut self, variable: usize, value: bool) -> Result<(), Refusal> {
-        let Field { linear: c, rows, cols, quad: q } = &self.field;
-        read(unsafe {
-            ombradiec_pin(
-                c.as_ptr(),
-                c.len(),
-                rows.as_ptr(),
-                rows.len(),
-                cols.as_ptr(),
-                cols.len(),
-                q.as_ptr(),
-                q.len(),
-                self.values.0.as_mut_ptr(),
-                self.values.0.len(),
-                self.bounds.as_mut_ptr(),
-                self.bounds.len(),
-                &mut self.strict,
-                variable,
-                value.into(),
-            )
-        })?;
-        Ok(())
+        let field = self.field.lent();
+        lent::pin(&field, &mut self.values.0, &mut self.bounds, &mut self.strict, variable, value)
     }
 
     /// Frees a variable that has a value, whether pinned or given at the start.
     /// [`Refusal::Argument`] where it is not below n or is free; then nothing changes.
     pub fn release(&mut self, variable: usize) -> Result<(), Refusal> {
-        let Field { linear: c, rows, cols, quad: q } = &self.field;
-        read(unsafe {
-            ombradiec_release(
-                c.as_ptr(),
-                c.len(),
-                rows.as_ptr(),
-                rows.len(),
-                cols.as_ptr(),
-                cols.len(),
-                q.as_ptr(),
-                q.len(),
-                self.values.0.as_mut_ptr(),
-                self.values.0.len(),
-                self.bounds.as_mut_ptr(),
-                self.bounds.len(),
-                &mut self.strict,
-                variable,
-            )
-        })?;
-        Ok(())
+        let field = self.field.lent();
+        lent::release(&field, &mut self.values.0, &mut self.bounds, &mut self.strict, variable)
     }
 
     /// What [`closure`](crate::closure) gives at the values, from the rows that are kept; the record does not change.
     pub fn close(&self, scratch: &mut Scratch) -> Result<(Values, Done), Refusal> {
-        let (f, u) = scratch.lend(self.field.variables(), self.field.quad.len());
-        let mut list = Values::free(self.field.variables());
-        let Field { linear: c, rows, cols, quad: q } = &self.field;
-        let done = read(unsafe {
-            ombradiec_close(
-                c.as_ptr(),
-                c.len(),
-                rows.as_ptr(),
-                rows.len(),
-                cols.as_ptr(),
-                cols.len(),
-                q.as_ptr(),
-                q.len(),
-                self.values.0.as_ptr(),
-                self.values.0.len(),
-                self.bounds.as_ptr(),
-                self.bounds.len(),
-                list.0.as_mut_ptr(),
-                list.0.len(),
-                f.as_mut_ptr(),
-                f.len(),
-                u.as_mut_ptr(),
-                u.len(),
-            )
-        })?;
+        let (field, mut list) = (self.field.lent(), Values::free(self.field.variables()));
+        let done =
+            lent::close(&field, self.values.lent(), &self.bounds, &mut list.0, &mut scratch.lend_for(&self.field))?;
         Ok((list, done))
     }
 

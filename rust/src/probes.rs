@@ -1,74 +1,20 @@
-//! The probes, safe, over remembered rows and with rows made afresh. What is said of `unsafe` in `calls` holds here.
-use crate::answer::{read, Done, Refusal};
-use crate::field::{Constraint, Field, Scratch, Values};
-use crate::library::*;
+//! The probes, over remembered rows and with rows made afresh.
+use crate::answer::{Done, Refusal};
+use crate::calls::with_room;
+use crate::constraint::Constraint;
+use crate::field::{Field, Scratch};
+use crate::lent;
+use crate::values::Values;
+use alloc::vec::Vec;
 
-/// After [`Refusal::Room`] the library's value list is all zeros, which would read as found: all of it is freed.
-fn freed(answer: Result<Done, Refusal>, values: &mut Values) -> Result<Done, Refusal> {
-    if answer == Err(Refusal::Room) {
-        values.clear();
-    }
-    answer
-}
-
-/// A single probe by the library's function of this name.
-macro_rules! single {
-    ($call:ident, $field:expr, $start:expr, $variable:expr, $value:expr, $values:expr, $scratch:expr) => {{
-        let (f, u) = $scratch.lend($field.variables(), $field.quad.len());
-        let (start, found) = (&$start.0, &mut $values.0);
-        let answer = on_field!(
-            $call,
-            $field,
-            start.as_ptr(),
-            start.len(),
-            $variable,
-            $value.into(),
-            found.as_mut_ptr(),
-            found.len(),
-            f.as_mut_ptr(),
-            f.len(),
-            u.as_mut_ptr(),
-            u.len()
-        );
-        freed(answer, $values)
-    }};
-}
-
-/// The probes of many variables by the library's function of this name, with the limit where it takes one.
-macro_rules! many {
-    ($call:ident, $field:expr, $start:expr, $values:expr, $constraints:expr, $scratch:expr $(, $limit:expr)?) => {{
-        let (f, u) = $scratch.lend($field.variables(), $field.quad.len());
-        let (start, found) = (&$start.0, &mut $values.0);
-        // A constraint is three u16 and nothing else.
-        let (records, records_len) = ($constraints.as_mut_ptr().cast(), 3 * $constraints.len());
-        let answer = on_field!(
-            $call,
-            $field,
-            start.as_ptr(),
-            start.len(),
-            $($limit,)?
-            found.as_mut_ptr(),
-            found.len(),
-            records,
-            records_len,
-            f.as_mut_ptr(),
-            f.len(),
-            u.as_mut_ptr(),
-            u.len()
-        );
-        freed(answer, $values)
-    }};
-}
-
-/// Puts what the closure finds with one more value given into `values`, without the start values, which do not change. On an
-/// exact field every best completion that has this value has the found ones.
+/// What the closure finds with one more value given, without the start values. On an exact field every best completion that has
+/// this value has the found ones.
 ///
 /// ```
 /// use ombradiec::{probe_one, Field, Scratch, Values};
-/// let mut values = Values::free(2);
 /// let field = Field::new(&[-1.0, -1.0], &[(0, 1, 4.0)]);
-/// probe_one(&field, &Values::free(2), 0, true, &mut values, &mut Scratch::new())?;
-/// assert_eq!(values.given().collect::<Vec<_>>(), [(0, true), (1, false)]);
+/// let (values, _) = probe_one(&field, &Values::free(2), 0, true, &mut Scratch::new())?;
+/// assert_eq!(values, [true, false].iter().copied().collect());
 /// # Ok::<(), ombradiec::Refusal>(())
 /// ```
 pub fn probe_one(
@@ -76,20 +22,22 @@ pub fn probe_one(
     start: &Values,
     variable: usize,
     value: bool,
-    values: &mut Values,
     scratch: &mut Scratch,
-) -> Result<Done, Refusal> {
-    single!(ombradiec_probe_one, field, start, variable, value, values, scratch)
+) -> Result<(Values, Done), Refusal> {
+    let mut found = Values::free(field.variables());
+    let mut lent = scratch.lend_for(field);
+    let done = lent::probe_one(&field.lent(), start.lent(), variable, value, &mut found.0, &mut lent)?;
+    Ok((found, done))
 }
 
-/// The same as [`probe_one`] with rows made afresh, as a second opinion: on every field and on every refusal the answers are equal.
+/// The same as [`probe_one`] with rows made afresh, as a second opinion: on every field and on every refusal the answers are
+/// equal.
 ///
 /// ```
 /// use ombradiec::{cold_probe_one, Field, Scratch, Values};
-/// let mut values = Values::free(2);
 /// let field = Field::new(&[-1.0, -1.0], &[(0, 1, 4.0)]);
-/// cold_probe_one(&field, &Values::free(2), 0, true, &mut values, &mut Scratch::new())?;
-/// assert_eq!(values.given().collect::<Vec<_>>(), [(0, true), (1, false)]);
+/// let (values, _) = cold_probe_one(&field, &Values::free(2), 0, true, &mut Scratch::new())?;
+/// assert_eq!(values, [true, false].iter().copied().collect());
 /// # Ok::<(), ombradiec::Refusal>(())
 /// ```
 pub fn cold_probe_one(
@@ -97,32 +45,32 @@ pub fn cold_probe_one(
     start: &Values,
     variable: usize,
     value: bool,
-    values: &mut Values,
     scratch: &mut Scratch,
-) -> Result<Done, Refusal> {
-    single!(ombradiec_cold_probe_one, field, start, variable, value, values, scratch)
+) -> Result<(Values, Done), Refusal> {
+    let mut found = Values::free(field.variables());
+    let mut lent = scratch.lend_for(field);
+    let done = lent::cold_probe_one(&field.lent(), start.lent(), variable, value, &mut found.0, &mut lent)?;
+    Ok((found, done))
 }
 
-/// Puts what both probes of every free variable find into `values`, and at the front of `constraints`, one for one pair and
-/// rising by it; counts the constraints. On an exact field every best completion obeys both.
+/// What both probes of every free variable find: values, and constraints, one for one pair and rising by it. On an exact field
+/// every best completion obeys both. Where the constraints are more than there is room for at first, the call is made again
+/// with more.
 ///
 /// ```
 /// use ombradiec::{probe, Constraint, Field, Kind, Scratch, Values};
-/// let (mut values, mut constraints) = (Values::free(2), [Constraint::default(); 2]);
 /// let field = Field::new(&[-1.0, -1.0], &[(0, 1, 4.0)]);
-/// let done = probe(&field, &Values::free(2), &mut values, &mut constraints, &mut Scratch::new())?;
-/// assert_eq!(constraints[..done.count], [Constraint::new(0, 1, Kind::ExactlyOne)]);
+/// let (values, constraints, _) = probe(&field, &Values::free(2), &mut Scratch::new())?;
 /// assert_eq!(values, Values::free(2));
+/// assert_eq!(constraints, [Constraint::new(0, 1, Kind::ExactlyOne)]);
 /// # Ok::<(), ombradiec::Refusal>(())
 /// ```
-pub fn probe(
-    field: &Field,
-    start: &Values,
-    values: &mut Values,
-    constraints: &mut [Constraint],
-    scratch: &mut Scratch,
-) -> Result<Done, Refusal> {
-    many!(ombradiec_probe, field, start, values, constraints, scratch)
+pub fn probe(field: &Field, start: &Values, scratch: &mut Scratch) -> Result<(Values, Vec<Constraint>, Done), Refusal> {
+    let (mut values, mut lent) = (Values::free(field.variables()), scratch.lend_for(field));
+    let most = lent::found(lent::free(start.lent()));
+    let (constraints, done) =
+        with_room(most, |room| lent::probe(&field.lent(), start.lent(), &mut values.0, room, &mut lent))?;
+    Ok((values, constraints, done))
 }
 
 /// The same as [`probe`] with rows made afresh for every probe, as a second opinion: on every field and on every refusal the
@@ -130,62 +78,67 @@ pub fn probe(
 ///
 /// ```
 /// use ombradiec::{cold_probe, Constraint, Field, Kind, Scratch, Values};
-/// let (mut values, mut constraints) = (Values::free(2), [Constraint::default(); 2]);
 /// let field = Field::new(&[-1.0, -1.0], &[(0, 1, 4.0)]);
-/// let done = cold_probe(&field, &Values::free(2), &mut values, &mut constraints, &mut Scratch::new())?;
-/// assert_eq!(constraints[..done.count], [Constraint::new(0, 1, Kind::ExactlyOne)]);
+/// let (_, constraints, _) = cold_probe(&field, &Values::free(2), &mut Scratch::new())?;
+/// assert_eq!(constraints, [Constraint::new(0, 1, Kind::ExactlyOne)]);
 /// # Ok::<(), ombradiec::Refusal>(())
 /// ```
 pub fn cold_probe(
     field: &Field,
     start: &Values,
-    values: &mut Values,
-    constraints: &mut [Constraint],
     scratch: &mut Scratch,
-) -> Result<Done, Refusal> {
-    many!(ombradiec_cold_probe, field, start, values, constraints, scratch)
+) -> Result<(Values, Vec<Constraint>, Done), Refusal> {
+    let (mut values, mut lent) = (Values::free(field.variables()), scratch.lend_for(field));
+    let most = lent::found(lent::free(start.lent()));
+    let (constraints, done) =
+        with_room(most, |room| lent::cold_probe(&field.lent(), start.lent(), &mut values.0, room, &mut lent))?;
+    Ok((values, constraints, done))
 }
 
 /// The same as [`probe`] of up to `candidates` free variables, those of the greatest sum of |q| over entries with both ends
 /// free.
 ///
 /// ```
-/// use ombradiec::{probe_limited, Constraint, Field, Scratch, Values};
-/// let (mut values, mut constraints) = (Values::free(2), [Constraint::default(); 2]);
+/// use ombradiec::{probe_limited, Field, Scratch, Values};
 /// let field = Field::new(&[-1.0, -1.0], &[(0, 1, 4.0)]);
-/// let done = probe_limited(&field, &Values::free(2), 0, &mut values, &mut constraints, &mut Scratch::new())?;
-/// assert_eq!(done.count, 0);
+/// let (_, constraints, _) = probe_limited(&field, &Values::free(2), 0, &mut Scratch::new())?;
+/// assert_eq!(constraints, []);
 /// # Ok::<(), ombradiec::Refusal>(())
 /// ```
 pub fn probe_limited(
     field: &Field,
     start: &Values,
     candidates: usize,
-    values: &mut Values,
-    constraints: &mut [Constraint],
     scratch: &mut Scratch,
-) -> Result<Done, Refusal> {
-    many!(ombradiec_probe_limited, field, start, values, constraints, scratch, candidates)
+) -> Result<(Values, Vec<Constraint>, Done), Refusal> {
+    let (mut values, mut lent) = (Values::free(field.variables()), scratch.lend_for(field));
+    let most = lent::found_limited(lent::free(start.lent()), candidates);
+    let (constraints, done) = with_room(most, |room| {
+        lent::probe_limited(&field.lent(), start.lent(), candidates, &mut values.0, room, &mut lent)
+    })?;
+    Ok((values, constraints, done))
 }
 
 /// The same as [`probe_limited`] with rows made afresh for every probe, as a second opinion: on every field and on every refusal
 /// the answers are equal.
 ///
 /// ```
-/// use ombradiec::{cold_probe_limited, Constraint, Field, Scratch, Values};
-/// let (mut values, mut constraints) = (Values::free(2), [Constraint::default(); 2]);
+/// use ombradiec::{cold_probe_limited, Field, Scratch, Values};
 /// let field = Field::new(&[-1.0, -1.0], &[(0, 1, 4.0)]);
-/// let done = cold_probe_limited(&field, &Values::free(2), 0, &mut values, &mut constraints, &mut Scratch::new())?;
-/// assert_eq!(done.count, 0);
+/// let (_, constraints, _) = cold_probe_limited(&field, &Values::free(2), 0, &mut Scratch::new())?;
+/// assert_eq!(constraints, []);
 /// # Ok::<(), ombradiec::Refusal>(())
 /// ```
 pub fn cold_probe_limited(
     field: &Field,
     start: &Values,
     candidates: usize,
-    values: &mut Values,
-    constraints: &mut [Constraint],
     scratch: &mut Scratch,
-) -> Result<Done, Refusal> {
-    many!(ombradiec_cold_probe_limited, field, start, values, constraints, scratch, candidates)
+) -> Result<(Values, Vec<Constraint>, Done), Refusal> {
+    let (mut values, mut lent) = (Values::free(field.variables()), scratch.lend_for(field));
+    let most = lent::found_limited(lent::free(start.lent()), candidates);
+    let (constraints, done) = with_room(most, |room| {
+        lent::cold_probe_limited(&field.lent(), start.lent(), candidates, &mut values.0, room, &mut lent)
+    })?;
+    Ok((values, constraints, done))
 }

@@ -21,10 +21,13 @@ fn a_field_is_tested_in_the_tables_order() {
 fn the_first_entry_at_fault_is_named() {
     assert_eq!(closed(&Field::new(&[0.0; 2], &[(5, 7, 1.0)]), 2), Err(Refusal::Row { at: 0 }));
     assert_eq!(closed(&Field::new(&[], &[(0, 0, 1.0)]), 0), Err(Refusal::Row { at: 0 }));
-    assert_eq!(closed(&Field::new(&[0.0; 3], &[(0, 1, 1.0), (0, 1, 1.0), (3, 2, 1.0)]), 3), Err(Refusal::Repeat { at: 1 }));
+    assert_eq!(
+        closed(&Field::new(&[0.0; 3], &[(0, 1, 1.0), (0, 1, 1.0), (3, 2, 1.0)]), 3),
+        Err(Refusal::Repeat { at: 1 })
+    );
     // The last of 32,768 entries.
     let mut many: Vec<_> = (0..32_768).map(|k| (k % 4_096, k / 4_096, 1.0)).collect();
-    many[32_767].0 = u16::MAX;
+    many[32_767].0 = 65_535;
     assert_eq!(closed(&Field::new(&[0.0; 4_096], &many), 4_096), Err(Refusal::Row { at: 32_767 }));
     assert_eq!(Refusal::Row { at: 32_767 }.to_string(), "entry 32767, from 0: its row is not a variable");
 }
@@ -46,48 +49,25 @@ fn an_empty_field_is_done() {
 #[test]
 fn a_probed_variable_is_free() {
     let field = Field::new(&[1.0, 1.0], &[]);
-    let (mut start, mut values, mut scratch) = (Values::free(2), Values::free(2), Scratch::new());
+    let (mut start, mut scratch) = (Values::free(2), Scratch::new());
     start.set(1, Some(false));
-    assert_eq!(probe_one(&field, &start, 2, true, &mut values, &mut scratch), Err(Refusal::Argument));
-    assert_eq!(probe_one(&field, &start, 1, true, &mut values, &mut scratch), Err(Refusal::Argument));
-    assert_eq!(probe_one(&field, &start, 0, true, &mut Values::free(1), &mut scratch), Err(Refusal::Room));
-    assert!(probe_one(&field, &start, 0, true, &mut values, &mut scratch).is_ok());
+    for variable in [1, 2, usize::MAX] {
+        assert_eq!(probe_one(&field, &start, variable, true, &mut scratch), Err(Refusal::Argument));
+        assert_eq!(cold_probe_one(&field, &start, variable, true, &mut scratch), Err(Refusal::Argument));
+    }
+    let (values, _) = probe_one(&field, &start, 0, true, &mut scratch).unwrap();
     assert_eq!((values.get(0), values.get(1)), (Some(true), None));
 }
 
 #[test]
-fn values_without_room_read_as_free() {
-    // the probes find ExactlyOne, and there is room for no constraint
-    let field = Field::new(&[-1.0, -1.0], &[(0, 1, 4.0)]);
-    let (start, mut scratch, free) = (Values::free(2), Scratch::new(), Values::free(2));
-    let held = || {
-        let mut values = Values::free(2);
-        values.set(0, Some(false));
-        values.set(1, Some(true));
-        values
-    };
-    let mut values = held();
-    assert_eq!(probe(&field, &start, &mut values, &mut [], &mut scratch), Err(Refusal::Room));
-    assert_eq!(values, free);
-    let mut values = held();
-    assert_eq!(probe_limited(&field, &start, 2, &mut values, &mut [], &mut scratch), Err(Refusal::Room));
-    assert_eq!(values, free);
-    let mut short = Values::free(1);
-    short.set(0, Some(true));
-    assert_eq!(probe_one(&field, &start, 0, true, &mut short, &mut scratch), Err(Refusal::Room));
-    assert_eq!(short, Values::free(1));
-}
-
-#[test]
-fn another_refusal_leaves_values_as_they_were() {
-    let mut values = Values::free(1);
-    values.set(0, Some(true));
-    let before = values.clone();
-    let mut scratch = Scratch::new();
-    let field = Field::new(&[f64::NAN], &[]);
-    assert_eq!(probe(&field, &Values::free(1), &mut values, &mut [], &mut scratch), Err(Refusal::Weights));
-    assert_eq!(probe_one(&field, &Values::free(1), 0, true, &mut values, &mut scratch), Err(Refusal::Weights));
-    assert_eq!(values, before);
+fn a_probe_of_a_refused_field_is_refused() {
+    let (field, start, mut scratch) = (Field::new(&[f64::NAN], &[]), Values::free(1), Scratch::new());
+    assert_eq!(probe(&field, &start, &mut scratch), Err(Refusal::Weights));
+    assert_eq!(probe_limited(&field, &start, 1, &mut scratch), Err(Refusal::Weights));
+    assert_eq!(cold_probe(&field, &start, &mut scratch), Err(Refusal::Weights));
+    assert_eq!(cold_probe_limited(&field, &start, 1, &mut scratch), Err(Refusal::Weights));
+    assert_eq!(probe_one(&field, &start, 0, true, &mut scratch), Err(Refusal::Weights));
+    assert_eq!(pairs(&field, &start, 9, &mut scratch), Err(Refusal::Weights));
 }
 
 #[test]
@@ -114,38 +94,40 @@ fn a_sum_that_is_not_finite_leaves_the_list() {
     assert_eq!(field, before);
     // what lies outside the field is dropped, however large its sum would be
     let mut outside = Field::listed(&[0.0, 0.0], &[(9, 9, 1e308), (9, 9, 1e308)]);
-    let changes = mend(&mut outside, &mut Scratch::new()).unwrap();
-    assert_eq!((outside.entries().count(), changes), (0, vec![Change::Dropped { from: 0 }, Change::Dropped { from: 1 }]));
+    let (changes, _) = mend(&mut outside, &mut Scratch::new()).unwrap();
+    assert_eq!(
+        (outside.entries().count(), changes),
+        (0, vec![Change::Dropped { from: 0 }, Change::Dropped { from: 1 }])
+    );
     assert_eq!(Refusal::Sum.number(), 18);
 }
 
 #[test]
-fn a_list_without_room_ends_as_zeros() {
-    let mut list = [7];
-    assert_eq!(no_effect(&Field::new(&[0.0; 2], &[]), &mut list, &mut Scratch::new()), Err(Refusal::Room));
-    assert_eq!(list, [0]);
-    let mut none = [];
-    assert_eq!(no_effect(&Field::new(&[1.0], &[]), &mut none, &mut Scratch::new()).map(|done| done.count), Ok(0));
+fn a_variable_that_no_field_has_is_refused() {
+    // above what the library's numbers hold, and at their end
+    for end in [4_096, 65_535, 65_536, 70_000, usize::MAX] {
+        assert_eq!(closed(&Field::new(&[0.0; 2], &[(end, 0, 1.0)]), 2), Err(Refusal::Row { at: 0 }));
+        assert_eq!(closed(&Field::new(&[0.0; 2], &[(0, end, 1.0)]), 2), Err(Refusal::Column { at: 0 }));
+        let one = [Constraint::new(0, end, Kind::Equal)];
+        assert_eq!(propagate(&mut Values::free(4_096), &one, &mut Scratch::new()), Err(Refusal::Argument));
+    }
 }
 
 #[test]
 fn a_reason_is_of_an_exact_field_and_a_forced_variable() {
-    let (mut list, mut scratch) = ([7; 2], Scratch::new());
+    let mut scratch = Scratch::new();
     let exact = Field::new(&[-5.0, -1.0, 0.0], &[(0, 1, 4.0)]);
     let inexact = Field::new(&[0.1, 1e300], &[]);
-    assert_eq!(reason(&inexact, &Values::free(2), 9, &mut list, &mut scratch), Err(Refusal::Inexact));
-    assert_eq!(reason(&exact, &Values::free(3), 3, &mut list, &mut scratch), Err(Refusal::Unforced));
-    assert_eq!(reason(&exact, &Values::free(3), 2, &mut list, &mut scratch), Err(Refusal::Unforced));
-    assert_eq!(list, [7, 7]);
-    let mut none = [];
-    assert_eq!(reason(&exact, &Values::free(3), 1, &mut none, &mut scratch), Err(Refusal::Room));
-    let why = reason(&exact, &Values::free(3), 0, &mut none, &mut scratch).unwrap();
-    assert_eq!((why.ground, why.unit, why.count), (Ground::Upper(-6_291_456.0), f64::powi(2.0, -20), 0));
+    assert_eq!(reason(&inexact, &Values::free(2), 9, &mut scratch), Err(Refusal::Inexact));
+    assert_eq!(reason(&exact, &Values::free(3), 3, &mut scratch), Err(Refusal::Unforced));
+    assert_eq!(reason(&exact, &Values::free(3), 2, &mut scratch), Err(Refusal::Unforced));
+    let (why, neighbours) = reason(&exact, &Values::free(3), 0, &mut scratch).unwrap();
+    assert_eq!((why.ground, why.unit, neighbours), (Ground::Upper(-6_291_456.0), f64::powi(2.0, -20), vec![]));
     assert_eq!(why.bound(), -3.0);
     let mut start = Values::free(3);
     start.set(2, Some(true));
-    let why = reason(&exact, &start, 2, &mut list, &mut scratch).unwrap();
-    assert_eq!((why.ground, why.bound(), why.count), (Ground::Given, 0.0, 0));
+    let (why, neighbours) = reason(&exact, &start, 2, &mut scratch).unwrap();
+    assert_eq!((why.ground, why.bound(), neighbours), (Ground::Given, 0.0, vec![]));
 }
 
 #[test]
@@ -153,33 +135,20 @@ fn following_reasons_ends_at_given_values() {
     // each of a chain forces the next
     let entries: Vec<_> = (1..40).map(|i| (i - 1, i, -4.0)).collect();
     let field = Field::new(&[1.0; 40], &entries);
-    let (mut start, mut scratch, mut list) = (Values::free(40), Scratch::new(), [0; 2]);
+    let (mut start, mut scratch) = (Values::free(40), Scratch::new());
     start.set(0, Some(true));
     for i in 1..40 {
-        let why = reason(&field, &start, i, &mut list, &mut scratch).unwrap();
-        assert_eq!(list[..why.count], [(i - 1) as u16]);
+        assert_eq!(reason(&field, &start, i, &mut scratch).unwrap().1, [i - 1]);
     }
 }
 
 #[test]
-fn many_counts_are_read_back() {
-    // 708 free variables have 250,278 pairs, of which 250,000 are examined; each gives one constraint with two pairs.
-    let linear: Vec<f64> = (0..708).map(|i| f64::from(i + 1)).collect();
-    let mut constraints = vec![Constraint::default(); 250_000];
-    let done = pairs(&Field::new(&linear, &[]), &Values::free(708), usize::MAX, &mut constraints, &mut Scratch::new())
-        .unwrap();
-    assert_eq!(done, Done { grade: Grade::Exact, count: 250_000, pairs: 250_000 });
-    assert_eq!(constraints[0], Constraint::forbidding(0, 1, 10));
-}
-
-#[test]
 fn propagation_takes_its_own_limits() {
-    let chain: Vec<_> =
-        (0..65_536).map(|k: u32| Constraint::new((k % 4_095) as u16, (k % 4_095 + 1) as u16, Kind::Equal)).collect();
+    let chain: Vec<_> = (0..65_536).map(|k| Constraint::new(k % 4_095, k % 4_095 + 1, Kind::Equal)).collect();
     let mut start = Values::free(4_096);
     start.set(0, Some(true));
     assert_eq!(propagate(&mut start, &chain, &mut Scratch::new()), Ok(()));
-    assert!(start.given().count() == 4_096 && start.given().all(|(_, value)| value));
+    assert!(start.iter().all(|value| value == Some(true)));
     let more = [&chain[..], &chain[..1]].concat();
     assert_eq!(propagate(&mut start, &more, &mut Scratch::new()), Err(Refusal::Argument));
     for refused in [(1, 1, 6), (1, 0, 6), (0, 4_096, 6), (0, 1, 0), (0, 1, 16)] {
@@ -212,7 +181,7 @@ fn allowing_takes_its_own_limits() {
     let chain: Vec<_> = (0..1_023).map(|i| Constraint::new(i, i + 1, Kind::Equal)).collect();
     let allowed = allow(1_024, &chain, &mut scratch).unwrap();
     assert_eq!(allowed.counts, [1_024; 2_048]);
-    assert!(allowed.least.unwrap().given().map(|(_, value)| value).eq([false; 1_024]));
+    assert_eq!(allowed.least, Ok([false; 1_024].iter().copied().collect()));
     let split = [&chain[..], &[Constraint::new(3, 900, Kind::ExactlyOne)]].concat();
     let refused = allow(1_024, &split, &mut scratch).unwrap();
     assert_eq!((refused.least, refused.counts), (Err(0), vec![2_048; 2_048]));
@@ -224,6 +193,14 @@ fn allowing_takes_its_own_limits() {
 #[test]
 fn a_refusal_says_why() {
     assert_eq!(Refusal::Clash.to_string(), "the constraints clash");
+    assert_eq!(Refusal::Room { enough: 12 }.to_string(), "an answer list does not fit: 12 items are enough");
+}
+
+#[cfg(feature = "std")]
+#[test]
+fn a_refusal_is_an_error() {
+    let boxed: Box<dyn std::error::Error> = Refusal::Clash.into();
+    assert_eq!(boxed.to_string(), "the constraints clash");
 }
 
 #[test]
