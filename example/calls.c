@@ -148,5 +148,22 @@ int main(void)
                OMBRADIEC_REFUSAL(answer), OMBRADIEC_ALLOWS(answer), OMBRADIEC_NAMED(answer), assignment[0],
                assignment[1], counts[0], counts[1], counts[2], counts[3]);
     }
+
+    /* nothing is decided; with x1 at 1 the row of x0 is strict, and x0 is 0 */
+    double bounds[4];
+    uint32_t strict = 0;
+    c[0] = -1, c[1] = -5, q[0] = 10, start[0] = start[1] = 2;
+    answer = ombradiec_keep(FIELD, SLICE(start), SLICE(bounds), &strict, SCRATCH);
+    print("keep", answer, "strict, value", strict, start[1]);
+    printf("  bounds %g to %g, %g to %g\n", bounds[0], bounds[2], bounds[1], bounds[3]);
+    answer = ombradiec_pin(FIELD, SLICE(start), SLICE(bounds), &strict, 1, 1);
+    print("pin", answer, "strict, value", strict, start[1]);
+    printf("  bounds %g to %g, %g to %g\n", bounds[0], bounds[2], bounds[1], bounds[3]);
+    answer = ombradiec_close(FIELD, SLICE(start), SLICE(bounds), SLICE(values), SCRATCH);
+    print("close", answer, "values", values[0], values[1]);
+    answer = ombradiec_release(FIELD, SLICE(start), SLICE(bounds), &strict, 1);
+    print("release", answer, "strict, value", strict, start[1]);
+    answer = ombradiec_release(FIELD, SLICE(start), SLICE(bounds), &strict, 1);
+    print("release", answer, "strict, value", strict, start[1]);
     return 0;
 }

@@ -88,7 +88,7 @@ typedef uint64_t ombradiec_answer;
 #define OMBRADIEC_ROOM 9      /* an answer list does not fit; each is all zeros then, so both lists of a probe */
 #define OMBRADIEC_CLASH 10    /* the constraints clash */
 
-/* the words of a refusal */
+/* the words of a refusal, as tools/refusals has them */
 static inline const char *ombradiec_refusal_text(int number)
 {
     switch (number) {
@@ -112,10 +112,6 @@ static inline const char *ombradiec_refusal_text(int number)
         return "an answer list does not fit";
     case OMBRADIEC_CLASH:
         return "the constraints clash";
-    case 11: /* of the record program alone */
-        return "the input is not well-formed: an unknown mark, a cut record, more than 256 weights or 1,024 entries, "
-               "a value that is above 1, given twice or for a variable not declared before it, no ZZ, or bytes after "
-               "it";
     case OMBRADIEC_INEXACT:
         return "the field is inexact";
     case OMBRADIEC_UNFORCED:
