@@ -6,7 +6,7 @@
 
 /* A chain of 13 with some chords, of which the closure forces one variable and the probes one more; a pair that may be turned
  * over; and a variable of no effect. */
-enum { N = 16, M = 16, ROOM = 120 };
+enum { N = 16, M = 16, ROOM = OMBRADIEC_FOUND(N) };
 static const double c[N] = {0, -1, 3, 0, -2, 1, 2, -4, -2, -3, 0, -1, -3, -0.5, -0.5, 0};
 static const uint16_t rows[M] = {0, 1, 2, 1, 3, 4, 0, 5, 6, 7, 8, 9, 10, 3, 11, 13};
 static const uint16_t cols[M] = {1, 2, 3, 4, 4, 5, 6, 6, 7, 8, 9, 10, 11, 12, 12, 14};
@@ -14,7 +14,7 @@ static const double q[M] = {2, -4, -4, -2, 4, -6, 6, 2, -4, 2, 2, 6, -4, 4, 2, 2
 static const struct ombradiec_field field = {c, N, rows, cols, q, M};
 #define FIELD c, N, rows, M, cols, M, q, M
 
-enum { FLOATS = 8 * N + 4 * M + 16, WORDS = 16 * N + 8 * ROOM + 16, LONGS = 128 * N };
+enum { FLOATS = OMBRADIEC_FLOATS(N, M), WORDS = OMBRADIEC_WORDS(N, ROOM), LONGS = OMBRADIEC_REACH_WORDS(N) };
 static double floats[FLOATS];
 static uint32_t words[WORDS];
 static uint64_t longs[LONGS];
@@ -191,6 +191,35 @@ static void records(void)
     different |= memcmp(left, right, N) != 0 || record.strict != strict;
 }
 
+static void length(const char *what, size_t elements)
+{
+    printf("  %s %u\n", what, OMBRADIEC_AS(unsigned, elements));
+}
+
+static void lengths(void)
+{
+    printf("lengths for 16 variables and 5 entries or constraints, 3 candidates and a limit of 100, and the greatest:\n");
+    length("floats", OMBRADIEC_FLOATS(16, 5));
+    length("words", OMBRADIEC_WORDS(16, 5));
+    length("longs", OMBRADIEC_REACH_WORDS(16));
+    length("values", OMBRADIEC_VALUES(16));
+    length("bounds", OMBRADIEC_BOUNDS(16));
+    length("counts", OMBRADIEC_COUNTS(16));
+    length("list", OMBRADIEC_LIST(16));
+    length("report", OMBRADIEC_REPORT(5));
+    length("records", OMBRADIEC_RECORDS(5));
+    length("found", OMBRADIEC_FOUND(16));
+    length("found of nothing", OMBRADIEC_FOUND(0));
+    length("found by candidates", OMBRADIEC_FOUND_LIMITED(16, 3));
+    length("found by more than all", OMBRADIEC_FOUND_LIMITED(16, 300));
+    length("found by pairs", OMBRADIEC_FOUND_PAIRS(16, 100));
+    length("found by all pairs", OMBRADIEC_FOUND_PAIRS(16, OMBRADIEC_MOST_PAIRS));
+    length("found by pairs of the largest field", OMBRADIEC_FOUND_PAIRS(OMBRADIEC_MOST_VARIABLES, 1000000));
+    length("most floats", OMBRADIEC_MOST_FLOATS);
+    length("most words", OMBRADIEC_MOST_WORDS);
+    length("most found", OMBRADIEC_MOST_FOUND);
+}
+
 int main(void)
 {
     memset(given, OMBRADIEC_FREE, N);
@@ -209,5 +238,6 @@ int main(void)
     hold("closure of nothing", answer, ombradiec_closure(c, 0, rows, 0, cols, 0, q, 0, right, 0, SCRATCH), left, right, N);
     answer = ombradiec_propagate_of(N, NULL, 0, left, &scratch);
     hold("propagate nothing", answer, ombradiec_propagate(right, N, rows, 0, words, WORDS), left, right, N);
+    lengths();
     return different;
 }
