@@ -1,10 +1,11 @@
 /* Ombradiec's calls with a field, a scratch and a record as one argument each.
  *
- * Each function here is the call of ombradiec.h without its last `_of`, and answers what that answers. The lengths that a
- * call asks are taken from the field: start values, values and the list of close are n bytes; the list of no_effect,
- * anchors and reason, and the map of sub_problem, have room for n numbers; the report of mend has room for three numbers an
- * entry; bounds are 2n. Where a list of constraints is asked, its room is told in constraints, of three numbers each:
- * OMBRADIEC_FOUND and its likes say how much is enough. What ombradiec.h says of overlapping memory holds here too.
+ * A function here whose name ends in `_of` is the call of ombradiec.h without that end, and answers what that answers.
+ * The lengths that a call asks are taken from the field: start values, values and the list of close are n bytes; the
+ * list of no_effect, anchors and reason, and the map of sub_problem, have room for n numbers; the report of mend has
+ * room for three numbers an entry; bounds are 2n. Where a list of constraints is asked, its room is told in
+ * constraints, of three numbers each: OMBRADIEC_FOUND and its likes say how much is enough. What ombradiec.h says of
+ * overlapping memory holds here too.
  */
 #ifndef OMBRADIEC_FIELD_H
 #define OMBRADIEC_FIELD_H

@@ -33,7 +33,7 @@ macro_rules! call {
     (@ $call:ident [$($done:tt)*] out $slice:expr $(, $($rest:tt)*)?) => {
         call!(@ $call [$($done)* $slice.as_mut_ptr(), $slice.len(),] $($($rest)*)?)
     };
-    // A constraint is three u16 and nothing else.
+    // A constraint, and a change in a report, is three u16 and nothing else.
     (@ $call:ident [$($done:tt)*] in3 $slice:expr $(, $($rest:tt)*)?) => {
         call!(@ $call [$($done)* $slice.as_ptr().cast(), 3 * $slice.len(),] $($($rest)*)?)
     };

@@ -1,7 +1,6 @@
 use crate::lent::FREE;
 use alloc::vec;
 use alloc::vec::Vec;
-use core::iter::FromIterator;
 
 /// A value for each variable, or none: what is given before a call, and what it finds.
 ///

@@ -46,7 +46,7 @@ fn a_builder_adds_or_refuses_what_mend_joins() {
         joined += usize::from(first.is_some());
         refused += usize::from(first.is_none());
     }
-    assert!(joined > 50 && refused > 50, "{joined} {refused}");
+    assert!(joined > 50 && refused > 50, "{} {}", joined, refused);
 }
 
 #[test]
@@ -111,7 +111,7 @@ fn the_values_that_are_forced_have_the_least_objective() {
         let rest = left.map.iter().map(|&i| values.get(i)).collect();
         assert_eq!(smaller.value(&rest).unwrap() + left.constant, least);
     }
-    assert!(forced > 100, "{forced}");
+    assert!(forced > 100, "{}", forced);
 }
 
 #[test]
