@@ -48,8 +48,8 @@ archive=$PWD/$(cat "$room/archive")
 
 # ---- C and C++
 # Whether a compiler is there, with the headers of the C library.
-compiles() { # COMPILER LANGUAGE
-    echo '#include <stdio.h>' | "$1" -x "$2" -fsyntax-only - 2>/dev/null
+compiles() { # COMPILER LANGUAGE [OPTION]
+    echo '#include <stdio.h>' | "$1" ${3:+"$3"} -x "$2" -fsyntax-only - 2>/dev/null
 }
 strict='-pedantic -Wall -Wextra -Wconversion -Werror'
 
@@ -104,13 +104,14 @@ installed() { # COMPILER
 
 c=''
 for compiler in gcc clang; do
-    newest=c2x
     if ! command -v "$compiler" >/dev/null || ! compiles "$compiler" c; then
         pass_over "the headers in C by $compiler" "there is none here that has the headers of the C library"
         continue
     fi
     c=${c:-$compiler}
-    try "the headers in C99 to C23 by $compiler" clean "$compiler" c '' c99 c11 c17 $newest
+    standards='c99 c11 c17'
+    if compiles "$compiler" c -std=c2x; then standards="$standards c2x"; fi
+    try "the headers in $standards by $compiler" clean "$compiler" c '' $standards
 done
 cpp=''
 for compiler in g++ clang++; do

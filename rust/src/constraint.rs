@@ -122,3 +122,34 @@ impl Constraint {
         self.set.count_ones()
     }
 }
+
+#[cfg(test)]
+mod tests {
+    use super::*;
+
+    type Allows = fn(bool, bool) -> bool;
+
+    #[test]
+    fn every_kind_forbids_what_it_says() {
+        let kinds: [(Kind, Allows); 6] = [
+            (Kind::AtLeastOne, |a, b| a || b),
+            (Kind::ExactlyOne, |a, b| a != b),
+            (Kind::NoMoreThanOne, |a, b| !(a && b)),
+            (Kind::GreaterThan, |a, b| a >= b),
+            (Kind::LessThan, |a, b| a <= b),
+            (Kind::Equal, |a, b| a == b),
+        ];
+        for (kind, allows) in kinds {
+            for (a, b) in [(false, false), (false, true), (true, false), (true, true)] {
+                assert_eq!(Constraint::new(3, 8, kind).forbids(a, b), !allows(a, b));
+                assert_eq!(Constraint::new(8, 3, kind).forbids(a, b), !allows(b, a));
+            }
+        }
+    }
+
+    #[test]
+    fn a_number_that_does_not_fit_is_the_greatest() {
+        assert_eq!((number(0), number(65_534), number(65_535), number(65_536)), (0, 65_534, 65_535, 65_535));
+        assert_eq!(Constraint::new(70_000, 1, Kind::Equal).higher(), 65_535);
+    }
+}

@@ -153,6 +153,21 @@ fn a_list_grows_to_what_is_found() {
 }
 
 #[test]
+fn a_list_is_as_long_as_what_is_found() {
+    // two of four variables exclude each other, and nothing else is found
+    let (field, start, mut scratch) =
+        (Field::new(&[-1.0, -1.0, 0.0, 0.0], &[(0, 1, 6.0), (2, 3, 0.0)]), Values::free(4), Scratch::new());
+    let one = [Constraint::new(0, 1, Kind::ExactlyOne)];
+    let (constraints, done) = pairs(&field, &start, usize::MAX, &mut scratch).unwrap();
+    assert_eq!((constraints.len(), constraints.capacity(), done.count, done.pairs), (1, 1, 1, 6));
+    let (_, constraints, done) = probe(&field, &start, &mut scratch).unwrap();
+    assert_eq!((&constraints[..], constraints.capacity(), done.count), (&one[..], 1, 1));
+    assert_eq!(probe_limited(&field, &start, 3, &mut scratch).unwrap().1, one);
+    assert_eq!(cold_probe_limited(&field, &start, 3, &mut scratch).unwrap().1, one);
+    assert_eq!(no_effect(&Field::new(&[0.0, 1.0, 0.0], &[]), &mut scratch).unwrap().0, [0, 2]);
+}
+
+#[test]
 fn probes_grow_to_what_they_find() {
     // a chain in which one variable at 1 takes all others to 1, so that every pair has a constraint, and there can be no more
     let n = 200;
