@@ -6,8 +6,8 @@ use core::fmt;
 pub enum Grade {
     /// Some sum may round.
     Inexact,
-    /// No sum rounds: there is no diagonal entry, every 2c and every q is a whole multiple of one power of two from 2^-20 to 2^20, and none is
-    /// above 2^31 of it in size.
+    /// No sum rounds: there is no diagonal entry, every 2c and every q is a whole multiple of one power of two from 2^-20 to
+    /// 2^20, and none is above 2^31 of it in size.
     Exact,
 }
 
