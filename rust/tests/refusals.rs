@@ -222,4 +222,9 @@ fn a_record_is_of_an_exact_field_and_its_values() {
     let mut start = Values::free(3);
     assert_eq!(closure(&field(), &mut start, &mut scratch), Ok(done));
     assert_eq!(list, start);
+    for value in [false, true] {
+        kept.pin(1, value).unwrap();
+        assert_eq!((kept.values().get(1), kept.bounds(1)), (Some(value), None));
+        kept.release(1).unwrap();
+    }
 }
