@@ -1,0 +1,1 @@
+"""The planner's command over the compiled Rattle program that answers every call; docs/PLANNER.md."""

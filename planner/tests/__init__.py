@@ -1,0 +1,1 @@
+"""The tests of the planner's command; ./test_planner.sh runs them."""
