@@ -1,6 +1,7 @@
 #!/bin/sh
-# Passes all tests: where python3 is there those of tools/records, of what the pages cite and of the sentences above definitions, those of the scripts, then every crate proved from nothing, the must-fail edits and the programs'
-# runs, then those of the program presolve and of the library for C and Rust, which rest on the crates proved just before.
+# Passes all tests: where python3 is there those of tools/records, of what the pages cite and of the sentences above definitions, those of the scripts, then every crate
+# proved from nothing, the must-fail edits and the programs' runs, then those of the program presolve, of the planner's command and of the library for C and Rust, which
+# rest on the crates proved just before.
 # The last line is `N passed, 0 failed`.
 set -eu
 cd "$(dirname "$0")"
@@ -79,12 +80,13 @@ prove() {
 count scripts tools/test_run.sh
 count proofs prove
 if failed proofs; then
-    echo "What each crate said stands in target/log/NAME.say. The program presolve and the library for C and Rust are not tried, since not all is proved."
+    echo "What each crate said stands in target/log/NAME.say. The program presolve, ombradiec and the library for C and Rust are not tried, since not all is proved."
     finish
 fi
 count presolve ./test_presolve.sh
+count planner ./test_planner.sh
 count library ./test_library.sh
-if ! failed scripts && ! failed presolve && ! failed library; then
+if ! failed scripts && ! failed presolve && ! failed planner && ! failed library; then
     echo "$(($(date +%s) - start)) end" >>"$room/new"
     times=$room/new
 fi

@@ -13,15 +13,15 @@ EXACT = [
     "Proved by machine, for every plan of this grade: each value forced by the closure is what whole numbers force, no more and no fewer, and every "
     "best plan has it; the bound of each reason is the whole-number bound with only the listed groups fixed, and each listed group is given or was "
     "forced earlier; every best plan has the values that probing adds, and meets each constraint.",
-    "Shown by adding up: each sum on this page was added anew, in fractions, and is the bound that the proved program gave.",
+    "Shown by adding up: each sum on this page was added anew, in fractions, and is the bound that the call gave.",
 ]
 INEXACT = [
     "The grade is inexact: the sums are rounded. The forced values are those that the rounded sums force, as in the source; nothing is proved of best "
     "plans. Each reason has the exact sum, and the bound as it was rounded.",
 ]
 BELIEVED = (
-    "Not proved: the reading of the plan's file, the names, the order of the columns and this page, which are Python; the kit's compiler and reading "
-    "and writing. docs/PROMISES.md names each theorem."
+    "Not proved: the reading of the plan's file, the names, the order of the columns and this page, which are Python; the lines in which the compiled "
+    "program hands its answers over; the kit's compiler, reading and writing. docs/PROMISES.md names each theorem."
 )
 
 

@@ -123,26 +123,28 @@ printf '%s\n' "$all" >all
 printf '%s\n' '#!/bin/sh' 'echo "python: $*"' 'exit ${PYTHON:-0}' >bin/python3
 printf '%s\n' '#!/bin/sh' 'echo "3 passed, 0 failed"' >tools/test_run.sh
 printf '%s\n' '#!/bin/sh' 'echo "the program"' 'echo "20 passed, 0 failed"' >test_presolve.sh
+printf '%s\n' '#!/bin/sh' 'echo "the command"' 'echo "6 passed, 0 failed"' >test_planner.sh
 printf '%s\n' '#!/bin/sh' 'echo "the library"' 'echo "4 passed, ${MISSED:-0} failed"' 'exit ${MISSED:-0}' >test_library.sh
-chmod +x bin/python3 tools/test_run.sh test_presolve.sh test_library.sh
+chmod +x bin/python3 tools/test_run.sh test_presolve.sh test_planner.sh test_library.sh
 passes() { (./test.sh || echo "status $?") 2>&1; }
 
 sed 's/5 passed, 1 failed/5 passed, 0 failed/' all >passing
 cp passing all
 echo 0 >ci_status
-is 'the counts are added up in the last line' "$(passes | tail -n 3)" 'the program
+is 'the counts are added up in the last line' "$(passes | tail -n 4)" 'the program
+the command
 the library
-32 passed, 0 failed'
+38 passed, 0 failed'
 is 'the moments of a run that passed are kept, though rt ci removes target/' "$(cut -d' ' -f2 target/times | tr '\n' ' ')" 'low other high high/a high/b end '
 cp last target/times
 is 'and tell the time that is left' "$(passes | grep -c 'about [0-9]* min left')" 3
 cp last target/times
-is 'a test of the library that fails' "$(MISSED=1 passes | tail -n 2)" '32 passed, 1 failed
+is 'a test of the library that fails' "$(MISSED=1 passes | tail -n 2)" '38 passed, 1 failed
 status 1'
 is 'leaves the moments of the run before' "$(cat target/times)" "$(cat last)"
 printf '%s\n' 'rt: low NOT PROVED (exit 1, 1 s)' '4 passed, 2 failed' >all
 echo 1 >ci_status
-is 'a proof that fails ends the run, and the log is named' "$(passes | tail -n 3)" 'What each crate said stands in target/log/NAME.say. The program presolve and the library for C and Rust are not tried, since not all is proved.
+is 'a proof that fails ends the run, and the log is named' "$(passes | tail -n 3)" 'What each crate said stands in target/log/NAME.say. The program presolve, ombradiec and the library for C and Rust are not tried, since not all is proved.
 7 passed, 2 failed
 status 1'
 echo 'rt: no such thing' >all

@@ -3,11 +3,10 @@
 Of values 0 and 1, c is the linear bias, q twice the quadratic one, and the constant the offset; of spins as spins.py says.
 """
 import json
-import math
 from fractions import Fraction
 
 from ..faults import Fault
-from ..numbers import exactly, weight
+from ..numbers import weight
 from .spins import Spins, fill_binary
 
 
@@ -18,7 +17,7 @@ class Digits(str):
 def bias(value):
     """The weight that a JSON number is."""
     if not isinstance(value, Digits):
-        raise Fault(f"{json.dumps(value)} is no number")
+        raise Fault(f"{plain(value)} is no number")
     return weight(value)
 
 
@@ -38,14 +37,16 @@ def label(value):
 
 
 def plain(value):
-    """JSON of a label that is no text."""
+    """A value as its JSON."""
+    if isinstance(value, list):
+        return "[" + ", ".join(map(plain, value)) + "]"
     return str(value) if isinstance(value, Digits) else json.dumps(value, ensure_ascii=False)
 
 
 def position(value):
     """The number of a variable, from 0."""
     if not isinstance(value, Digits) or not value.isascii() or not value.isdigit() or len(value) > 9:
-        raise Fault(f"{json.dumps(value)} is no number of a variable")
+        raise Fault(f"{plain(value)} is no number of a variable")
     return int(value)
 
 
@@ -53,12 +54,12 @@ def read(lines, builder):
     """Takes a model."""
     try:
         model = json.loads("\n".join(lines), parse_float=Digits, parse_int=Digits, parse_constant=Digits)
+        builder.each([(None, model)], lambda model: take_model(builder, model))
     except RecursionError:
-        return builder.fault("no JSON that can be read: it is nested too deep")
+        builder.fault("no JSON that can be read: it is nested too deep")
     except json.JSONDecodeError as fault:
         builder.line = fault.lineno
-        return builder.fault(f"no JSON: {fault.msg}")
-    builder.each([(None, model)], lambda model: take_model(builder, model))
+        builder.fault(f"no JSON: {fault.msg}")
 
 
 def take_model(builder, model):

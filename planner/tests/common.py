@@ -1,11 +1,17 @@
 """What the tests share: plans from text, random plans, and the command as a user runs it."""
+import contextlib
+import io
 import os
 import random
+import re
 import subprocess
 import sys
+import tempfile
+import unittest
 from fractions import Fraction
 
 from planner import forms
+from planner.main import main
 from planner.numbers import Rounding
 from planner.plan import Plan
 
@@ -42,6 +48,44 @@ def bits(a_plan):
     """All that a plan holds, with the bits of its weights."""
     entries = [(row, column, q.hex()) for row, column, q in a_plan.entries]
     return a_plan.names, [c.hex() for c in a_plan.linear], entries, a_plan.given, Fraction(a_plan.constant)
+
+
+def call(*words, keeps_progress=False):
+    """Makes the command in this process: its status, standard output and standard error, without what is said of long work."""
+    out, said = (io.TextIOWrapper(io.BytesIO(), "utf-8") for _ in range(2))
+    with contextlib.redirect_stdout(out), contextlib.redirect_stderr(said):
+        status = main(words)
+        out.flush()
+        said.flush()
+    told = said.buffer.getvalue().decode()
+    return status, out.buffer.getvalue().decode(), told if keeps_progress else re.sub(r"^ombradiec: .*, \d+ s\n", "", told, flags=re.M)
+
+
+class Room(unittest.TestCase):
+    """Tests with a folder of their own, in which they stand."""
+
+    def setUp(self):
+        room = tempfile.TemporaryDirectory()
+        self.addCleanup(room.cleanup)
+        before = os.getcwd()
+        self.addCleanup(os.chdir, before)
+        os.chdir(room.name)
+
+    def put(self, name, text):
+        """A file in the folder."""
+        with open(name, "w", encoding="utf-8", newline="") as file:
+            file.write(text)
+        return name
+
+    def done(self, *words):
+        """The lines of a command that is done."""
+        status, out, said = call(*words)
+        self.assertEqual(status, 0, said)
+        return out.splitlines()
+
+    def refused(self, status, said, *words):
+        """Holds the status and what is said on standard error, with nothing on standard output."""
+        self.assertEqual(call(*words), (status, "", "".join(f"ombradiec: {line}\n" for line in said)))
 
 
 def run(*words, given=b"", folder=None):

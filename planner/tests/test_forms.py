@@ -103,7 +103,7 @@ class Values(unittest.TestCase):
         spins = {"coo": plan(text, "coo"), "bqm": plan(json.dumps({
             "type": "BinaryQuadraticModel", "variable_type": "SPIN", "variable_labels": ["a", 7, ["p", 1]], "offset": 2.5,
             "linear_biases": [1.5, -0.25, 0], "quadratic_biases": [-3, 0.125], "quadratic_head": [0, 2], "quadratic_tail": [1, 1]}), "bqm")}
-        self.assertEqual(spins["bqm"].names, ["a", "7", '["p", "1"]'])
+        self.assertEqual(spins["bqm"].names, ["a", "7", '["p", 1]'])
         for form, offset in (("coo", Fraction(0)), ("bqm", Fraction(5, 2))):
             for x in some_x(4, 3):
                 s = [2 * value - 1 for value in x]
