@@ -1,15 +1,17 @@
 """The calls on a plan, each by the compiled program; a refusal is told in words."""
 import math
 import os
+from concurrent.futures import ThreadPoolExecutor
 
 from . import stream
 from .faults import Refused
 from .names import quoted
 from .plan import NOWHERE
 from .program import ROOT, ask
-from .progress import Progress
+from .progress import PROGRESS
 from .stream import LONGEST_LIST, Lists, allow_case, case
 
+LEAST_SHARE = 32
 METHODS = {"closure": stream.CLOSURE, "preprocess": stream.PREPROCESS, "heavy": stream.HEAVY}
 
 
@@ -38,8 +40,8 @@ class Calls:
 
     def one(self, work, code, start, **numbers):
         """The answer of one call."""
-        with Progress(work) as progress:
-            return answered(ask([case(code, self.lists, start, **numbers)], 1, progress)[0])
+        PROGRESS.doing(work)
+        return answered(ask([case(code, self.lists, start, **numbers)], 1)[0])
 
     def values(self, method, start):
         """The values that the closure, preprocess or heavy leaves, and its answer."""
@@ -70,11 +72,20 @@ class Calls:
         return self.one("anchors", stream.ANCHORS, values, variables=self.n, least=2).numbers("variables")
 
     def reasons(self, variables):
-        """The reason of each variable, in the order given."""
-        start = self.plan.start()
-        cases = (case(stream.REASON, self.lists, start, variables=self.n, variable=i) for i in variables)
-        with Progress("reasons") as progress:
-            return [answered(answer) for answer in ask(cases, len(variables), progress)]
+        """The reason of each variable, in the order given; where they are many, by a program for each processor."""
+        PROGRESS.doing("reasons", len(variables))
+        start, shares = self.plan.start(), max(1, min(os.cpu_count() or 1, len(variables) // LEAST_SHARE))
+
+        def share(k):
+            """The answers to every `shares`-th variable from the k-th on."""
+            own = variables[k::shares]
+            return ask((case(stream.REASON, self.lists, start, variables=self.n, variable=i) for i in own), len(own))
+
+        answers = [None] * len(variables)
+        with ThreadPoolExecutor(shares) as pool:
+            for k, found in enumerate(pool.map(share, range(shares))):
+                answers[k::shares] = found
+        return [answered(answer) for answer in answers]
 
     def smaller(self, values):
         """The problem of the free groups."""
@@ -84,8 +95,8 @@ class Calls:
 def mended(linear, entries):
     """The entries that mend leaves, and what became of each."""
     lists = Lists(linear, [entry[:3] for entry in entries])
-    with Progress("mending") as progress:
-        answer = ask([case(stream.MEND, lists, answers=3 * len(entries))], 1, progress)[0]
+    PROGRESS.doing("mending")
+    answer = ask([case(stream.MEND, lists, answers=3 * len(entries))], 1)[0]
     if answer.number == 18:
         raise Refused(*overflowing(entries))
     return answered(answer).entries(), answer.triples("changes")
@@ -104,5 +115,5 @@ def overflowing(entries):
 
 def allowed(n, records):
     """Whether some assignment meets all records, with it and how far each literal reaches; or the group that has no window."""
-    with Progress("what the constraints allow") as progress:
-        return answered(ask([allow_case(n, records)], 1, progress)[0])
+    PROGRESS.doing("what the constraints allow")
+    return answered(ask([allow_case(n, records)], 1)[0])

@@ -8,6 +8,7 @@ from . import forms
 from .commands import allow, presolve, why
 from .faults import Refused, Unusable
 from .numbers import WHOLE, whole
+from .progress import PROGRESS
 from .report import report
 from .rewriting import convert, mend, reduce
 from .tally import tally
@@ -97,8 +98,7 @@ def parser_of():
 
 
 def show(args, status, result, lines):
-    """Lines on standard output, or the JSON value; what cannot be shown there is shown by its number."""
-    sys.stdout.reconfigure(errors="backslashreplace")
+    """Lines on standard output, or the JSON value."""
     if args.json:
         print(json.dumps({"command": args.command, "status": status, **result}, ensure_ascii=True))
     else:
@@ -109,7 +109,6 @@ def show(args, status, result, lines):
 
 def refuse(args, status, sentences):
     """The sentences on standard error, and with --json on standard output too."""
-    sys.stderr.reconfigure(errors="backslashreplace")
     for sentence in sentences:
         print(f"ombradiec: {sentence}", file=sys.stderr)
     if args.json:
@@ -118,13 +117,16 @@ def refuse(args, status, sentences):
 
 
 def main(words):
-    """Does what the words ask, and answers the status."""
+    """Does what the words ask, and answers the status; what cannot be shown is shown by its number."""
     try:
         args = parser_of().parse_args(spelled(words))
     except SystemExit as done:
         return done.code
+    for to in (sys.stdout, sys.stderr):
+        to.reconfigure(errors="backslashreplace")
     try:
-        return work(args)
+        with PROGRESS:
+            return work(args)
     except BrokenPipeError:
         # whoever read the answer has gone, and Python must not try to write the rest when it ends
         os.dup2(os.open(os.devnull, os.O_WRONLY), sys.stdout.fileno())

@@ -8,6 +8,7 @@ from .faults import Fault
 NUMBER = re.compile(r"[+-]?([0-9]+\.?[0-9]*|\.[0-9]+)([eE][+-]?[0-9]+)?")
 WHOLE = re.compile(r"[0-9]+")
 NOT_FINITE = ("nan", "inf", "infinity")
+LONGEST = 1200
 
 
 def decimal(word):
@@ -30,6 +31,8 @@ def weight(word):
 def fraction(word):
     """A decimal number as it stands, with nothing rounded."""
     weight(word)
+    if len(word) > LONGEST or abs(int(re.sub(r"[^eE]*[eE]?", "", word, 1) or 0)) > LONGEST:
+        raise Fault(f"`{word[:20]}..` has more than {LONGEST:,} digits")
     return Fraction(word)
 
 
@@ -41,14 +44,26 @@ def whole(word):
     return int(digits) if len(digits) < 10 else 10 ** 9
 
 
+def decimals(x):
+    """How many decimals a fraction has, whose denominator is of twos and fives."""
+    twos = (x.denominator & -x.denominator).bit_length() - 1
+    fives, rest = 0, x.denominator >> twos
+    while rest > 1:
+        fives, rest = fives + 1, rest // 5
+    return max(twos, fives)
+
+
+def fixed(x, count):
+    """A fraction with this many decimals, rounded where it has more."""
+    scaled = round(x * 10 ** count)
+    digits = f"{abs(scaled):0{count + 1}}"
+    return ("-" if scaled < 0 else "") + (f"{digits[:-count]}.{digits[-count:]}" if count else digits)
+
+
 def exactly(x):
     """A number in decimals, with none left out."""
-    whole_part, rest = divmod(abs(Fraction(x)), 1)
-    digits = []
-    while rest:
-        digit, rest = divmod(rest * 10, 1)
-        digits.append(str(digit))
-    return f"{'-' if x < 0 else ''}{whole_part}{'.' if digits else ''}{''.join(digits)}"
+    x = Fraction(x)
+    return fixed(x, decimals(x))
 
 
 def shown(x):

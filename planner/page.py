@@ -36,20 +36,20 @@ def named(name):
 
 
 def states(plan, found):
-    """The state and the value of each group, None where it has none."""
+    """The state of each group, with its words, and its value, None where it has none."""
     flat, undecided = found.free()
-    out = {i: ("flat", None) for i in flat}
-    out.update((i, ("undecided", None)) for i in undecided)
-    out.update((i, ("forced", value)) for i, (value, _) in found.forced().items())
-    out.update((i, ("given", value)) for i, value in plan.given.items())
+    out = {i: ("flat", "flat", None) for i in flat}
+    out.update((i, ("undecided", "undecided", None)) for i in undecided)
+    out.update((i, ("forced", "forced by probing" if by == "probe" else "forced", value)) for i, (value, by) in found.forced().items())
+    out.update((i, ("given", "given", value)) for i, value in plan.given.items())
     return out
 
 
-def item(plan, i, state, has_reason, most):
-    """One group: its state by mark, word and class, its name, its weight, and a bar as long as that is large."""
-    bar = round(100 * abs(plan.linear[i]) / most) if most else 0
+def item(plan, i, state, words, has_reason, most):
+    """One group: its state by mark, words and class, its name, its weight, and a bar as long as that is large."""
+    bar = round(100 * (abs(plan.linear[i]) / most)) if most else 0
     name = f"<a href=#g{i}>{named(plan.names[i])}</a>" if has_reason else named(plan.names[i])
-    return f"<li class={state} style=--w:{bar}%>{MARKS[state]} {state} <b>{name}</b> <i>{escape(shown(plan.linear[i]))}</i>"
+    return f"<li class={state} style=--w:{bar}%>{MARKS[state]} {words} <b>{name}</b> <i>{escape(shown(plan.linear[i]))}</i>"
 
 
 def column(title, items, ident):
@@ -62,7 +62,8 @@ def columns(plan, found, explained):
     state, lists = states(plan, found), {0: [], 1: [], None: []}
     most = max((abs(c) for c in plan.linear), default=0)
     for i in sorted(state, key=lambda i: (-abs(plan.linear[i]), i)):
-        lists[state[i][1]].append(item(plan, i, state[i][0], i in explained, most))
+        kind, words, value = state[i]
+        lists[value].append(item(plan, i, kind, words, i in explained, most))
     lines = [*column("First window", lists[0], "first"), *column("Second window", lists[1], "second")]
     return lines, column("In neither window yet", lists[None], "neither")
 

@@ -6,6 +6,7 @@ import subprocess
 import threading
 
 from .faults import Unusable
+from .progress import PROGRESS
 from .stream import Answer
 
 ROOT = os.path.dirname(os.path.dirname(os.path.abspath(__file__)))
@@ -53,21 +54,21 @@ def command():
     return [emulator] * os.access(emulator, os.X_OK) + loader
 
 
-def feed(pipe, cases, count, progress):
+def feed(pipe, cases):
     """Writes the cases; a program that ended early has said so in its answers."""
     try:
         with pipe:
-            for done, case in enumerate(cases):
-                progress.step(done, count)
+            for case in cases:
+                PROGRESS.step()
                 pipe.write(case)
     except BrokenPipeError:
         pass
 
 
-def ask(cases, count, progress):
+def ask(cases, count):
     """The answers of the program to as many cases, in their order."""
     with subprocess.Popen(command(), stdin=subprocess.PIPE, stdout=subprocess.PIPE) as running:
-        feeder = threading.Thread(target=feed, args=(running.stdin, cases, count, progress), daemon=True)
+        feeder = threading.Thread(target=feed, args=(running.stdin, cases), daemon=True)
         feeder.start()
         answers = [Answer(line.decode("ascii").rstrip("\n")) for line in running.stdout]
         feeder.join()

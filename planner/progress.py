@@ -1,4 +1,4 @@
-"""Says on standard error, from the second second on, what is being done."""
+"""Says on standard error, from the second second of a command on, what is being done."""
 import sys
 import threading
 import time
@@ -7,25 +7,35 @@ FIRST, NEXT = 1.0, 2.0
 
 
 class Progress:
-    """While it stands, a line every two seconds: the work, how far it is where that is known, and the seconds."""
+    """While it stands, a line every two seconds: the work, how far it is where it has parts, and the seconds since the command began."""
 
-    def __init__(self, work):
-        self.work, self.far, self.over, self.began = work, "", threading.Event(), time.monotonic()
+    def __init__(self):
+        self.over = None
+        self.doing("reading")
 
-    def step(self, done, count):
-        """How far the work is."""
-        self.far = f", {done:,} of {count:,}" if count > 1 else ""
+    def doing(self, work, count=1):
+        """Names the work that begins, and how many parts it has."""
+        self.work, self.count, self.done = work, count, 0
 
-    def tell(self):
-        """The lines."""
-        wait = FIRST
-        while not self.over.wait(wait):
-            print(f"ombradiec: {self.work}{self.far}, {time.monotonic() - self.began:.0f} s", file=sys.stderr, flush=True)
+    def step(self):
+        """One part more is begun."""
+        self.done += 1
+
+    def tell(self, over):
+        """The lines, until it is over."""
+        began, wait = time.monotonic(), FIRST
+        while not over.wait(wait):
+            far = f", {min(self.done, self.count):,} of {self.count:,}" if self.count > 1 else ""
+            print(f"ombradiec: {self.work}{far}, {time.monotonic() - began:.0f} s", file=sys.stderr, flush=True)
             wait = NEXT
 
     def __enter__(self):
-        threading.Thread(target=self.tell, daemon=True).start()
-        return self
+        self.doing("reading")
+        self.over = threading.Event()
+        threading.Thread(target=self.tell, args=(self.over,), daemon=True).start()
 
     def __exit__(self, *_):
         self.over.set()
+
+
+PROGRESS = Progress()

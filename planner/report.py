@@ -3,6 +3,7 @@ from . import page, words
 from .commands import found_constraints
 from .files import plan_of, put
 from .findings import Findings
+from .progress import PROGRESS
 from .sums import Reasons
 
 
@@ -13,6 +14,8 @@ def report(args):
     reasons = Reasons(plan, found.values, found.is_exact)
     groups = [*reversed(reasons.run.order), *sorted(plan.given)]
     result = found.result(args.plan)
-    put(args, page.page(plan, found, result, reasons.find(groups)))
+    explained = reasons.find(groups)
+    PROGRESS.doing("the page")
+    put(args, page.page(plan, found, result, explained))
     told = {"output": args.output, "reasons": len(groups), **result}
     return told, [f"{args.output}: written, with the reasons of {words.counted(len(groups), 'group')}", words.counts_line(result)]

@@ -6,7 +6,7 @@ from .calls import METHODS, refusal
 from .faults import Refused
 from .files import plan_of
 from .program import ask
-from .progress import Progress
+from .progress import PROGRESS
 from .stream import Lists, case
 
 TOTALS = "read", "exact", "inexact", "refused", "given", "zero", "one", "free"
@@ -15,7 +15,9 @@ TOTALS = "read", "exact", "inexact", "refused", "given", "zero", "one", "free"
 def plans_of(args, totals):
     """The plans that can be read; the faults of the others go to standard error, and they count as refused."""
     plans = []
+    PROGRESS.doing("reading", len(args.plans))
     for file in args.plans:
+        PROGRESS.step()
         try:
             plans.append((file, plan_of(args, file)))
         except Refused as refused:
@@ -51,8 +53,8 @@ def tally(args):
     totals = dict.fromkeys(TOTALS, 0)
     plans = plans_of(args, totals)
     cases = (case(METHODS["closure"], Lists(plan.linear, plan.entries), plan.start()) for _, plan in plans)
-    with Progress("closures") as progress:
-        answers = ask(cases, len(plans), progress) if plans else []
+    PROGRESS.doing("closures", len(plans))
+    answers = ask(cases, len(plans)) if plans else []
     for (file, plan), answer in zip(plans, answers):
         if answer.number:
             tell_refused([f"{file}: refused {answer.number}: {refusal(answer.number)}"], totals)

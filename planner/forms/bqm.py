@@ -3,10 +3,9 @@
 Of values 0 and 1, c is the linear bias, q twice the quadratic one, and the constant the offset; of spins as spins.py says.
 """
 import json
-from fractions import Fraction
 
 from ..faults import Fault
-from ..numbers import weight
+from ..numbers import fraction, weight
 from .spins import Spins, fill_binary
 
 
@@ -98,7 +97,7 @@ def take_term(builder, fill, row, column, w):
 def take_offset(builder, value):
     """The constant, as it stands."""
     bias(value)
-    builder.constant += Fraction(value)
+    builder.constant += fraction(value)
 
 
 def write(plan, rounding):

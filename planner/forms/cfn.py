@@ -7,24 +7,10 @@ import re
 from fractions import Fraction
 
 from ..faults import Fault
+from ..numbers import decimals, fixed
 
 SIMPLE = re.compile(r"[A-Za-z][A-Za-z0-9_-]*")
 MOST = 2 ** 53
-
-
-def decimals(value):
-    """How many decimals a fraction has, whose denominator is of twos and fives."""
-    count = 0
-    while (value * 10 ** count).denominator != 1:
-        count += 1
-    return count
-
-
-def fixed(value, count):
-    """The fraction with this many decimals."""
-    scaled = round(value * 10 ** count)
-    digits = f"{abs(scaled):0{count + 1}}"
-    return ("-" if scaled < 0 else "") + (f"{digits[:-count]}.{digits[-count:]}" if count else digits)
 
 
 def costs_of(plan):

@@ -14,6 +14,7 @@ from .schema import check
 PLAN = os.path.join(ROOT, "example", "plan.txt")
 GOLDEN = os.path.join(ROOT, "example", "forms")
 CASE_G = "group a -5\ngroup b -1\npair a b 4\n"
+PROBED = "group even 0\ngroup a -1\ngroup b 0\ngroup c 1\npair a b -2\npair a c 6\npair b c -4\n"
 CASE_B = "group a -1\ngroup b -1\ngroup c 7\npair a b 4\ngiven a 1\n"
 SWALLOWED = "group a -1\ngroup b 2305843009213693952\ngroup c -2\ngroup d -0.25\npair a b -2305843009213693952\npair a c 1\npair a d 2\n"
 
@@ -40,10 +41,12 @@ class Presolve(Room):
         self.assertEqual((status, found["method"], found["unit"], found["undecided"], found["counts"]["first"]), (0, "heavy", 2.0 ** -20, [], 5))
 
     def test_flat_groups_by_name_and_values_that_probing_adds(self):
-        self.put("f", "group flat 0\ngroup a -1\ngroup b -1\ngroup c 1\npair a b 4\npair a c -2\npair b c -2\n")
-        lines = self.done("presolve", "f", "--probe", "1")
-        self.assertIn("flat, either window at no cost: 1", lines)
-        self.assertIn("  flat", lines)
+        self.put("f", PROBED)
+        self.assertEqual(self.done("presolve", "f", "--probe", "1")[2:], [
+            "given: 0", "forced: 1", "  b: second window (by probing)", "flat, either window at no cost: 1", "  even", "undecided: 2", "  a", "  c",
+            "constraints: 1", "  a and c in different windows", "0 given, 1 forced (0 first, 1 second), 1 flat, 2 undecided, 1 constraint"])
+        self.done("report", "f", "-o", "f.html", "--probe")
+        self.assertIn("● forced by probing <b>b</b>", contents("f.html"))
 
     def test_an_inexact_plan_has_its_rounded_count_of_flat_groups(self):
         self.put("f", "group a 0.1\ngroup b 0\n")
@@ -225,9 +228,9 @@ class Tally(Room):
 class Progress(Room):
     def test_it_is_said_what_takes_long(self):
         self.put("A", CASE_G)
-        with mock.patch.object(progress, "FIRST", 0.0):
-            self.assertIn("ombradiec: closure, 0 s\n", call("presolve", "A", keeps_progress=True)[2])
-            self.assertRegex(call("why", "A", keeps_progress=True)[2], "ombradiec: reasons, [012] of 2, 0 s\n")
+        with mock.patch.multiple(progress, FIRST=0.0, NEXT=0.005):
+            said = call("why", "A", keeps_progress=True)[2]
+        self.assertRegex(said, "ombradiec: reading, 0 s\n(.*\n)*ombradiec: closure, [0-9]+ s\n(.*\n)*ombradiec: reasons, [012] of 2, [0-9]+ s\n")
         with mock.patch.object(progress, "FIRST", 60.0):
             self.assertEqual(call("presolve", "A", keeps_progress=True)[2], "")
 

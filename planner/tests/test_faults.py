@@ -39,6 +39,8 @@ class Faults(unittest.TestCase):
         for word in ("1e309", "-1.8e308", "9" * 400):
             self.faults("text", f"group a {word}\n", f":1: `{word}` is too large for a weight")
         self.faults("text", "constant 1e999\n", ":1: `1e999` is too large for a weight")
+        self.faults("text", "constant 1e-1201\n", ":1: `1e-1201..` has more than 1,200 digits")
+        self.faults("text", "constant 0." + 1200 * "1" + "\n", ":1: `0.111111111111111111..` has more than 1,200 digits")
 
     def test_text(self):
         two = "group a 1\ngroup b 1\n"
