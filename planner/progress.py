@@ -10,7 +10,7 @@ class Progress:
     """While it stands, a line every two seconds: the work, how far it is where it has parts, and the seconds since the command began."""
 
     def __init__(self):
-        self.over = None
+        self.over = self.teller = None
         self.doing("reading")
 
     def doing(self, work, count=1):
@@ -32,10 +32,12 @@ class Progress:
     def __enter__(self):
         self.doing("reading")
         self.over = threading.Event()
-        threading.Thread(target=self.tell, args=(self.over,), daemon=True).start()
+        self.teller = threading.Thread(target=self.tell, args=(self.over,), daemon=True)
+        self.teller.start()
 
     def __exit__(self, *_):
         self.over.set()
+        self.teller.join()
 
 
 PROGRESS = Progress()

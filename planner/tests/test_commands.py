@@ -8,7 +8,7 @@ from unittest import mock
 from planner import calls, commands, progress, stream
 from planner.plan import Plan
 
-from .common import FILES, ROOT, Room, call, plan, random_plan, written
+from .common import FILES, ROOT, Room, call, plan, random_plan, some_x, written
 from .schema import check
 
 PLAN = os.path.join(ROOT, "example", "plan.txt")
@@ -47,6 +47,12 @@ class Presolve(Room):
             "constraints: 1", "  a and c in different windows", "0 given, 1 forced (0 first, 1 second), 1 flat, 2 undecided, 1 constraint"])
         self.done("report", "f", "-o", "f.html", "--probe")
         self.assertIn("● forced by probing <b>b</b>", contents("f.html"))
+
+    def test_the_shipped_graph(self):
+        lines = self.done("presolve", os.path.join(GOLDEN, "graph.rud"), "--probe", "--pairs", "--anchors")
+        self.assertEqual(lines[-6:], ["constraints: 2", "  3 and 4 in the same window", "  5 and 6 in different windows",
+                                      "anchors, each free to be set to either window: 1", "  5",
+                                      "0 given, 0 forced (0 first, 0 second), 0 flat, 6 undecided, 2 constraints, 15 pairs examined"])
 
     def test_an_inexact_plan_has_its_rounded_count_of_flat_groups(self):
         self.put("f", "group a 0.1\ngroup b 0\n")
@@ -92,6 +98,8 @@ class Why(Room):
         self.put("f", written(drawn, "text"))
         found = json.loads(call("why", "f", "--json")[1])
         check(self, found, "why")
+        with mock.patch.object(calls, "LEAST_SHARE", 1), mock.patch.object(calls.os, "cpu_count", return_value=3):
+            self.assertEqual(json.loads(call("why", "f", "--json")[1]), found)
         seen = {reason["group"] for reason in found["reasons"]}
         self.assertGreater(len(seen), 15)
         for at, reason in enumerate(found["reasons"]):
@@ -138,6 +146,14 @@ class Reduce(Room):
                 ending = os.path.splitext(name)[1]
                 golden = f"plan{'-qbsolv' if form == 'qbsolv' else ''}{ending}"
                 self.assertEqual(contents(name), contents(GOLDEN, golden), form)
+
+    def test_each_shipped_form_is_the_same_plan(self):
+        whole = plan(contents(GOLDEN, "plan.txt"))
+        for name, form in (("plan.qubo", "source"), ("plan-qbsolv.qubo", "qbsolv"), ("plan.coo", "coo"), ("plan.json", "bqm")):
+            read = plan(contents(GOLDEN, name), form)
+            missing = whole.constant if form == "source" else 0
+            for x in some_x(9, 8):
+                self.assertEqual(read.f(x) + missing, whole.f(x), name)
 
     def test_its_lines(self):
         self.assertEqual(self.done("reduce", PLAN, "-o", "out.qubo"), [
