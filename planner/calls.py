@@ -1,7 +1,6 @@
 """The calls on a plan, each by the compiled program; a refusal is told in words."""
 import math
 import os
-from concurrent.futures import ThreadPoolExecutor
 
 from . import stream
 from .faults import Refused
@@ -11,7 +10,6 @@ from .program import ROOT, ask
 from .progress import PROGRESS
 from .stream import LONGEST_LIST, Lists, allow_case, case
 
-LEAST_SHARE = 32
 METHODS = {"closure": stream.CLOSURE, "preprocess": stream.PREPROCESS, "heavy": stream.HEAVY}
 
 
@@ -70,22 +68,6 @@ class Calls:
     def anchors(self, values):
         """One group of each part that may be turned around, of two groups or more."""
         return self.one("anchors", stream.ANCHORS, values, variables=self.n, least=2).numbers("variables")
-
-    def reasons(self, variables):
-        """The reason of each variable, in the order given; where they are many, by a program for each processor."""
-        PROGRESS.doing("reasons", len(variables))
-        start, shares = self.plan.start(), max(1, min(os.cpu_count() or 1, len(variables) // LEAST_SHARE))
-
-        def share(k):
-            """The answers to every `shares`-th variable from the k-th on."""
-            own = variables[k::shares]
-            return ask((case(stream.REASON, self.lists, start, variables=self.n, variable=i) for i in own), len(own))
-
-        answers = [None] * len(variables)
-        with ThreadPoolExecutor(shares) as pool:
-            for k, found in enumerate(pool.map(share, range(shares))):
-                answers[k::shares] = found
-        return [answered(answer) for answer in answers]
 
     def smaller(self, values):
         """The problem of the free groups."""

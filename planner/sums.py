@@ -1,11 +1,12 @@
 """Why a group is where it is: the sum of its own weight, what the listed groups add, and the worst that all others can add."""
 from fractions import Fraction
 
-from .calls import Calls
+from . import grounds
 from .faults import Refused, Unusable
 from .names import quoted
-from .numbers import unit_exponent
 from .run import FREE, Run
+
+MANY = 64
 
 
 class Reason:
@@ -55,12 +56,14 @@ class Reasons:
         return [self.known[i] for i in groups]
 
     def asked(self, groups):
-        """By the call, whose list is held to the run's, and whose bound to the sum."""
-        unit = unit_exponent(self.plan.linear, [q for _, _, q in self.plan.entries])
-        for i, answer in zip(groups, Calls(self.plan).reasons(groups)):
-            reason = self.reason(i, answer.words["ground"], answer.numbers("variables"))
-            told = Fraction(answer.weight("bound")) * Fraction(2) ** (unit - 1)
-            if (set(reason.listed), reason.bound, unit) != (self.run.listed[i], told, answer.count("unit") - 20) or not reason.is_strict():
+        """By the call, whose list is held to the run's, and whose bound to the sum; many are asked of each group's own row."""
+        if len(groups) > MANY:
+            answers = grounds.of_rows(self.plan, self.values, groups, self.run.listed)
+        else:
+            answers = grounds.of_field(self.plan, groups)
+        for i, (ground, listed, bound) in zip(groups, answers):
+            reason = self.reason(i, ground, listed)
+            if set(listed) != self.run.listed[i] or reason.bound != bound or not reason.is_strict():
                 raise Unusable(f"the sum of the group {quoted(self.plan.names[i])} is not the bound that the call gives")
             yield i, reason
 

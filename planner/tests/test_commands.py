@@ -5,7 +5,7 @@ import os
 import random
 from unittest import mock
 
-from planner import calls, commands, progress, stream
+from planner import calls, commands, grounds, progress, stream, sums
 from planner.plan import Plan
 
 from .common import FILES, ROOT, Room, call, plan, random_plan, some_x, written
@@ -98,8 +98,10 @@ class Why(Room):
         self.put("f", written(drawn, "text"))
         found = json.loads(call("why", "f", "--json")[1])
         check(self, found, "why")
-        with mock.patch.object(calls, "LEAST_SHARE", 1), mock.patch.object(calls.os, "cpu_count", return_value=3):
+        with mock.patch.object(grounds, "LEAST_SHARE", 1), mock.patch.object(grounds.os, "cpu_count", return_value=3):
             self.assertEqual(json.loads(call("why", "f", "--json")[1]), found)
+            with mock.patch.object(sums, "MANY", 0):
+                self.assertEqual(json.loads(call("why", "f", "--json")[1]), found)
         seen = {reason["group"] for reason in found["reasons"]}
         self.assertGreater(len(seen), 15)
         for at, reason in enumerate(found["reasons"]):

@@ -121,10 +121,10 @@ class NotWhole(unittest.TestCase):
             sums.Reasons(plan("group a 1\n"), b"\1", True)
 
     def test_a_bound_that_is_not_the_sum(self):
-        answer = stream.Answer("0 exact ground=lower unit=0 bound=3ff0000000000000 count=0 variables=- past=kept floats=zeros words=zeros")
-        with mock.patch.object(sums.Calls, "reasons", return_value=[answer]):
-            with self.assertRaisesRegex(Unusable, "^the sum of the group a is not the bound that the call gives$"):
-                sums.Reasons(plan("group a 1\n"), b"\0", True).find([0])
+        for wrong in (("lower", [], 2), ("lower", [1], 1)):
+            with mock.patch.object(sums.grounds, "of_field", return_value=[wrong]):
+                with self.assertRaisesRegex(Unusable, "^the sum of the group a is not the bound that the call gives$"):
+                    sums.Reasons(plan("group a 1\ngroup b 0\npair a b 0\n"), b"\0\2", True).find([0])
 
     def test_a_grade_that_is_not_the_weights(self):
         with self.assertRaisesRegex(Unusable, "^the grade that the program gives is not that of the weights$"):
