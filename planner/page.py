@@ -5,7 +5,7 @@ from importlib import resources
 from .names import quoted
 from .numbers import shown
 from .reasons import told
-from .words import WINDOWS, counted, grade_line, signed, verdict
+from .words import WINDOWS, counted, grade_line, sum_lines
 
 MOST_CONSTRAINTS = 2000
 MARKS = {"given": "■", "forced": "●", "flat": "◇", "undecided": "○"}
@@ -68,22 +68,13 @@ def columns(plan, found, explained):
     return lines, column("In neither window yet", lists[None], "neither")
 
 
-def section(plan, values, reason):
+def section(plan, values, number, reason):
     """One reason: a sum to be added up, whose listed groups are links to their own."""
-    i = reason.group
-    head = f"<section class=why id=g{i}><h3>{named(plan.names[i])} <small>{reason.ground == 'given' and 'given' or 'forced'}, {WINDOWS[reason.value]} window</small></h3>"
-    if reason.ground == "given":
+    state = "given" if reason.ground == "given" else "forced"
+    head = f"<section class=why id=g{reason.group}><h3>{named(plan.names[reason.group])} <small>{state}, {WINDOWS[reason.value]} window</small></h3>"
+    if state == "given":
         return head + "<p>The plan gives it.</p></section>"
-    data = told(plan, values, reason)
-    rows = [(data["own"], "its own weight")]
-    for j, entry in zip(reason.adds, data["listed"]):
-        rows.append((entry["adds"], f"with <a href=#g{j}>{named(entry['group'])}</a> in the {WINDOWS[entry['value']]} window"))
-    each = ", ".join(f"{named(entry['group'])} {signed(entry['adds'])}" for entry in data["others"])
-    rows += [(data["others_add"], "the worst that all others can add" + (f" ({each})" if each else "")), (data["bound"], verdict(data))]
-    width = max(len(signed(number)) for number, _ in rows)
-    lines = [f"{signed(number):>{width}}  {text}" for number, text in rows]
-    if data["rounded"] is not None:
-        lines.append(f"{signed(data['rounded']):>{width}}  as the presolver rounds it")
+    lines = sum_lines(told(plan, values, reason), lambda name: f"<a href=#g{number[name]}>{named(name)}</a>", named)
     return head + "<pre>" + "\n".join(lines) + "</pre></section>"
 
 
@@ -119,12 +110,13 @@ def page(plan, found, result, reasons):
     title = escape(quoted(result["plan"]))
     windows, neither = columns(plan, found, {reason.group for reason in reasons})
     size = f"{counted(result['groups'], 'group')}, {counted(result['pairs'], 'pair')}"
+    number = {name: i for i, name in enumerate(plan.names)}
     proved = EXACT if result["grade"] == "exact" else INEXACT
     lines = [
         f"<!doctype html><html lang=en><meta charset=utf-8><meta name=viewport content='width=device-width'><title>{title}</title>",
         f"<style>{part('page.css')}</style><body><header id=top><h1>{title}</h1><p>{size}; {escape(grade_line(result))}.</p>",
         *counts(result), "</header><main>", *windows, "<aside><h2>Why</h2><p class=hint>Choose a group to see why it is where it is.</p>",
-        *(section(plan, found.values, reason) for reason in reasons), "</aside></main>", *neither, *constraints(result), *anchors(result),
+        *(section(plan, found.values, number, reason) for reason in reasons), "</aside></main>", *neither, *constraints(result), *anchors(result),
         "<section id=proved><h2>What is proved</h2>", *(f"<p>{text}</p>" for text in [*proved, BELIEVED]), "</section>",
         f"<script>{part('page.js')}</script>",
     ]

@@ -35,9 +35,9 @@ def forbidden_pairs(forbidden):
     return [pair for bit, pair in enumerate(("00", "01", "10", "11")) if forbidden >> bit & 1]
 
 
-def counted(count, one, many=None):
+def counted(count, noun):
     """A number with its noun."""
-    return f"{count:,} {one if count == 1 else many or one + 's'}"
+    return f"{count:,} {noun}{'' if count == 1 else 's'}"
 
 
 def signed(text):
@@ -61,6 +61,7 @@ def presolve(result):
     """The lines of `presolve`."""
     size = f"{counted(result['groups'], 'group')}, {counted(result['pairs'], 'pair')}"
     lines = [f"{quoted(result['plan'])}: {size}; {result['method']}", grade_line(result)]
+    lines += [f"what {result['method']} forces holds in one best plan, and need not in every one"] * (result["method"] != "closure")
     lines += listing("given", window_lines(result["given"]))
     lines += listing("forced", [f"{quoted(item['group'])}: {WINDOWS[item['value']]} window{by(item)}" for item in result["forced"]])
     if result["flat"] is not None:
@@ -107,13 +108,20 @@ def why_one(reason):
     name, window = quoted(reason["group"]), WINDOWS[reason["value"]]
     if reason["ground"] == "given":
         return [f"{name} is given in the {window} window"]
+    return [f"{name} goes into the {window} window"] + ["  " + line for line in sum_lines(reason, quoted, quoted)]
+
+
+def sum_lines(reason, link, plain):
+    """The sum, a line each: its own weight, the listed groups, all others, the bound and, where sums are rounded, the rounded one."""
     rows = [(reason["own"], "its own weight")]
-    rows += [(item["adds"], f"with {quoted(item['group'])} in the {WINDOWS[item['value']]} window") for item in reason["listed"]]
-    each = ", ".join(f"{quoted(item['group'])} {signed(item['adds'])}" for item in reason["others"])
+    rows += [(item["adds"], f"with {link(item['group'])} in the {WINDOWS[item['value']]} window") for item in reason["listed"]]
+    each = ", ".join(f"{plain(item['group'])} {signed(item['adds'])}" for item in reason["others"])
     rows.append((reason["others_add"], "the worst that all others can add" + (f" ({each})" if each else "")))
-    width = max(len(signed(number)) for number, _ in [*rows, (reason["bound"], "")])
-    lines = [f"{name} goes into the {window} window"] + [f"  {signed(number):>{width}}  {text}" for number, text in rows]
-    return lines + [f"  {signed(reason['bound']):>{width}}  {verdict(reason)}"] + rounded_lines(reason)
+    rows.append((reason["bound"], verdict(reason)))
+    if reason["rounded"] is not None:
+        rows.append((reason["rounded"], "as the presolver rounds it"))
+    width = max(len(signed(number)) for number, _ in rows)
+    return [f"{signed(number):>{width}}  {text}" for number, text in rows]
 
 
 def verdict(reason):
@@ -121,14 +129,6 @@ def verdict(reason):
     if not reason["strict"]:
         return "the exact sum, which does not force it"
     return "below 0: so much at least the second window saves" if reason["value"] else "above 0: so much at least the second window costs"
-
-
-def rounded_lines(reason):
-    """The bound as the presolver rounded it, where the field is inexact."""
-    if reason["rounded"] is None:
-        return []
-    same = "the same" if reason["rounded"] == reason["bound"] else signed(reason["rounded"])
-    return [f"  as the presolver rounds it: {same}"]
 
 
 def window_lines(items):

@@ -34,6 +34,9 @@ class Presolve(Room):
             "  receipts and photos in different windows", "anchors, each free to be set to either window: 1", "  receipts",
             "1 given, 6 forced (4 first, 2 second), 0 flat, 2 undecided, 1 constraint, 1 pair examined"])
 
+    def test_what_preprocess_forces_holds_in_one_best_plan(self):
+        self.assertEqual(self.done("presolve", PLAN, "--preprocess")[2], "what preprocess forces holds in one best plan, and need not in every one")
+
     def test_json_has_the_same_by_the_schema(self):
         status, out, _ = call("presolve", "--heavy", "--probe", PLAN, "--pairs", "1", "--anchors", "--json")
         found = json.loads(out)
@@ -117,8 +120,9 @@ class Why(Room):
         self.assertEqual(lines[:9], [
             "grade inexact: sums are rounded, and what is forced is what the rounded sums force", "", "a goes into the first window",
             "    -1  its own weight", "     0  with b in the first window", "  +0.5  with c in the second window",
-            "     0  the worst that all others can add", "  -0.5  the exact sum, which does not force it", "  as the presolver rounds it: +0.5"])
-        self.assertEqual(lines[-1], "  as the presolver rounds it: the same")
+            "     0  the worst that all others can add", "  -0.5  the exact sum, which does not force it", "  +0.5  as the presolver rounds it"])
+        self.assertEqual(lines[-2:], ["  +1152921504606846976  above 0: so much at least the second window costs",
+                                      "  +1152921504606846976  as the presolver rounds it"])
         check(self, json.loads(call("why", "f", "--json")[1]), "why")
 
     def test_groups_without_a_reason(self):
