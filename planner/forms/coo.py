@@ -30,6 +30,13 @@ def is_spin(builder, lines):
     return False
 
 
+def take_spins(builder, items):
+    """All triples as terms of spins."""
+    spins = Spins(builder)
+    builder.each(items, lambda item: spins.take(*item))
+    spins.finish()
+
+
 def read(lines, builder):
     """Takes the triples, then the groups up to the greatest number, then what the comments of this tool tell."""
     spin, triples = is_spin(builder, lines), []
@@ -44,9 +51,7 @@ def read(lines, builder):
         return builder.fault(fault)
     items = [(at, (row, column, w)) for at, row, column, w in triples]
     if spin:
-        spins = Spins(builder)
-        builder.each(items, lambda item: spins.take(*item))
-        spins.finish()
+        builder.each([(None, items)], lambda items: take_spins(builder, items))
     else:
         builder.each(items, lambda item: fill_binary(builder, *item))
     comments = [(at, line.strip()[1:]) for at, line in enumerate(lines, 1) if line.strip().startswith("#")]

@@ -200,6 +200,8 @@ class Mend(Room):
         self.refused(1, ["line 3: refused 18: the weights of the pair a b have a sum that is not finite"], "mend", "f", "-o", "out")
         self.put("g.rud", "2 1\n1 2 1\n")
         self.refused(1, ["g.rud:1: its weights are sums over the pairs, so that there is no entry list to mend"], "mend", "g.rud", "-o", "out")
+        self.put("s.coo", "# vartype=SPIN\n0 1 1\n")
+        self.refused(1, ["s.coo: its weights are sums over the pairs, so that there is no entry list to mend"], "mend", "s.coo", "-o", "out")
         self.put("h", "group a x\n")
         self.refused(1, ["h:1: `x` is no number"], "mend", "h", "-o", "out")
 

@@ -92,7 +92,7 @@ class Page(Pages):
 class Browser(Pages):
     def browse(self, file, *words):
         """Opens a file in the browser, and answers the page as it stands then."""
-        done = subprocess.run(["chromium", "--headless", "--no-sandbox", "--disable-gpu", "--hide-scrollbars", "--window-size=1300,900",
+        done = subprocess.run(["chromium", "--headless", "--no-sandbox", "--disable-gpu", "--disable-dev-shm-usage", "--hide-scrollbars", "--window-size=1300,900",
                                *words, f"file://{os.getcwd()}/{file}"], capture_output=True, text=True, timeout=60)
         return done.stdout
 
