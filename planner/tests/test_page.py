@@ -13,7 +13,19 @@ from .common import ROOT, Room, call, written
 from .schema import check
 
 PLAN = os.path.join(ROOT, "example", "plan.txt")
-CHAIN = 'group "a <1>" 3\ngroup b -3\ngroup c -0.5\ngroup d 9\ngroup e 0\ngroup f 0\ngroup g 0\npair "a <1>" b 2\npair b c 4\npair c d -1\npair f g 2\ngiven "a <1>" 0\n'
+CHAIN = """group "a <1>" 3
+group b -3
+group c -0.5
+group d 9
+group e 0
+group f 0
+group g 0
+pair "a <1>" b 2
+pair b c 4
+pair c d -1
+pair f g 2
+given "a <1>" 0
+"""
 FOLLOW = """<script>
 const told = [];
 function shown() { return [...document.querySelectorAll(".why")].filter(s => getComputedStyle(s).display != "none").map(s => s.id); }
@@ -108,6 +120,11 @@ class Browser(Pages):
     def test_without_its_script_each_link_shows_one_reason(self):
         page = re.sub("<script>.*</script>", "", self.page(CHAIN), flags=re.S)
         self.assertEqual(self.told(page, FOLLOW, WAIT), [["#g2", ["g2"]], ["#g1", ["g1"]], ["#g0", ["g0"]]])
+
+    def test_printed_it_has_all_reasons(self):
+        page = self.page(CHAIN).replace("@media print", "@media all")
+        shown = """<script>document.body.dataset.told = [...document.querySelectorAll(".why")].filter(s => s.offsetHeight).length;</script>"""
+        self.assertEqual(self.told(page, shown), 4)
 
     def test_a_screenshot(self):
         self.page(CHAIN)
