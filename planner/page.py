@@ -11,9 +11,10 @@ MOST_CONSTRAINTS = 2000
 MARKS = {"given": "■", "forced": "●", "flat": "◇", "undecided": "○"}
 EXACT = [
     "Proved by machine, for every plan of this grade: each value forced by the closure is what whole numbers force, no more and no fewer, and every "
-    "best plan has it; the bound of each reason is the whole-number bound with only the listed groups fixed, and each listed group is given or was "
-    "forced earlier; every best plan has the values that probing adds, and meets each constraint.",
-    "Shown by adding up: each sum on this page was added anew, in fractions, and is the bound that the call gave.",
+    "best plan has it; the bound of each reason is the whole-number bound with only the listed groups fixed; every best plan has the values that "
+    "probing adds, and meets each constraint.",
+    "Shown on this page: each sum was added anew, in fractions, and is the bound that the call gave; each listed group is given or has a reason of its "
+    "own, and following them leads in no circle.",
 ]
 INEXACT = [
     "The grade is inexact: the sums are rounded. The forced values are those that the rounded sums force, as in the source; nothing is proved of best "
