@@ -11,7 +11,6 @@ pub mod Gathered
 pub mod Exact
 pub mod Candidates
 pub mod Limited
-pub mod Single
 pub mod Routes
 pub mod Calls
 pub mod FullCall

@@ -1,4 +1,4 @@
-// The public calls over remembered rows: the single probe, the full one and the limited one.
+// The public calls: the single probe, and the full and the limited one, over remembered rows.
 pub mod choosing;
 pub mod settling;
 pub mod values;
@@ -74,9 +74,8 @@ pub fn probe_one(
         scratch::clear_words(u);
         return Answer::Refused(Refusal::Room);
     }
-    let known = prepare(c, rows, cols, q, start, values, f, u);
-    let grade = known.grade;
-    probing::probe(c, rows, cols, q, values, f, u, known, variable, value);
+    let grade = field::grading::graded(c, rows, cols, q);
+    single::work(c, rows, cols, q, start, variable, value, values, f, u);
     keep_new(start, values);
     scratch::clear_floats(f);
     scratch::clear_words(u);
