@@ -276,7 +276,7 @@ ombradiec_answer ombradiec_probe_one(const double *c, size_t c_len, const uint16
                                      uint8_t *values, size_t values_len, double *f, size_t f_len, uint32_t *u,
                                      size_t u_len);
 
-/* The same with rows made afresh, as a second opinion on ombradiec_probe_one, which goes over remembered rows: on every field
+/* The same with rows made afresh, as a second opinion on ombradiec_probe_one, which makes its rows another way: on every field
  * and on every refusal the answers are equal. */
 ombradiec_answer ombradiec_cold_probe_one(const double *c, size_t c_len, const uint16_t *rows, size_t rows_len,
                                           const uint16_t *cols, size_t cols_len, const double *q, size_t q_len,
