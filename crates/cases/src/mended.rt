@@ -1,20 +1,13 @@
 // A case of an entry list to be mended, which is done in the field's own lists.
-use crate::contents::take_columns;
-use crate::contents::take_linear;
-use crate::contents::take_rows;
-use crate::contents::take_weights;
 use lines::Outcome;
 use lines::outcomes::is_exact;
 use lines::outcomes::refusing;
 use lines::reduced::put_mended;
 use mend::Mended;
-use stream::head::ENTRIES;
-use stream::head::Head;
-use stream::head::VARIABLES;
 ghost use Prim.Native.Nat.{_≤_};
 ghost use lib.ListN.{length};
 ghost use Rattle.scratch.specs.Lent.{after};
-ghost use Rattle.stream.specs.Heads.{Fits, standing};
+ghost use Rattle.stream.specs.Heads.{standing};
 
 // Done with a grade, as many changes and as many entries, or a refusal.
 fn outcome_of(answer: Mended) -> Outcome {
@@ -35,7 +28,7 @@ fn outcome_of(answer: Mended) -> Outcome {
 }
 
 // Makes the call in a field that stands at the front of the contents, and puts its line.
-fn mend_field(
+pub fn mend_field(
     contents: &[u8],
     c: &[f64],
     rows: &mut [u16],
@@ -52,43 +45,4 @@ fn mend_field(
 {
     let outcome = outcome_of(mend::mend(c, rows, cols, q, list, f, u));
     put_mended(out, used, outcome, contents, c, rows, cols, q, list, f, u)
-}
-
-// Makes the call `mend` on the field of a case, in lists of its own, and writes the line of its answer.
-pub fn answer_mend(
-    head: Head,
-    contents: &[u8],
-    list: &mut [u16],
-    f: &mut [f64],
-    u: &mut [u32],
-    out: &mut [u8],
-    used: usize,
-) -> usize
-    requires { ⌜ Fits head (length (now contents)) ⌝ }
-    ensures { λ r. ⌜ r ≤ length (after out) ⌝ }
-{
-    let mut c = [0.0f64; VARIABLES];
-    let mut rows = [0u16; ENTRIES];
-    let mut cols = [0u16; ENTRIES];
-    let mut q = [0.0f64; ENTRIES];
-    take_linear(head, contents, &mut c);
-    take_rows(head, contents, &mut rows);
-    take_columns(head, contents, &mut cols);
-    take_weights(head, contents, &mut q);
-    let variables = head.linear;
-    let row_count = head.rows;
-    let column_count = head.columns;
-    let weight_count = head.weights;
-    mend_field(
-        contents,
-        &c[..variables],
-        &mut rows[..row_count],
-        &mut cols[..column_count],
-        &mut q[..weight_count],
-        list,
-        f,
-        u,
-        out,
-        used,
-    )
 }

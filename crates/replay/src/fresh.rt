@@ -8,15 +8,14 @@ use cases::contents::take_linear;
 use cases::contents::take_rows;
 use cases::contents::take_start;
 use cases::contents::take_weights;
-use cases::keeping::answer_keep;
-use cases::mended::answer_mend;
-use cases::reducing::answer_sub_problem;
+use cases::mended::mend_field;
+use cases::reducing::reduce_field;
 use cases::shifting::answer_shift;
+use keeping::answer_keep;
 use lines::ALLOW;
 use lines::BYTE;
 use lines::KEEP;
 use lines::MEND;
-use lines::Outcome;
 use lines::SHIFT;
 use lines::SUB_PROBLEM;
 use lines::put_line;
@@ -27,51 +26,17 @@ use stream::head::VARIABLES;
 ghost use Prim.Native.Nat.{_+_, _≤_};
 ghost use lib.ListN.{length};
 ghost use Rattle.scratch.specs.Lent.{after};
-ghost use Rattle.stream.specs.Heads.{Fits, Buffers};
-
-// Makes the call in a field of its own.
-fn with_field(
-    head: Head,
-    contents: &[u8],
-    start: &mut [u8],
-    found: &mut [u8],
-    list: &mut [u16],
-    f: &mut [f64],
-    u: &mut [u32],
-) -> Outcome
-    requires { ⌜ Fits head (length (now contents)) ⌝ }
-{
-    let mut c = [0.0f64; VARIABLES];
-    let mut rows = [0u16; ENTRIES];
-    let mut cols = [0u16; ENTRIES];
-    let mut q = [0.0f64; ENTRIES];
-    take_linear(head, contents, &mut c);
-    take_rows(head, contents, &mut rows);
-    take_columns(head, contents, &mut cols);
-    take_weights(head, contents, &mut q);
-    let variables = head.linear;
-    let row_count = head.rows;
-    let column_count = head.columns;
-    let weight_count = head.weights;
-    make(
-        head,
-        &c[..variables],
-        &rows[..row_count],
-        &cols[..column_count],
-        &q[..weight_count],
-        start,
-        found,
-        list,
-        f,
-        u,
-    )
-}
+ghost use Rattle.stream.specs.Heads.{Fits, Buffers, standing};
 
 // Makes a call that keeps the field and puts its line; the start values stood in the contents from `at` on.
 fn answer_kept(
     head: Head,
     contents: &[u8],
     at: usize,
+    c: &[f64],
+    rows: &[u16],
+    cols: &[u16],
+    q: &[f64],
     start: &mut [u8],
     found: &mut [u8],
     list: &mut [u16],
@@ -80,11 +45,10 @@ fn answer_kept(
     out: &mut [u8],
     used: usize,
 ) -> usize
-    requires { ⌜ Fits head (length (now contents)) ⌝ }
     requires { ⌜ at + length (now start) ≤ length (now contents) ⌝ }
     ensures { λ r. ⌜ r ≤ length (after out) ⌝ }
 {
-    let outcome = with_field(head, contents, start, found, list, f, u);
+    let outcome = make(head, c, rows, cols, q, start, found, list, f, u);
     put_line(
         out,
         used,
@@ -100,8 +64,71 @@ fn answer_kept(
     )
 }
 
-// Makes the call and puts its line.
+// Makes the call in a field that stands at the front of the contents, and puts its line.
 fn answer_call(
+    head: Head,
+    contents: &[u8],
+    at: usize,
+    c: &mut [f64],
+    rows: &mut [u16],
+    cols: &mut [u16],
+    q: &mut [f64],
+    start: &mut [u8],
+    found: &mut [u8],
+    list: &mut [u16],
+    f: &mut [f64],
+    u: &mut [u32],
+    out: &mut [u8],
+    used: usize,
+) -> usize
+    requires { ⌜ standing (length (now c)) (length (now rows)) (length (now cols)) (length (now q)) ≤ length (now contents) ⌝ }
+    requires { ⌜ at + length (now start) ≤ length (now contents) ⌝ }
+    ensures { λ r. ⌜ r ≤ length (after out) ⌝ }
+{
+    if head.code == SUB_PROBLEM {
+        return reduce_field(contents, c, rows, cols, q, start, list, f, u, out, used);
+    }
+    if head.code == MEND {
+        return mend_field(contents, c, rows, cols, q, list, f, u, out, used);
+    }
+    if head.code == KEEP {
+        return answer_keep(
+            head.least,
+            contents,
+            at,
+            c,
+            rows,
+            cols,
+            q,
+            start,
+            found,
+            list,
+            f,
+            u,
+            out,
+            used,
+        );
+    }
+    answer_kept(
+        head,
+        contents,
+        at,
+        c,
+        rows,
+        cols,
+        q,
+        start,
+        found,
+        list,
+        f,
+        u,
+        out,
+        used,
+    )
+}
+
+// With a field of its own.
+fn answer_in_field(
     head: Head,
     contents: &[u8],
     at: usize,
@@ -117,16 +144,34 @@ fn answer_call(
     requires { ⌜ at + length (now start) ≤ length (now contents) ⌝ }
     ensures { λ r. ⌜ r ≤ length (after out) ⌝ }
 {
-    if head.code == SUB_PROBLEM {
-        return answer_sub_problem(head, contents, start, list, f, u, out, used);
-    }
-    if head.code == MEND {
-        return answer_mend(head, contents, list, f, u, out, used);
-    }
-    if head.code == KEEP {
-        return answer_keep(head, contents, at, start, found, list, f, u, out, used);
-    }
-    answer_kept(head, contents, at, start, found, list, f, u, out, used)
+    let mut c = [0.0f64; VARIABLES];
+    let mut rows = [0u16; ENTRIES];
+    let mut cols = [0u16; ENTRIES];
+    let mut q = [0.0f64; ENTRIES];
+    take_linear(head, contents, &mut c);
+    take_rows(head, contents, &mut rows);
+    take_columns(head, contents, &mut cols);
+    take_weights(head, contents, &mut q);
+    let variables = head.linear;
+    let row_count = head.rows;
+    let column_count = head.columns;
+    let weight_count = head.weights;
+    answer_call(
+        head,
+        contents,
+        at,
+        &mut c[..variables],
+        &mut rows[..row_count],
+        &mut cols[..column_count],
+        &mut q[..weight_count],
+        start,
+        found,
+        list,
+        f,
+        u,
+        out,
+        used,
+    )
 }
 
 // With an answer list and scratch as long as the head says, and start values and found values of its own.
@@ -149,7 +194,7 @@ fn answer_in_parts(
     let values = head.start;
     let room = head.found;
     let at = start_at(head);
-    answer_call(
+    answer_in_field(
         head,
         contents,
         at,

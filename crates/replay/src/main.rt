@@ -3,6 +3,7 @@
 // `side-by-side/record crates/replay/stdin crates/replay/stdout CALLS` writes the recorded cases, and the Rust's answers to them.
 mod fresh;
 mod making;
+mod others;
 
 use cases::reading::Next;
 use cases::reading::next_case;

@@ -86,7 +86,7 @@ fn others(
     if is_among(head.code, COLD_FULL, COLD_LIMITED) {
         return in_both_cold(head, c, rows, cols, q, start, found, list, f, u);
     }
-    cases::making::make(head, c, rows, cols, q, start, found, list, f, u)
+    crate::others::make(head, c, rows, cols, q, start, found, list, f, u)
 }
 
 // A call that keeps the field.

@@ -22,8 +22,8 @@ start-at-requires c κs = search needs
 array-borrow-prefix-start : tie.Need-array-borrow-prefix-start
 array-borrow-prefix-start c = search needs
 
-slice-aggregate-answer-call : tie.Need-slice-aggregate-answer-call
-slice-aggregate-answer-call c =
+slice-aggregate-answer-in-field : tie.Need-slice-aggregate-answer-in-field
+slice-aggregate-answer-in-field c =
     let taken = c .before .before .before in
     let start = taken .before .before .before .before .before .before .before .before .before .before .before .before .before .before .before .before .before in
     part-fits _ (taken .take-start .last .1 .1 .0) (omega (arith, taken .take-start .kept .1 .1 .0, length-replicate {A = ℕ} 4100 0, start .pre .lists .start-fits))
@@ -31,11 +31,11 @@ slice-aggregate-answer-call c =
 array-borrow-prefix-found : tie.Need-array-borrow-prefix-found
 array-borrow-prefix-found c = search needs
 
-slice-aggregate-answer-call-2 : tie.Need-slice-aggregate-answer-call-2
-slice-aggregate-answer-call-2 c = part-long _ 4100 _ (c .before .before .before .before .before .before .before .before .before .before .before .before .before .before .before .before .before .before .before .before .before .pre .lent .found-fits)
+slice-aggregate-answer-in-field-2 : tie.Need-slice-aggregate-answer-in-field-2
+slice-aggregate-answer-in-field-2 c = part-long _ 4100 _ (c .before .before .before .before .before .before .before .before .before .before .before .before .before .before .before .before .before .before .before .before .before .pre .lent .found-fits)
 
-answer-call-requires : tie.Need-answer-call-requires
-answer-call-requires c κs =
+answer-in-field-requires : tie.Need-answer-in-field-requires
+answer-in-field-requires c κs =
     let placed = c .before .before .before .before .before .before in
     let taken = placed .before .before in
     let start = taken .before .before .before .before .before .before .before .before .before .before .before .before .before .before .before .before .before in (
@@ -68,10 +68,10 @@ answer-in-parts-spec =
     take-start-requires
     start-at-requires
     array-borrow-prefix-start
-    slice-aggregate-answer-call
+    slice-aggregate-answer-in-field
     array-borrow-prefix-found
-    slice-aggregate-answer-call-2
-    answer-call-requires
+    slice-aggregate-answer-in-field-2
+    answer-in-field-requires
     same-length
     same-length-2
     same-length-3

@@ -1,8 +1,8 @@
 -- The number is the answer's. Assumes nothing.
 use Rattle.lines.proofs.Numbers.{counted-few}
 use borrow.Author.Needs.{needs}
-use Rattle.cases.proofs.making.in_start.Statement.{statement}
-use Rattle.cases.proofs.making.in_start.Tie as tie
+use Rattle.replay.proofs.others.in_start.Statement.{statement}
+use Rattle.replay.proofs.others.in_start.Tie as tie
 
 closure-requires : tie.Need-closure-requires
 closure-requires c κs = search needs

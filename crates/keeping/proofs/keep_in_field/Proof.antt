@@ -1,8 +1,8 @@
 -- `keep_in_field` makes the record, operates in it and closes from it. Assumes nothing.
 use native.Mathlib.Omega.{arith}
 use borrow.Author.Needs.{needs}
-use Rattle.cases.proofs.keeping.keep_in_field.Statement.{statement}
-use Rattle.cases.proofs.keeping.keep_in_field.Tie as tie
+use Rattle.keeping.proofs.keep_in_field.Statement.{statement}
+use Rattle.keeping.proofs.keep_in_field.Tie as tie
 
 make-requires : tie.Need-make-requires
 make-requires c κs = search needs

@@ -1,7 +1,7 @@
 -- `put_operations` has a dash where the script is empty. Assumes nothing.
 use borrow.Author.Needs.{needs}
-use Rattle.cases.proofs.keeping.put_operations.Statement.{statement}
-use Rattle.cases.proofs.keeping.put_operations.Tie as tie
+use Rattle.keeping.proofs.put_operations.Statement.{statement}
+use Rattle.keeping.proofs.put_operations.Tie as tie
 
 slice-aggregate-put-text : tie.Need-slice-aggregate-put-text
 slice-aggregate-put-text c = search needs

@@ -1,8 +1,8 @@
 -- The number is the answer's, or that of a call that is absent. Assumes nothing.
 use Rattle.lines.proofs.Numbers.{absent-few, counted-few}
 use borrow.Author.Needs.{needs}
-use Rattle.cases.proofs.making.in_list.Statement.{statement}
-use Rattle.cases.proofs.making.in_list.Tie as tie
+use Rattle.replay.proofs.others.in_list.Statement.{statement}
+use Rattle.replay.proofs.others.in_list.Tie as tie
 
 pairs-requires : tie.Need-pairs-requires
 pairs-requires c κs = search needs

@@ -4,8 +4,8 @@ use mathlib.Core.Path.{_≡_}
 use native.Mathlib.Omega.{arith}
 use lib.ListN.{length}
 use borrow.Author.Needs.{needs}
-use Rattle.cases.proofs.keeping.put_each.Statement.{statement}
-use Rattle.cases.proofs.keeping.put_each.Tie as tie
+use Rattle.keeping.proofs.put_each.Statement.{statement}
+use Rattle.keeping.proofs.put_each.Tie as tie
 
 abbrev Inv-loop : tie.InvT-loop
 Inv-loop out₀ used c rows cols q values₀ bounds₀ strict₀ script at₀ count k₀ out values bounds strict at k = (at ≤ length out) × ((length out ≡ length out₀) × ((length values ≡ length values₀) × (length bounds ≡ length bounds₀)))

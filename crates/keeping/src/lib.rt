@@ -1,8 +1,4 @@
 // A case of the record: it is made, the operations of a script are made in it, and it is closed from.
-use crate::contents::take_columns;
-use crate::contents::take_linear;
-use crate::contents::take_rows;
-use crate::contents::take_weights;
 use lines::FLOAT;
 use lines::KEEP;
 use lines::WORD;
@@ -15,9 +11,6 @@ use lines::recorded::put_record;
 use lines::recorded::put_unmade;
 use scratch::wide_short;
 use scratch::wide_word;
-use stream::head::ENTRIES;
-use stream::head::Head;
-use stream::head::VARIABLES;
 use stream::lists::fill_floats;
 use stream::lists::fill_words;
 use stream::output::least;
@@ -27,7 +20,6 @@ use stream::output::put_text;
 ghost use Prim.Native.Nat.{_+_, _≤_};
 ghost use lib.ListN.{length};
 ghost use Rattle.scratch.specs.Lent.{after};
-ghost use Rattle.stream.specs.Heads.{Fits};
 
 // The longest record: two bounds of each variable.
 const BOUNDS: usize = 8_200;
@@ -187,11 +179,15 @@ fn keep_in_field(
     put_closing(out, recorded, closing, found, f, u)
 }
 
-// With a field of its own, and bounds as long as the head says.
+// With bounds of its own, as many as the case has room for.
 pub fn answer_keep(
-    head: Head,
+    room: usize,
     contents: &[u8],
     at: usize,
+    c: &[f64],
+    rows: &[u16],
+    cols: &[u16],
+    q: &[f64],
     values: &mut [u8],
     found: &mut [u8],
     script: &[u16],
@@ -200,33 +196,20 @@ pub fn answer_keep(
     out: &mut [u8],
     used: usize,
 ) -> usize
-    requires { ⌜ Fits head (length (now contents)) ⌝ }
     requires { ⌜ at + length (now values) ≤ length (now contents) ⌝ }
     ensures { λ r. ⌜ r ≤ length (after out) ⌝ }
 {
-    let mut c = [0.0f64; VARIABLES];
-    let mut rows = [0u16; ENTRIES];
-    let mut cols = [0u16; ENTRIES];
-    let mut q = [0.0f64; ENTRIES];
     let mut bounds = [FLOAT; BOUNDS];
-    take_linear(head, contents, &mut c);
-    take_rows(head, contents, &mut rows);
-    take_columns(head, contents, &mut cols);
-    take_weights(head, contents, &mut q);
-    let variables = head.linear;
-    let row_count = head.rows;
-    let column_count = head.columns;
-    let weight_count = head.weights;
-    let bound_count = least(head.least, BOUNDS);
+    let count = least(room, BOUNDS);
     keep_in_field(
         contents,
         at,
-        &c[..variables],
-        &rows[..row_count],
-        &cols[..column_count],
-        &q[..weight_count],
+        c,
+        rows,
+        cols,
+        q,
         values,
-        &mut bounds[..bound_count],
+        &mut bounds[..count],
         found,
         script,
         f,

@@ -1,8 +1,8 @@
 -- The number is the answer's. Assumes nothing.
 use Rattle.lines.proofs.Numbers.{answered-few, checked-few}
 use borrow.Author.Needs.{needs}
-use Rattle.cases.proofs.making.make.Statement.{statement}
-use Rattle.cases.proofs.making.make.Tie as tie
+use Rattle.replay.proofs.others.make.Statement.{statement}
+use Rattle.replay.proofs.others.make.Tie as tie
 
 in-start-requires : tie.Need-in-start-requires
 in-start-requires c κs = search needs

@@ -1,8 +1,8 @@
 -- The number is 0 or a refusal's. Assumes nothing.
 use Rattle.lines.proofs.Numbers.{refusing-few}
 use borrow.Author.Needs.{needs}
-use Rattle.cases.proofs.making.paired.Statement.{statement}
-use Rattle.cases.proofs.making.paired.Tie as tie
+use Rattle.replay.proofs.others.paired.Statement.{statement}
+use Rattle.replay.proofs.others.paired.Tie as tie
 
 enum-known-answer : tie.Need-enum-known-answer
 enum-known-answer c = search needs

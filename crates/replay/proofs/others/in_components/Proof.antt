@@ -1,8 +1,8 @@
 -- The number is the answer's, or that of a call that is absent. Assumes nothing.
 use Rattle.lines.proofs.Numbers.{absent-few, answered-few}
 use borrow.Author.Needs.{needs}
-use Rattle.cases.proofs.making.in_components.Statement.{statement}
-use Rattle.cases.proofs.making.in_components.Tie as tie
+use Rattle.replay.proofs.others.in_components.Statement.{statement}
+use Rattle.replay.proofs.others.in_components.Tie as tie
 
 components-requires : tie.Need-components-requires
 components-requires c κs = search needs
