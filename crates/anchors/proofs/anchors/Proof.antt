@@ -8,12 +8,6 @@ use borrow.Author.Needs.{needs}
 use Rattle.anchors.proofs.anchors.Statement.{statement}
 use Rattle.anchors.proofs.anchors.Tie as tie
 
-admitted-requires : tie.Need-admitted-requires
-admitted-requires c κs = search needs
-
-enum-known-checked : tie.Need-enum-known-checked
-enum-known-checked c = search needs
-
 returns : tie.Need-returns
 returns c = refused-call _ _ _ _ _ _ (sym (c .before .before .before .admitted .ensures) ∙ c .before .checked .given .1)
 
@@ -26,24 +20,6 @@ graded-requires c κs =
 
 work-requires : tie.Need-work-requires
 work-requires c κs = (admitted-passes _ _ _ _ .0 (sym (c .before .before .before .before .before .before .admitted .ensures) ∙ c .before .before .before .before .enum-told .given .1), c .before .before .before .graded .ensures)
-
-clear-floats-requires : tie.Need-clear-floats-requires
-clear-floats-requires c κs = search needs
-
-clear-words-requires : tie.Need-clear-words-requires
-clear-words-requires c κs = search needs
-
-clear-shorts-requires : tie.Need-clear-shorts-requires
-clear-shorts-requires c κs = search needs
-
-same-length : tie.Need-same-length
-same-length c = search needs
-
-same-length-2 : tie.Need-same-length-2
-same-length-2 c = search needs
-
-same-length-3 : tie.Need-same-length-3
-same-length-3 c = search needs
 
 returns-2 : tie.Need-returns-2
 returns-2 c =
@@ -71,15 +47,6 @@ returns-2 c =
     (c .before .before .before .before .before .before .before .clear-words .ensures)
     (c .before .before .before .before .before .before .before .before .before .before .before .before .before .before .before .before .before .before .before .work .kept .1 .1 .1 .1 .1 .1 .1 .1 .1 .0)
 
-same-length-4 : tie.Need-same-length-4
-same-length-4 c = search needs
-
-same-length-5 : tie.Need-same-length-5
-same-length-5 c = search needs
-
-same-length-6 : tie.Need-same-length-6
-same-length-6 c = search needs
-
 returns-3 : tie.Need-returns-3
 returns-3 c =
     counted-call _ _ _ _ _ _
@@ -100,20 +67,20 @@ pub anchors-spec : {M : Type 1} → statement M
 anchors-spec =
     tie.close
     (tie.spec
-    admitted-requires
-    enum-known-checked
+    (λ c κs. search needs)
+    (λ c. search needs)
     returns
     enum-told
     graded-requires
     work-requires
-    clear-floats-requires
-    clear-words-requires
-    clear-shorts-requires
-    same-length
-    same-length-2
-    same-length-3
+    (λ c κs. search needs)
+    (λ c κs. search needs)
+    (λ c κs. search needs)
+    (λ c. search needs)
+    (λ c. search needs)
+    (λ c. search needs)
     returns-2
-    same-length-4
-    same-length-5
-    same-length-6
+    (λ c. search needs)
+    (λ c. search needs)
+    (λ c. search needs)
     returns-3)

@@ -49,9 +49,6 @@ same-length c = c .before .before .before .before .before .before .search .kept 
 same-length-2 : tie.Need-same-length-2
 same-length-2 c = c .before .before .before .before .before .before .search .kept .1 .1 .1 .1 .1 .1 .1 .1 .0
 
-same-length-3 : tie.Need-same-length-3
-same-length-3 c = search needs
-
 returns : tie.Need-returns
 returns c = c .before .before .before .before .before .before .search .ensures
 
@@ -64,5 +61,5 @@ work-spec =
     search-requires
     same-length
     same-length-2
-    same-length-3
+    (λ c. search needs)
     returns)

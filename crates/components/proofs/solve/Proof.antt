@@ -15,12 +15,6 @@ solve-all-requires c κs =
     let start = at-begin .before .before .before .before .before .before .before .before .before in
     begun-standing (start .pre) (at-begin .begin .ensures)
 
-same-length : tie.Need-same-length
-same-length c = search needs
-
-same-length-2 : tie.Need-same-length-2
-same-length-2 c = search needs
-
 returns : tie.Need-returns
 returns c =
     let at-solve-all = c .before .before .before .before in
@@ -30,4 +24,4 @@ returns c =
 
 pub solve-spec : {M : Type 1} → statement M
 solve-spec =
-    tie.close (tie.spec begin-requires solve-all-requires same-length same-length-2 returns)
+    tie.close (tie.spec begin-requires solve-all-requires (λ c. search needs) (λ c. search needs) returns)

@@ -19,12 +19,6 @@ loop-holds c = staging-start (c .before .before .before .before .before .before 
 solve-start-requires : tie.Need-solve-start-requires Inv-loop μ-loop
 solve-start-requires c κs = (c .before .before .before .loop .inv .staged .standing, c .before .before .loop-test .taken)
 
-add-start : tie.Need-add-start Inv-loop μ-loop
-add-start c = search needs
-
-loop-less : tie.Need-loop-less Inv-loop μ-loop
-loop-less c = search needs
-
 loop-again : tie.Need-loop-again Inv-loop μ-loop
 loop-again c =
     let at-solve-start = c .before .before .before .before in
@@ -49,8 +43,8 @@ solve-all-spec =
     μ-loop
     loop-holds
     solve-start-requires
-    add-start
-    loop-less
+    (λ c. search needs)
+    (λ c. search needs)
     loop-again
     same-length
     same-length-2

@@ -5,15 +5,6 @@ use borrow.Author.Needs.{needs}
 use Rattle.components.proofs.solve_start.Statement.{statement}
 use Rattle.components.proofs.solve_start.Tie as tie
 
-add-base : tie.Need-add-base
-add-base c = search needs
-
-mul-base : tie.Need-mul-base
-mul-base c = search needs
-
-add-base-2 : tie.Need-add-base-2
-add-base-2 c = search needs
-
 add-if1 : tie.Need-add-if1
 add-if1 c = omega (arith, c .before .before .before .before .before .before .pre .0 .placed .words-room, c .before .before .before .before .before .before .pre .1)
 
@@ -33,21 +24,12 @@ walk-requires c κs =
     let start = c .before .before .before .before .before .before .before .before .before in
     (start .pre .0 .placed, start .pre .1)
 
-same-length : tie.Need-same-length
-same-length c = search needs
-
 returns-2 : tie.Need-returns-2
 returns-2 c =
     let at-walk = c .before .before .before in
     let at-if1 = at-walk .before .before in
     let start = at-if1 .before .before .before .before .before .before .before .before in
     stage-large (start .pre .0) (start .pre .1) (at-if1 .if1 .left) (at-walk .walk .ensures) (c .if2 .taken)
-
-add-solve : tie.Need-add-solve
-add-solve c = search needs
-
-add-solve-2 : tie.Need-add-solve-2
-add-solve-2 c = search needs
 
 solve-requires : tie.Need-solve-requires
 solve-requires c κs =
@@ -59,12 +41,6 @@ solve-requires c κs =
       walk-small (start .pre .0) (start .pre .1) (at-if1 .if1 .left)
           (at-walk .walk .ensures) (at-if2 .if2 .left),
     )
-
-same-length-2 : tie.Need-same-length-2
-same-length-2 c = search needs
-
-same-length-3 : tie.Need-same-length-3
-same-length-3 c = search needs
 
 returns-3 : tie.Need-returns-3
 returns-3 c =
@@ -79,19 +55,19 @@ pub solve-start-spec : {M : Type 1} → statement M
 solve-start-spec =
     tie.close
     (tie.spec
-    add-base
-    mul-base
-    add-base-2
+    (λ c. search needs)
+    (λ c. search needs)
+    (λ c. search needs)
     add-if1
     mul-if1
     slice-read-if1
     returns
     walk-requires
-    same-length
+    (λ c. search needs)
     returns-2
-    add-solve
-    add-solve-2
+    (λ c. search needs)
+    (λ c. search needs)
     solve-requires
-    same-length-2
-    same-length-3
+    (λ c. search needs)
+    (λ c. search needs)
     returns-3)

@@ -17,14 +17,8 @@ solve-requires c κs =
     let start = at-build .before .before .before .before .before .before .before .before .before in
     ready-solvable _ (start .pre) (at-build .build .ensures)
 
-same-length : tie.Need-same-length
-same-length c = search needs
-
-same-length-2 : tie.Need-same-length-2
-same-length-2 c = search needs
-
 returns : tie.Need-returns
 returns c = c .before .before .before .before .solve .ensures .values
 
 pub work-spec : {M : Type 1} → statement M
-work-spec = tie.close (tie.spec build-requires solve-requires same-length same-length-2 returns)
+work-spec = tie.close (tie.spec build-requires solve-requires (λ c. search needs) (λ c. search needs) returns)

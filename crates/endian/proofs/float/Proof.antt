@@ -7,9 +7,6 @@ use borrow.Author.Needs.{needs}
 use Rattle.endian.proofs.float.Statement.{statement}
 use Rattle.endian.proofs.float.Tie as tie
 
-number-requires : tie.Need-number-requires
-number-requires c κs = search needs
-
 float-from-bits-top : tie.Need-float-from-bits-top
 unfolding nanBits
 float-from-bits-top c = tt
@@ -27,4 +24,4 @@ returns-2 c = ap (ofBits binary64) (c .before .number .ensures)
 pub float-spec : {M : Type 1} → statement M
 float-spec =
     tie.close
-    (tie.spec number-requires float-from-bits-top returns float-from-bits-result returns-2)
+    (tie.spec (λ c κs. search needs) float-from-bits-top returns float-from-bits-result returns-2)

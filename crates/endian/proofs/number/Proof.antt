@@ -15,20 +15,8 @@ abbrev μ-loop : tie.MeasureT-loop
 loop-holds : tie.Need-loop-holds Inv-loop μ-loop
 loop-holds c = gather-start _ _ _
 
-sub-i : tie.Need-sub-i Inv-loop μ-loop
-sub-i c = omega arith
-
 mul-value : tie.Need-mul-value Inv-loop μ-loop
 mul-value c = omega (arith, gather-fits (c .before .loop .inv) (omega arith) (omega arith))
-
-add-wide : tie.Need-add-wide Inv-loop μ-loop
-add-wide c = omega arith
-
-shared-slice-read-wide : tie.Need-shared-slice-read-wide Inv-loop μ-loop
-shared-slice-read-wide c = omega arith
-
-wide-requires : tie.Need-wide-requires Inv-loop μ-loop
-wide-requires c κs = search needs
 
 add-value : tie.Need-add-value Inv-loop μ-loop
 add-value c =
@@ -39,9 +27,6 @@ add-value c =
       c .wide .ensures,
       c .before .shared-slice-known2 .given (k .before .before .args .at + (k .loop .i - 1)),
     )
-
-loop-less : tie.Need-loop-less Inv-loop μ-loop
-loop-less c = omega arith
 
 loop-again : tie.Need-loop-again Inv-loop μ-loop
 loop-again c =
@@ -59,12 +44,12 @@ number-spec =
     Inv-loop
     μ-loop
     loop-holds
-    sub-i
+    (λ c. omega arith)
     mul-value
-    add-wide
-    shared-slice-read-wide
-    wide-requires
+    (λ c. omega arith)
+    (λ c. omega arith)
+    (λ c κs. search needs)
     add-value
-    loop-less
+    (λ c. omega arith)
     loop-again
     returns)

@@ -6,9 +6,6 @@ use borrow.Author.Needs.{needs}
 use Rattle.endian.proofs.word.Statement.{statement}
 use Rattle.endian.proofs.word.Tie as tie
 
-number-requires : tie.Need-number-requires
-number-requires c κs = search needs
-
 cast-result : tie.Need-cast-result
 cast-result c =
     let s = c .before .before in
@@ -18,8 +15,5 @@ cast-result c =
       number-below 4 (now (s .args .bytes)) (s .args .at) (λ i. omega (arith, c .before .shared-slice-known .given i)) (s .pre),
     )
 
-returns : tie.Need-returns
-returns c = search needs
-
 pub word-spec : {M : Type 1} → statement M
-word-spec = tie.close (tie.spec number-requires cast-result returns)
+word-spec = tie.close (tie.spec (λ c κs. search needs) cast-result (λ c. search needs))

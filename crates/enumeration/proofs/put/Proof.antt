@@ -27,17 +27,8 @@ mul-wide-word c = omega (arith, c .before .loop-test .taken, c .before .before .
 shared-slice-read-wide-word : tie.Need-shared-slice-read-wide-word Inv-loop μ-loop
 shared-slice-read-wide-word c = omega (arith, c .before .before .loop-test .taken, c .before .before .before .loop .inv .small .room)
 
-wide-word-requires : tie.Need-wide-word-requires Inv-loop μ-loop
-wide-word-requires c κs = search needs
-
 slice-write-values : tie.Need-slice-write-values Inv-loop μ-loop
 slice-write-values c = put-below (c .before .before .before .before .loop .inv) (c .before .before .before .loop-test .taken) (c .wide-word .ensures)
-
-add-b : tie.Need-add-b Inv-loop μ-loop
-add-b c = search needs
-
-loop-less : tie.Need-loop-less Inv-loop μ-loop
-loop-less c = search needs
 
 loop-again : tie.Need-loop-again Inv-loop μ-loop
 loop-again c = put-turn (c .before .before .before .before .loop .inv) (c .before .before .before .loop-test .taken) (c .wide-word .ensures) (c .before .before .bit-of .ensures)
@@ -59,10 +50,10 @@ put-spec =
     add-wide-word
     mul-wide-word
     shared-slice-read-wide-word
-    wide-word-requires
+    (λ c κs. search needs)
     slice-write-values
-    add-b
-    loop-less
+    (λ c. search needs)
+    (λ c. search needs)
     loop-again
     same-length
     returns)

@@ -4,16 +4,10 @@ use borrow.Author.Needs.{needs}
 use Rattle.enumeration.proofs.solve.Statement.{statement}
 use Rattle.enumeration.proofs.solve.Tie as tie
 
-enumerate-requires : tie.Need-enumerate-requires
-enumerate-requires c κs = search needs
-
 put-requires : tie.Need-put-requires
 put-requires c κs =
     let start = c .before .before .before .before .before .before .before .before .before in
     rw (start .pre .0 .values-long) (start .pre .1)
-
-same-length : tie.Need-same-length
-same-length c = search needs
 
 returns : tie.Need-returns
 returns c =
@@ -23,4 +17,4 @@ returns c =
     solved-by _ _ _ _ _ (start .pre .1 .room) (at-enumerate .enumerate .ensures) (at-put .put .ensures)
 
 pub solve-spec : {M : Type 1} → statement M
-solve-spec = tie.close (tie.spec enumerate-requires put-requires same-length returns)
+solve-spec = tie.close (tie.spec (λ c κs. search needs) put-requires (λ c. search needs) returns)

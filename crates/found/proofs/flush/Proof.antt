@@ -4,20 +4,11 @@ use borrow.Author.Needs.{needs}
 use Rattle.found.proofs.flush.Statement.{statement}
 use Rattle.found.proofs.flush.Tie as tie
 
-distinct-requires : tie.Need-distinct-requires
-distinct-requires c κs = search needs
-
 merge-requires : tie.Need-merge-requires
 merge-requires c κs =
     let at-distinct = c .before .before .before .before in
     let start = at-distinct .before .before .before .before in
     (start .pre .0, flush-climbed (start .pre .1) (at-distinct .distinct .ensures .0) (at-distinct .distinct .ensures .1))
-
-same-length : tie.Need-same-length
-same-length c = search needs
-
-same-length-2 : tie.Need-same-length-2
-same-length-2 c = search needs
 
 returns : tie.Need-returns
 returns c =
@@ -28,4 +19,4 @@ returns c =
 
 pub flush-spec : {M : Type 1} → statement M
 flush-spec =
-    tie.close (tie.spec distinct-requires merge-requires same-length same-length-2 returns)
+    tie.close (tie.spec (λ c κs. search needs) merge-requires (λ c. search needs) (λ c. search needs) returns)

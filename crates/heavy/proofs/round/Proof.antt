@@ -5,31 +5,10 @@ use borrow.Author.Needs.{needs}
 use Rattle.heavy.proofs.round.Statement.{statement}
 use Rattle.heavy.proofs.round.Tie as tie
 
-add-at : tie.Need-add-at
-add-at c = search needs
-
-mul-at : tie.Need-mul-at
-mul-at c = search needs
-
-add-at-2 : tie.Need-add-at-2
-add-at-2 c = search needs
-
-add-at-3 : tie.Need-add-at-3
-add-at-3 c = search needs
-
-add-at-4 : tie.Need-add-at-4
-add-at-4 c = search needs
-
-add-at-5 : tie.Need-add-at-5
-add-at-5 c = search needs
-
 work-requires : tie.Need-work-requires
 work-requires c κs =
     let at-start = c .before .before .before .before .before .before .before .before .before .before .before in
     (at-start .pre .0, at-start .pre .1 .1 .1)
-
-count-free-requires : tie.Need-count-free-requires
-count-free-requires c κs = search needs
 
 same-length : tie.Need-same-length
 same-length c = c .before .before .before .before .before .before .before .before .before .work .kept .1 .1 .1 .1 .0
@@ -92,14 +71,14 @@ pub round-spec : {M : Type 1} → statement M
 round-spec =
     tie.close
     (tie.spec
-    add-at
-    mul-at
-    add-at-2
-    add-at-3
-    add-at-4
-    add-at-5
+    (λ c. search needs)
+    (λ c. search needs)
+    (λ c. search needs)
+    (λ c. search needs)
+    (λ c. search needs)
+    (λ c. search needs)
     work-requires
-    count-free-requires
+    (λ c κs. search needs)
     same-length
     same-length-2
     same-length-3

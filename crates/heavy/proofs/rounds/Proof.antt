@@ -14,9 +14,6 @@ Inv-loop c rows cols q values₀ probed₀ f₀ u₀ grade free₀ k₀ k-end va
 abbrev μ-loop : tie.MeasureT-loop
 μ-loop c rows cols q values₀ probed₀ f₀ u₀ grade free₀ k₀ k-end values probed f u free k = k-end - k
 
-count-free-requires : tie.Need-count-free-requires Inv-loop μ-loop
-count-free-requires c κs = search needs
-
 loop-holds : tie.Need-loop-holds Inv-loop μ-loop
 loop-holds c =
     let at-start = c .before .before .before .before .before .before .before .before .before .before in
@@ -27,9 +24,6 @@ round-requires c κs =
     let at-loop = c .before .before .before .before .before in
     let at-start = at-loop .before .before .before .before .before .before .before .before .before .before .before in
     (at-loop .loop .inv .ready, (at-loop .loop .inv .working, (at-start .pre .1 .1 .0, at-loop .loop .inv .adjacent)))
-
-count-free-requires-2 : tie.Need-count-free-requires-2 Inv-loop μ-loop
-count-free-requires-2 c κs = search needs
 
 same-length : tie.Need-same-length Inv-loop μ-loop
 same-length c =
@@ -98,12 +92,6 @@ returns-2 c =
     let at-loop = at-loop-test .before in
     going-stop (at-loop .loop .inv) (at-loop-test .loop-test .taken) (at-round .round .ensures) (at-count-free2 .count-free2 .ensures) (c .if2 .taken)
 
-add-k : tie.Need-add-k Inv-loop μ-loop
-add-k c = search needs
-
-loop-less : tie.Need-loop-less Inv-loop μ-loop
-loop-less c = search needs
-
 loop-again : tie.Need-loop-again Inv-loop μ-loop
 loop-again c =
     let at-count-free2 = c .before .before in
@@ -133,10 +121,10 @@ rounds-spec =
     (tie.spec
     Inv-loop
     μ-loop
-    count-free-requires
+    (λ c κs. search needs)
     loop-holds
     round-requires
-    count-free-requires-2
+    (λ c κs. search needs)
     same-length
     same-length-2
     same-length-3
@@ -147,8 +135,8 @@ rounds-spec =
     same-length-7
     same-length-8
     returns-2
-    add-k
-    loop-less
+    (λ c. search needs)
+    (λ c. search needs)
     loop-again
     same-length-9
     same-length-10

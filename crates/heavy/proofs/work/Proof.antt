@@ -21,12 +21,6 @@ rounds-requires c κs =
     let at-start = at-build .before .before .before .before .before .before .before .before .before in
     (ready-built (at-start .pre .0) (at-build .build .ensures .long), (sym (front-long _ 4096 (at-start .pre .0 .sound .shaped .few-variables)), (at-start .pre .1, at-build .build .ensures .adjacent)))
 
-same-length : tie.Need-same-length
-same-length c = search needs
-
-same-length-2 : tie.Need-same-length-2
-same-length-2 c = search needs
-
 same-length-3 : tie.Need-same-length-3
 same-length-3 c =
     let at-rounds = c .before .before .before .before .before .before .before in
@@ -44,7 +38,7 @@ work-spec =
     array-borrow-prefix-probed
     slice-aggregate-rounds
     rounds-requires
-    same-length
-    same-length-2
+    (λ c. search needs)
+    (λ c. search needs)
     same-length-3
     returns)

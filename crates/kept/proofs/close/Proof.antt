@@ -8,35 +8,11 @@ use borrow.Author.Needs.{needs}
 use Rattle.kept.proofs.close.Statement.{statement}
 use Rattle.kept.proofs.close.Tie as tie
 
-lendable-requires : tie.Need-lendable-requires
-lendable-requires c κs = search needs
-
-enum-known-checked : tie.Need-enum-known-checked
-enum-known-checked c = search needs
-
 returns : tie.Need-returns
 returns c = refused-close _ _ _ _ _ _ (sym (c .before .before .before .lendable .ensures) ∙ c .before .checked .given .1)
 
 enum-told : tie.Need-enum-told
 enum-told c = search needs
-
-clear-bytes-requires : tie.Need-clear-bytes-requires
-clear-bytes-requires c κs = search needs
-
-clear-floats-requires : tie.Need-clear-floats-requires
-clear-floats-requires c κs = search needs
-
-clear-words-requires : tie.Need-clear-words-requires
-clear-words-requires c κs = search needs
-
-same-length : tie.Need-same-length
-same-length c = search needs
-
-same-length-2 : tie.Need-same-length-2
-same-length-2 c = search needs
-
-same-length-3 : tie.Need-same-length-3
-same-length-3 c = search needs
 
 returns-2 : tie.Need-returns-2
 returns-2 c =
@@ -59,21 +35,6 @@ work-requires c κs =
     let at-lendable = at-enum-told .before .before in
     (lent-passes _ _ _ _ _ .0 (sym (at-lendable .lendable .ensures) ∙ at-enum-told .enum-told .given .1), at-if1 .if1 .left)
 
-clear-floats-requires-2 : tie.Need-clear-floats-requires-2
-clear-floats-requires-2 c κs = search needs
-
-clear-words-requires-2 : tie.Need-clear-words-requires-2
-clear-words-requires-2 c κs = search needs
-
-same-length-4 : tie.Need-same-length-4
-same-length-4 c = search needs
-
-same-length-5 : tie.Need-same-length-5
-same-length-5 c = search needs
-
-same-length-6 : tie.Need-same-length-6
-same-length-6 c = search needs
-
 returns-3 : tie.Need-returns-3
 returns-3 c =
     let at-clear-words2 = c .before .before in
@@ -92,22 +53,22 @@ pub close-spec : {M : Type 1} → statement M
 close-spec =
     tie.close
     (tie.spec
-    lendable-requires
-    enum-known-checked
+    (λ c κs. search needs)
+    (λ c. search needs)
     returns
     enum-told
-    clear-bytes-requires
-    clear-floats-requires
-    clear-words-requires
-    same-length
-    same-length-2
-    same-length-3
+    (λ c κs. search needs)
+    (λ c κs. search needs)
+    (λ c κs. search needs)
+    (λ c. search needs)
+    (λ c. search needs)
+    (λ c. search needs)
     returns-2
     graded-requires
     work-requires
-    clear-floats-requires-2
-    clear-words-requires-2
-    same-length-4
-    same-length-5
-    same-length-6
+    (λ c κs. search needs)
+    (λ c κs. search needs)
+    (λ c. search needs)
+    (λ c. search needs)
+    (λ c. search needs)
     returns-3)

@@ -10,12 +10,6 @@ use borrow.Author.Needs.{needs}
 use Rattle.kept.proofs.make.Statement.{statement}
 use Rattle.kept.proofs.make.Tie as tie
 
-lendable-requires : tie.Need-lendable-requires
-lendable-requires c κs = search needs
-
-enum-known-checked : tie.Need-enum-known-checked
-enum-known-checked c = search needs
-
 returns : tie.Need-returns
 returns c = refused-make _ _ _ _ _ _ (sym (c .before .before .before .lendable .ensures) ∙ c .before .checked .given .1)
 
@@ -24,18 +18,6 @@ enum-told c = search needs
 
 is-exact-requires : tie.Need-is-exact-requires
 is-exact-requires c κs = sound-loose (lent-passes _ _ _ _ _ .0 (sym (c .before .before .lendable .ensures) ∙ c .enum-told .given .1) .ready .sound)
-
-clear-floats-requires : tie.Need-clear-floats-requires
-clear-floats-requires c κs = search needs
-
-clear-words-requires : tie.Need-clear-words-requires
-clear-words-requires c κs = search needs
-
-same-length : tie.Need-same-length
-same-length c = search needs
-
-same-length-2 : tie.Need-same-length-2
-same-length-2 c = search needs
 
 returns-2 : tie.Need-returns-2
 returns-2 c =
@@ -55,21 +37,6 @@ begin-requires c κs =
     let lent = lent-passes _ _ _ _ _ .0 (sym (at-lendable .lendable .ensures) ∙ at-enum-told .enum-told .given .1) in
     (record { shaped = lent .ready .sound .shaped; values-long = lent .ready .sound .start .long; room = omega (arith, lent .ready .floats-room) }, lent .long)
 
-clear-floats-requires-2 : tie.Need-clear-floats-requires-2
-clear-floats-requires-2 c κs = search needs
-
-clear-words-requires-2 : tie.Need-clear-words-requires-2
-clear-words-requires-2 c κs = search needs
-
-same-length-3 : tie.Need-same-length-3
-same-length-3 c = search needs
-
-same-length-4 : tie.Need-same-length-4
-same-length-4 c = search needs
-
-same-length-5 : tie.Need-same-length-5
-same-length-5 c = search needs
-
 returns-3 : tie.Need-returns-3
 returns-3 c =
     let at-clear-words2 = c .before .before in
@@ -88,20 +55,20 @@ pub make-spec : {M : Type 1} → statement M
 make-spec =
     tie.close
     (tie.spec
-    lendable-requires
-    enum-known-checked
+    (λ c κs. search needs)
+    (λ c. search needs)
     returns
     enum-told
     is-exact-requires
-    clear-floats-requires
-    clear-words-requires
-    same-length
-    same-length-2
+    (λ c κs. search needs)
+    (λ c κs. search needs)
+    (λ c. search needs)
+    (λ c. search needs)
     returns-2
     begin-requires
-    clear-floats-requires-2
-    clear-words-requires-2
-    same-length-3
-    same-length-4
-    same-length-5
+    (λ c κs. search needs)
+    (λ c κs. search needs)
+    (λ c. search needs)
+    (λ c. search needs)
+    (λ c. search needs)
     returns-3)

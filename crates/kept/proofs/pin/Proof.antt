@@ -7,15 +7,6 @@ use borrow.Author.Needs.{needs}
 use Rattle.kept.proofs.pin.Statement.{statement}
 use Rattle.kept.proofs.pin.Tie as tie
 
-pinnable-requires : tie.Need-pinnable-requires
-pinnable-requires c κs = search needs
-
-enum-known-checked : tie.Need-enum-known-checked
-enum-known-checked c = search needs
-
-same-length : tie.Need-same-length
-same-length c = search needs
-
 returns : tie.Need-returns
 returns c = refused-pin _ _ _ _ _ _ (c .before .before .before .pinnable .ensures) (c .before .checked .given .1)
 
@@ -29,12 +20,6 @@ change-requires c κs =
     let able = pin-passes _ _ _ _ _ .0 (sym (at-pinnable .pinnable .ensures) ∙ at-enum-told .enum-told .given .1) in
     (able .recorded, (able .below, omega (arith, able .small)))
 
-same-length-2 : tie.Need-same-length-2
-same-length-2 c = search needs
-
-same-length-3 : tie.Need-same-length-3
-same-length-3 c = search needs
-
 returns-2 : tie.Need-returns-2
 returns-2 c =
     let at-change = c .before .before .before .before in
@@ -46,12 +31,12 @@ pub pin-spec : {M : Type 1} → statement M
 pin-spec =
     tie.close
     (tie.spec
-    pinnable-requires
-    enum-known-checked
-    same-length
+    (λ c κs. search needs)
+    (λ c. search needs)
+    (λ c. search needs)
     returns
     enum-told
     change-requires
-    same-length-2
-    same-length-3
+    (λ c. search needs)
+    (λ c. search needs)
     returns-2)

@@ -7,15 +7,6 @@ use borrow.Author.Needs.{needs}
 use Rattle.kept.proofs.release.Statement.{statement}
 use Rattle.kept.proofs.release.Tie as tie
 
-releasable-requires : tie.Need-releasable-requires
-releasable-requires c κs = search needs
-
-enum-known-checked : tie.Need-enum-known-checked
-enum-known-checked c = search needs
-
-same-length : tie.Need-same-length
-same-length c = search needs
-
 returns : tie.Need-returns
 returns c = refused-release _ _ _ _ _ (c .before .before .before .releasable .ensures) (c .before .checked .given .1)
 
@@ -29,12 +20,6 @@ change-requires c κs =
     let able = release-passes _ _ _ _ .0 (sym (at-releasable .releasable .ensures) ∙ at-enum-told .enum-told .given .1) in
     (able .recorded, (able .below, omega arith))
 
-same-length-2 : tie.Need-same-length-2
-same-length-2 c = search needs
-
-same-length-3 : tie.Need-same-length-3
-same-length-3 c = search needs
-
 returns-2 : tie.Need-returns-2
 returns-2 c =
     let at-change = c .before .before .before .before in
@@ -46,12 +31,12 @@ pub release-spec : {M : Type 1} → statement M
 release-spec =
     tie.close
     (tie.spec
-    releasable-requires
-    enum-known-checked
-    same-length
+    (λ c κs. search needs)
+    (λ c. search needs)
+    (λ c. search needs)
     returns
     enum-told
     change-requires
-    same-length-2
-    same-length-3
+    (λ c. search needs)
+    (λ c. search needs)
     returns-2)

@@ -20,12 +20,6 @@ loop-holds c = (c .before .before .before .pre .1 .1, (omega arith, refl))
 enter-at-requires : tie.Need-enter-at-requires Inv-loop μ-loop
 enter-at-requires c κs = let pre = c .before .before .before .before .before .before .pre in (pre .0, (pre .1 .0, (c .before .loop-test .taken, c .before .before .loop .inv .0)))
 
-add-i : tie.Need-add-i Inv-loop μ-loop
-add-i c = omega arith
-
-loop-less : tie.Need-loop-less Inv-loop μ-loop
-loop-less c = omega arith
-
 loop-again : tie.Need-loop-again Inv-loop μ-loop
 loop-again c =
     let at-enter-at = c .before .before in
@@ -47,8 +41,8 @@ enter-spec =
     μ-loop
     loop-holds
     enter-at-requires
-    add-i
-    loop-less
+    (λ c. omega arith)
+    (λ c. omega arith)
     loop-again
     same-length
     returns)

@@ -5,9 +5,6 @@ use borrow.Author.Needs.{needs}
 use Rattle.literals.proofs.enter_at.Statement.{statement}
 use Rattle.literals.proofs.enter_at.Tie as tie
 
-shared-slice-read-v : tie.Need-shared-slice-read-v
-shared-slice-read-v c = omega arith
-
 returns : tie.Need-returns
 returns c = enter-free (c .before .before .before .before .before .pre .1 .1 .1) (c .if1 .taken)
 
@@ -16,9 +13,6 @@ force-requires c κs =
     let at-if1 = c .before in
     let start = at-if1 .before .before .before .before .before in
     let pre = start .pre in (pre .1 .1 .0, (pre .0, omega (arith, enter-room (pre .1 .1 .1) (pre .1 .0) (pre .1 .1 .0) (at-if1 .if1 .left), pre .1 .1 .1 .going .long)))
-
-same-length : tie.Need-same-length
-same-length c = search needs
 
 returns-2 : tie.Need-returns-2
 returns-2 c =
@@ -29,4 +23,4 @@ returns-2 c =
 
 pub enter-at-spec : {M : Type 1} → statement M
 enter-at-spec =
-    tie.close (tie.spec shared-slice-read-v returns force-requires same-length returns-2)
+    tie.close (tie.spec (λ c. omega arith) returns force-requires (λ c. search needs) returns-2)

@@ -24,9 +24,6 @@ slice-write-u c = omega (arith, c .before .loop .inv .0 .long)
 add-i : tie.Need-add-i Inv-loop μ-loop
 add-i c = omega (arith, c .before .loop .inv .0 .long)
 
-loop-less : tie.Need-loop-less Inv-loop μ-loop
-loop-less c = omega arith
-
 loop-again : tie.Need-loop-again Inv-loop μ-loop
 loop-again c = (free-turn (c .before .loop .inv .0) (omega (arith, c .before .loop .inv .0 .long)), omega arith)
 
@@ -46,7 +43,7 @@ free-all-spec =
     mul-u
     slice-write-u
     add-i
-    loop-less
+    (λ c. omega arith)
     loop-again
     same-length
     returns)

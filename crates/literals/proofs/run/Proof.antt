@@ -7,9 +7,6 @@ use borrow.Author.Needs.{needs}
 use Rattle.literals.proofs.run.Statement.{statement}
 use Rattle.literals.proofs.run.Tie as tie
 
-clear-words-requires : tie.Need-clear-words-requires
-clear-words-requires c κs = search needs
-
 link-requires : tie.Need-link-requires
 link-requires c κs =
     let at-clear-words = c .before .before .before in
@@ -54,9 +51,6 @@ work-requires c κs =
     let start = at-enter .before .before .before .before .before .before .before .before .before .before .before .before .before .before .before .before .before in
     let ready = start .pre in (ready .listed, (ready .few, (ready .small, at-enter .enter .ensures)))
 
-same-length : tie.Need-same-length
-same-length c = search needs
-
 returns : tie.Need-returns
 returns c = c .before .before .work .ensures
 
@@ -64,10 +58,10 @@ pub run-spec : {M : Type 1} → statement M
 run-spec =
     tie.close
     (tie.spec
-    clear-words-requires
+    (λ c κs. search needs)
     link-requires
     free-all-requires
     enter-requires
     work-requires
-    same-length
+    (λ c. search needs)
     returns)

@@ -26,9 +26,6 @@ mul-wide-word c = let now = c .before .loop .inv .0 in omega (arith, c .before .
 slice-read-wide-word : tie.Need-slice-read-wide-word Inv-loop μ-loop
 slice-read-wide-word c = let now = c .before .before .loop .inv .0 in omega (arith, now .going .queue-room, now .going .long, c .before .loop-test .taken)
 
-wide-word-requires : tie.Need-wide-word-requires Inv-loop μ-loop
-wide-word-requires c κs = search needs
-
 serve-requires : tie.Need-serve-requires Inv-loop μ-loop
 serve-requires c κs =
     let at-wide-word = c .before in
@@ -38,9 +35,6 @@ serve-requires c κs =
     let pre = start .pre in
     let now = at-loop .loop .inv .0 in
     (pre .0, (pre .1 .0, (now .going, rw (at-wide-word .wide-word .ensures) (now .going .queue _ (at-loop-test .loop-test .taken)))))
-
-enum-known-step : tie.Need-enum-known-step Inv-loop μ-loop
-enum-known-step c = search needs
 
 enum-told : tie.Need-enum-told Inv-loop μ-loop
 enum-told c = search needs
@@ -95,9 +89,9 @@ work-spec =
     add-wide-word
     mul-wide-word
     slice-read-wide-word
-    wide-word-requires
+    (λ c κs. search needs)
     serve-requires
-    enum-known-step
+    (λ c. search needs)
     enum-told
     same-length
     returns

@@ -4,17 +4,11 @@ use borrow.Author.Needs.{needs}
 use Rattle.masks.proofs.add_block.Statement.{statement}
 use Rattle.masks.proofs.add_block.Tie as tie
 
-add-if1 : tie.Need-add-if1
-add-if1 c = search needs
-
 returns : tie.Need-returns
 returns c = none-has (c .before .pre .0) (c .before .pre .1 .1) (c .if1 .taken)
-
-add-low-requires : tie.Need-add-low-requires
-add-low-requires c κs = search needs
 
 returns-2 : tie.Need-returns-2
 returns-2 c = by-low (c .before .before .before .pre .1 .1) (c .before .before .if1 .left) (c .add-low .ensures)
 
 pub add-block-spec : {M : Type 1} → statement M
-add-block-spec = tie.close (tie.spec add-if1 returns add-low-requires returns-2)
+add-block-spec = tie.close (tie.spec (λ c. search needs) returns (λ c κs. search needs) returns-2)

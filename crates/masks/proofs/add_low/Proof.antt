@@ -4,63 +4,39 @@ use borrow.Author.Needs.{needs}
 use Rattle.masks.proofs.add_low.Statement.{statement}
 use Rattle.masks.proofs.add_low.Tie as tie
 
-add-each-requires : tie.Need-add-each-requires
-add-each-requires c κs = search needs
-
 returns : tie.Need-returns
 returns c = at-bits (c .before .before .if1 .taken) (c .add-each .ensures)
-
-add-each-requires-2 : tie.Need-add-each-requires-2
-add-each-requires-2 c κs = search needs
 
 returns-2 : tie.Need-returns-2
 returns-2 c = at-bits (c .before .before .if2 .taken) (c .add-each2 .ensures)
 
-add-each-requires-3 : tie.Need-add-each-requires-3
-add-each-requires-3 c κs = search needs
-
 returns-3 : tie.Need-returns-3
 returns-3 c = at-bits (c .before .before .if3 .taken) (c .add-each3 .ensures)
-
-add-each-requires-4 : tie.Need-add-each-requires-4
-add-each-requires-4 c κs = search needs
 
 returns-4 : tie.Need-returns-4
 returns-4 c = at-bits (c .before .before .if4 .taken) (c .add-each4 .ensures)
 
-add-each-requires-5 : tie.Need-add-each-requires-5
-add-each-requires-5 c κs = search needs
-
 returns-5 : tie.Need-returns-5
 returns-5 c = at-bits (c .before .before .if5 .taken) (c .add-each5 .ensures)
 
-add-each-requires-6 : tie.Need-add-each-requires-6
-add-each-requires-6 c κs = search needs
-
 returns-6 : tie.Need-returns-6
 returns-6 c = at-bits (c .before .before .if6 .taken) (c .add-each6 .ensures)
-
-add-two-requires : tie.Need-add-two-requires
-add-two-requires c κs = search needs
-
-returns-7 : tie.Need-returns-7
-returns-7 c = search needs
 
 pub add-low-spec : {M : Type 1} → statement M
 add-low-spec =
     tie.close
     (tie.spec
-    add-each-requires
+    (λ c κs. search needs)
     returns
-    add-each-requires-2
+    (λ c κs. search needs)
     returns-2
-    add-each-requires-3
+    (λ c κs. search needs)
     returns-3
-    add-each-requires-4
+    (λ c κs. search needs)
     returns-4
-    add-each-requires-5
+    (λ c κs. search needs)
     returns-5
-    add-each-requires-6
+    (λ c κs. search needs)
     returns-6
-    add-two-requires
-    returns-7)
+    (λ c κs. search needs)
+    (λ c. search needs))

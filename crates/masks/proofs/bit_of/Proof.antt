@@ -6,9 +6,6 @@ use borrow.Author.Needs.{needs}
 use Rattle.masks.proofs.bit_of.Statement.{statement}
 use Rattle.masks.proofs.bit_of.Tie as tie
 
-shr-result : tie.Need-shr-result
-shr-result c = search needs
-
 cast-result : tie.Need-cast-result
 cast-result c = omega (arith, mask-lt (c .args .mask / 2 ^ c .args .b) 1)
 
@@ -16,4 +13,4 @@ returns : tie.Need-returns
 returns c = and-mask (c .args .mask / 2 ^ c .args .b) 1
 
 pub bit-of-spec : {M : Type 1} → statement M
-bit-of-spec = tie.close (tie.spec shr-result cast-result returns)
+bit-of-spec = tie.close (tie.spec (λ c. search needs) cast-result returns)

@@ -22,9 +22,6 @@ mul-wide-short c = omega (arith, c .before .loop-test .taken, c .before .before 
 shared-slice-read-wide-short : tie.Need-shared-slice-read-wide-short Inv-loop μ-loop
 shared-slice-read-wide-short c = omega (arith, c .before .before .loop-test .taken, c .before .before .before .loop .inv .room .required-long)
 
-wide-short-requires : tie.Need-wide-short-requires Inv-loop μ-loop
-wide-short-requires c κs = search needs
-
 mul-add-block : tie.Need-mul-add-block Inv-loop μ-loop
 mul-add-block c = omega (arith, c .before .before .before .loop-test .taken, c .before .before .before .before .loop .inv .room .values-long)
 
@@ -33,12 +30,6 @@ shared-slice-read-add-block c = omega (arith, c .before .before .before .before 
 
 add-block-requires : tie.Need-add-block-requires Inv-loop μ-loop
 add-block-requires c κs = (c .before .before .before .before .before .loop .inv .so-far .long, (c .before .before .before .before .before .loop .inv .small, c .before .before .before .before .before .loop .inv .aligned))
-
-add-t : tie.Need-add-t Inv-loop μ-loop
-add-t c = search needs
-
-loop-less : tie.Need-loop-less Inv-loop μ-loop
-loop-less c = search needs
 
 loop-again : tie.Need-loop-again Inv-loop μ-loop
 loop-again c = sum-turn (c .before .before .before .before .before .before .loop .inv) (c .before .before .before .before .before .loop-test .taken) (c .before .before .wide-short .ensures) refl (c .add-block .ensures)
@@ -55,11 +46,11 @@ block-spec =
     loop-holds
     mul-wide-short
     shared-slice-read-wide-short
-    wide-short-requires
+    (λ c κs. search needs)
     mul-add-block
     shared-slice-read-add-block
     add-block-requires
-    add-t
-    loop-less
+    (λ c. search needs)
+    (λ c. search needs)
     loop-again
     returns)

@@ -21,20 +21,11 @@ block-requires c κs = (c .before .before .pre .0, (c .before .before .pre .1 .0
 loop-holds : tie.Need-loop-holds Inv-loop μ-loop
 loop-holds c = lead-start (c .before .before .before .pre .1 .1 .1 .1)
 
-mul-sum : tie.Need-mul-sum Inv-loop μ-loop
-mul-sum c = search needs
-
 array-read-sum : tie.Need-array-read-sum Inv-loop μ-loop
 array-read-sum c = omega (arith, c .loop-test .taken, c .before .before .before .before .before .pre .1 .1 .1 .0)
 
 add-mask : tie.Need-add-mask Inv-loop μ-loop
 add-mask c = omega (arith, c .before .loop-test .taken, c .before .before .before .before .before .before .pre .1 .0, c .before .before .before .before .before .before .pre .1 .1 .1 .0)
-
-add-l : tie.Need-add-l Inv-loop μ-loop
-add-l c = search needs
-
-loop-less : tie.Need-loop-less Inv-loop μ-loop
-loop-less c = search needs
 
 loop-again : tie.Need-loop-again Inv-loop μ-loop
 loop-again c =
@@ -55,10 +46,10 @@ lead-after-spec =
     μ-loop
     block-requires
     loop-holds
-    mul-sum
+    (λ c. search needs)
     array-read-sum
     add-mask
-    add-l
-    loop-less
+    (λ c. search needs)
+    (λ c. search needs)
     loop-again
     returns)

@@ -22,26 +22,14 @@ float-from-bits-t8 c = tt
 loop-holds : tie.Need-loop-holds Inv-loop μ-loop
 loop-holds c = walk-start
 
-mul-lead-after : tie.Need-mul-lead-after Inv-loop μ-loop
-mul-lead-after c = search needs
-
 lead-after-requires : tie.Need-lead-after-requires Inv-loop μ-loop
 lead-after-requires c κs = (c .before .before .before .before .pre .0, (omega (arith, c .loop-test .taken, c .before .before .before .before .pre .1), (omega arith, (omega arith, c .before .loop .inv .leads))))
-
-add-b : tie.Need-add-b Inv-loop μ-loop
-add-b c = search needs
-
-loop-less : tie.Need-loop-less Inv-loop μ-loop
-loop-less c = search needs
 
 loop-again : tie.Need-loop-again Inv-loop μ-loop
 loop-again c = walk-turn (c .before .before .loop .inv) (c .before .loop-test .taken) (c .lead-after .ensures)
 
 returns : tie.Need-returns Inv-loop μ-loop
 returns c = leads-lowest (walk-whole (c .before .before .loop .inv) (c .before .loop-test .left)) (omega (arith, c .if1 .taken))
-
-mul-lead-after-2 : tie.Need-mul-lead-after-2 Inv-loop μ-loop
-mul-lead-after-2 c = search needs
 
 lead-after-requires-2 : tie.Need-lead-after-requires-2 Inv-loop μ-loop
 lead-after-requires-2 c κs = (c .before .before .before .before .before .pre .0, (omega (arith, c .before .before .before .before .before .pre .1), (omega arith, (omega arith, walk-whole (c .before .before .loop .inv) (c .before .loop-test .left)))))
@@ -57,12 +45,12 @@ lowest-spec =
     μ-loop
     float-from-bits-t8
     loop-holds
-    mul-lead-after
+    (λ c. search needs)
     lead-after-requires
-    add-b
-    loop-less
+    (λ c. search needs)
+    (λ c. search needs)
     loop-again
     returns
-    mul-lead-after-2
+    (λ c. search needs)
     lead-after-requires-2
     returns-2)

@@ -14,12 +14,6 @@ mark-ends-requires c κs =
 put-all-requires : tie.Need-put-all-requires
 put-all-requires c κs = (c .before .before .before .before .before .before .before .before .before .before .before .before .pre .0 .few-variables, search needs)
 
-same-length : tie.Need-same-length
-same-length c = search needs
-
-same-length-2 : tie.Need-same-length-2
-same-length-2 c = search needs
-
 returns : tie.Need-returns
 returns c =
     let at-mark-ends = c .before .before .before .before .before .before .before in
@@ -30,4 +24,4 @@ returns c =
 
 pub find-spec : {M : Type 1} → statement M
 find-spec =
-    tie.close (tie.spec mark-ends-requires put-all-requires same-length same-length-2 returns)
+    tie.close (tie.spec mark-ends-requires put-all-requires (λ c. search needs) (λ c. search needs) returns)

@@ -8,12 +8,6 @@ use borrow.Author.Needs.{needs}
 use Rattle.no_effect.proofs.no_effect.Statement.{statement}
 use Rattle.no_effect.proofs.no_effect.Tie as tie
 
-tests-requires : tie.Need-tests-requires
-tests-requires c κs = search needs
-
-enum-known-checked : tie.Need-enum-known-checked
-enum-known-checked c = search needs
-
 returns : tie.Need-returns
 returns c = refused-call _ _ _ (sym (c .before .before .before .tests .ensures) ∙ c .before .checked .given .1)
 
@@ -30,18 +24,6 @@ find-requires c κs =
     let ready = word-passes _ _ .0 (sym (at-tests .tests .ensures) ∙ at-enum-told .enum-told .given .1) in
     (ready .loose .shaped, omega (arith, ready .words-room))
 
-clear-words-requires : tie.Need-clear-words-requires
-clear-words-requires c κs = search needs
-
-clear-shorts-requires : tie.Need-clear-shorts-requires
-clear-shorts-requires c κs = search needs
-
-same-length : tie.Need-same-length
-same-length c = search needs
-
-same-length-2 : tie.Need-same-length-2
-same-length-2 c = search needs
-
 returns-2 : tie.Need-returns-2
 returns-2 c =
     let a = c .before .before .before .before .before .before .before .before .before .before .before .before .before .before .before .before .before .before .before .before .before .before .before .before .before .before .args in
@@ -51,12 +33,6 @@ returns-2 c =
     ∙ c .before .before .before .before .before .before .before .before .before .before .before .before .before .before .before .before .before .enum-told .given .1)
     (t .ensures) (length (t .last .1 .1 .1 .1 .0)) (length (t .last .1 .1 .1 .1 .1 .0)) (search needs) (c .before .before .clear-shorts .ensures) (search needs)
     (c .before .before .before .before .before .before .before .clear-words .ensures) (search needs)
-
-same-length-3 : tie.Need-same-length-3
-same-length-3 c = search needs
-
-same-length-4 : tie.Need-same-length-4
-same-length-4 c = search needs
 
 returns-3 : tie.Need-returns-3
 returns-3 c =
@@ -72,17 +48,17 @@ pub no-effect-spec : {M : Type 1} → statement M
 no-effect-spec =
     tie.close
     (tie.spec
-    tests-requires
-    enum-known-checked
+    (λ c κs. search needs)
+    (λ c. search needs)
     returns
     enum-told
     graded-requires
     find-requires
-    clear-words-requires
-    clear-shorts-requires
-    same-length
-    same-length-2
+    (λ c κs. search needs)
+    (λ c κs. search needs)
+    (λ c. search needs)
+    (λ c. search needs)
     returns-2
-    same-length-3
-    same-length-4
+    (λ c. search needs)
+    (λ c. search needs)
     returns-3)

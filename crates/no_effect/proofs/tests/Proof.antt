@@ -9,12 +9,6 @@ use borrow.Author.Needs.{needs}
 use Rattle.no_effect.proofs.tests.Statement.{statement}
 use Rattle.no_effect.proofs.tests.Tie as tie
 
-loose-requires : tie.Need-loose-requires
-loose-requires c κs = search needs
-
-enum-known-loose : tie.Need-enum-known-loose
-enum-known-loose c = search needs
-
 returns : tie.Need-returns
 unfolding wordTests
 returns c = group-no _ _ (sym (c .before .before .before .loose .ensures) ∙ c .before .loose2 .given .1)
@@ -43,8 +37,8 @@ pub tests-spec : {M : Type 1} → statement M
 tests-spec =
     tie.close
     (tie.spec
-    loose-requires
-    enum-known-loose
+    (λ c κs. search needs)
+    (λ c. search needs)
     returns
     enum-told
     words-fit-requires

@@ -4,31 +4,16 @@ use borrow.Author.Needs.{needs}
 use Rattle.ombradiec.proofs.ombradiec_closure.Statement.{statement}
 use Rattle.ombradiec.proofs.ombradiec_closure.Tie as tie
 
-closure-requires : tie.Need-closure-requires
-closure-requires c κs = search needs
-
 pack-counted-requires : tie.Need-pack-counted-requires
 pack-counted-requires c κs = closure-few _ _ _ _ (c .before .before .before .before .before .before .closure .ensures)
-
-same-length : tie.Need-same-length
-same-length c = search needs
-
-same-length-2 : tie.Need-same-length-2
-same-length-2 c = search needs
-
-same-length-3 : tie.Need-same-length-3
-same-length-3 c = search needs
-
-returns : tie.Need-returns
-returns c = search needs
 
 pub ombradiec-closure-spec : {M : Type 1} → statement M
 ombradiec-closure-spec =
     tie.close
     (tie.spec
-    closure-requires
+    (λ c κs. search needs)
     pack-counted-requires
-    same-length
-    same-length-2
-    same-length-3
-    returns)
+    (λ c. search needs)
+    (λ c. search needs)
+    (λ c. search needs)
+    (λ c. search needs))

@@ -4,31 +4,16 @@ use borrow.Author.Needs.{needs}
 use Rattle.ombradiec.proofs.ombradiec_preprocess.Statement.{statement}
 use Rattle.ombradiec.proofs.ombradiec_preprocess.Tie as tie
 
-preprocess-requires : tie.Need-preprocess-requires
-preprocess-requires c κs = search needs
-
 pack-answer-requires : tie.Need-pack-answer-requires
 pack-answer-requires c κs = values-few _ _ _ _ _ (c .before .before .before .before .before .before .preprocess .ensures)
-
-same-length : tie.Need-same-length
-same-length c = search needs
-
-same-length-2 : tie.Need-same-length-2
-same-length-2 c = search needs
-
-same-length-3 : tie.Need-same-length-3
-same-length-3 c = search needs
-
-returns : tie.Need-returns
-returns c = search needs
 
 pub ombradiec-preprocess-spec : {M : Type 1} → statement M
 ombradiec-preprocess-spec =
     tie.close
     (tie.spec
-    preprocess-requires
+    (λ c κs. search needs)
     pack-answer-requires
-    same-length
-    same-length-2
-    same-length-3
-    returns)
+    (λ c. search needs)
+    (λ c. search needs)
+    (λ c. search needs)
+    (λ c. search needs))

@@ -6,15 +6,6 @@ use Rattle.packing.specs.Layout.{packedAnswer, answerCount}
 use Rattle.packing.proofs.pack_answer.Statement.{statement}
 use Rattle.packing.proofs.pack_answer.Tie as tie
 
-enum-known-answer : tie.Need-enum-known-answer
-enum-known-answer c = search needs
-
-pack-done-requires : tie.Need-pack-done-requires
-pack-done-requires c κs = search needs
-
-enum-known-answer-2 : tie.Need-enum-known-answer-2
-enum-known-answer-2 c = search needs
-
 pack-refusal-requires : tie.Need-pack-refusal-requires
 pack-refusal-requires c κs = omega (arith, ap answerCount (c .before .answer2 .given .1))
 
@@ -28,9 +19,9 @@ pub pack-answer-spec : {M : Type 1} → statement M
 pack-answer-spec =
     tie.close
     (tie.spec
-    enum-known-answer
-    pack-done-requires
-    enum-known-answer-2
+    (λ c. search needs)
+    (λ c κs. search needs)
+    (λ c. search needs)
     pack-refusal-requires
     returns
     returns-2)

@@ -9,9 +9,6 @@ use Rattle.packing.proofs.pack_checked.Tie as tie
 enum-told : tie.Need-enum-told
 enum-told c = search needs
 
-enum-known-answer : tie.Need-enum-known-answer
-enum-known-answer c = search needs
-
 pack-refusal-requires : tie.Need-pack-refusal-requires
 pack-refusal-requires c κs = omega (arith, ap checkedCount (c .before .answer .given .1))
 
@@ -23,4 +20,4 @@ returns-2 c = c .pack-refusal .ensures ∙ ap packedChecked (sym (c .before .bef
 
 pub pack-checked-spec : {M : Type 1} → statement M
 pack-checked-spec =
-    tie.close (tie.spec enum-told enum-known-answer pack-refusal-requires returns returns-2)
+    tie.close (tie.spec enum-told (λ c. search needs) pack-refusal-requires returns returns-2)

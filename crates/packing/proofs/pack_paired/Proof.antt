@@ -6,14 +6,8 @@ use Rattle.packing.specs.Layout.{packedPaired, pairedCount, pairsExamine
 use Rattle.packing.proofs.pack_paired.Statement.{statement}
 use Rattle.packing.proofs.pack_paired.Tie as tie
 
-enum-known-answer : tie.Need-enum-known-answer
-enum-known-answer c = search needs
-
 pack-done-requires : tie.Need-pack-done-requires
 pack-done-requires c κs = (omega (arith, ap pairedCount (c .before .answer .given .1)), omega (arith, ap pairsExamined (c .before .answer .given .1)))
-
-enum-known-answer-2 : tie.Need-enum-known-answer-2
-enum-known-answer-2 c = search needs
 
 pack-refusal-requires : tie.Need-pack-refusal-requires
 pack-refusal-requires c κs = omega (arith, ap pairedCount (c .before .answer2 .given .1))
@@ -28,9 +22,9 @@ pub pack-paired-spec : {M : Type 1} → statement M
 pack-paired-spec =
     tie.close
     (tie.spec
-    enum-known-answer
+    (λ c. search needs)
     pack-done-requires
-    enum-known-answer-2
+    (λ c. search needs)
     pack-refusal-requires
     returns
     returns-2)

@@ -7,26 +7,11 @@ use borrow.Author.Needs.{needs}
 use Rattle.packing.proofs.pack_reasoned.Statement.{statement}
 use Rattle.packing.proofs.pack_reasoned.Tie as tie
 
-enum-known-answer : tie.Need-enum-known-answer
-enum-known-answer c = search needs
-
-cast-pack-done : tie.Need-cast-pack-done
-cast-pack-done c = search needs
-
-mul-pack-done : tie.Need-mul-pack-done
-mul-pack-done c = search needs
-
-ground-number-requires : tie.Need-ground-number-requires
-ground-number-requires c κs = search needs
-
 add-pack-done : tie.Need-add-pack-done
 add-pack-done c = omega (arith, parts-few _ _ _ (c .before .before .answer .given .1) (c .ground-number .ensures) (c .before .before .before .before .pre .1))
 
 pack-done-requires : tie.Need-pack-done-requires
 pack-done-requires c κs = (omega (arith, ap reasonedCount (c .before .before .answer .given .1)), parts-few _ _ _ (c .before .before .answer .given .1) (c .ground-number .ensures) (c .before .before .before .before .pre .1))
-
-enum-known-answer-2 : tie.Need-enum-known-answer-2
-enum-known-answer-2 c = search needs
 
 pack-refusal-requires : tie.Need-pack-refusal-requires
 pack-refusal-requires c κs = omega (arith, ap reasonedCount (c .before .answer2 .given .1))
@@ -41,13 +26,13 @@ pub pack-reasoned-spec : {M : Type 1} → statement M
 pack-reasoned-spec =
     tie.close
     (tie.spec
-    enum-known-answer
-    cast-pack-done
-    mul-pack-done
-    ground-number-requires
+    (λ c. search needs)
+    (λ c. search needs)
+    (λ c. search needs)
+    (λ c κs. search needs)
     add-pack-done
     pack-done-requires
-    enum-known-answer-2
+    (λ c. search needs)
     pack-refusal-requires
     returns
     returns-2)

@@ -7,12 +7,6 @@ use borrow.Author.Needs.{needs}
 use Rattle.pairs.proofs.pairs.Statement.{statement}
 use Rattle.pairs.proofs.pairs.Tie as tie
 
-ready-requires : tie.Need-ready-requires
-ready-requires c κs = search needs
-
-enum-known-checked : tie.Need-enum-known-checked
-enum-known-checked c = search needs
-
 returns : tie.Need-returns
 returns c = refused-call _ _ _ _ _ _ (sym (c .before .before .before .ready .ensures) ∙ c .before .checked .given .1)
 
@@ -24,24 +18,6 @@ graded-requires c κs = sound-loose (ready-passes _ _ _ _ .0 (sym (c .before .be
 
 work-requires : tie.Need-work-requires
 work-requires c κs = ready-passes _ _ _ _ .0 (sym (c .before .before .before .before .before .before .ready .ensures) ∙ c .before .before .before .before .enum-told .given .1)
-
-clear-floats-requires : tie.Need-clear-floats-requires
-clear-floats-requires c κs = search needs
-
-clear-words-requires : tie.Need-clear-words-requires
-clear-words-requires c κs = search needs
-
-clear-shorts-requires : tie.Need-clear-shorts-requires
-clear-shorts-requires c κs = search needs
-
-same-length : tie.Need-same-length
-same-length c = search needs
-
-same-length-2 : tie.Need-same-length-2
-same-length-2 c = search needs
-
-same-length-3 : tie.Need-same-length-3
-same-length-3 c = search needs
 
 returns-2 : tie.Need-returns-2
 returns-2 c =
@@ -64,15 +40,6 @@ returns-2 c =
     ∙ c .before .before .before .before .before .before .before .before .before .before .before .before .before .before .before .before .before .before .before .before .before .before .before .before .enum-told .given .1)
     (w .ensures)
     (c .before .before .before .before .before .before .before .before .before .before .before .clear-floats .ensures) (search needs) (c .before .before .before .before .before .before .before .clear-words .ensures) (search needs) (length (w .last .1 .1 .1 .1 .1 .1 .0)) (c .before .before .before .before .if1 .taken) (c .before .before .clear-shorts .ensures) (search needs)
-
-same-length-4 : tie.Need-same-length-4
-same-length-4 c = search needs
-
-same-length-5 : tie.Need-same-length-5
-same-length-5 c = search needs
-
-same-length-6 : tie.Need-same-length-6
-same-length-6 c = search needs
 
 returns-3 : tie.Need-returns-3
 returns-3 c =
@@ -100,20 +67,20 @@ pub pairs-spec : {M : Type 1} → statement M
 pairs-spec =
     tie.close
     (tie.spec
-    ready-requires
-    enum-known-checked
+    (λ c κs. search needs)
+    (λ c. search needs)
     returns
     enum-told
     graded-requires
     work-requires
-    clear-floats-requires
-    clear-words-requires
-    clear-shorts-requires
-    same-length
-    same-length-2
-    same-length-3
+    (λ c κs. search needs)
+    (λ c κs. search needs)
+    (λ c κs. search needs)
+    (λ c. search needs)
+    (λ c. search needs)
+    (λ c. search needs)
     returns-2
-    same-length-4
-    same-length-5
-    same-length-6
+    (λ c. search needs)
+    (λ c. search needs)
+    (λ c. search needs)
     returns-3)

@@ -23,24 +23,6 @@ merge-requires c κs =
     let start = at-build .before .before .before .before .before .before .before .before .before .before in
     work-laid (start .args .f .now) (start .args .u .now) (start .pre) (at-build .build .ensures) (at-parts .parts .kept .1 .1 .1 .1 .1 .0)
 
-add-list-free : tie.Need-add-list-free
-add-list-free c = search needs
-
-mul-list-free : tie.Need-mul-list-free
-mul-list-free c = search needs
-
-add-list-free-2 : tie.Need-add-list-free-2
-add-list-free-2 c = search needs
-
-add-list-free-3 : tie.Need-add-list-free-3
-add-list-free-3 c = search needs
-
-mul-list-free-2 : tie.Need-mul-list-free-2
-mul-list-free-2 c = search needs
-
-add-list-free-4 : tie.Need-add-list-free-4
-add-list-free-4 c = search needs
-
 list-free-requires : tie.Need-list-free-requires
 list-free-requires c κs =
     let at-merge = c .before .before .before .before .before in
@@ -69,12 +51,6 @@ walk-pairs-requires c κs =
       ),
     )
 
-same-length : tie.Need-same-length
-same-length c = search needs
-
-same-length-2 : tie.Need-same-length-2
-same-length-2 c = search needs
-
 same-length-3 : tie.Need-same-length-3
 same-length-3 c =
     let at-list-free = c .before .before .before .before .before .before .before .before in
@@ -92,15 +68,15 @@ work-spec =
     build-requires
     parts-requires
     merge-requires
-    add-list-free
-    mul-list-free
-    add-list-free-2
-    add-list-free-3
-    mul-list-free-2
-    add-list-free-4
+    (λ c. search needs)
+    (λ c. search needs)
+    (λ c. search needs)
+    (λ c. search needs)
+    (λ c. search needs)
+    (λ c. search needs)
     list-free-requires
     walk-pairs-requires
-    same-length
-    same-length-2
+    (λ c. search needs)
+    (λ c. search needs)
     same-length-3
     returns)

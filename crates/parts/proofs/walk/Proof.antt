@@ -4,17 +4,8 @@ use borrow.Author.Needs.{needs}
 use Rattle.parts.proofs.walk.Statement.{statement}
 use Rattle.parts.proofs.walk.Tie as tie
 
-visit-requires : tie.Need-visit-requires
-visit-requires c κs = search needs
-
-pop-all-requires : tie.Need-pop-all-requires
-pop-all-requires c κs = search needs
-
-same-length : tie.Need-same-length
-same-length c = search needs
-
 returns : tie.Need-returns
 returns c = walk-done (c .before .before .before .before .before .before .visit .ensures) (c .before .before .pop-all .ensures)
 
 pub walk-spec : {M : Type 1} → statement M
-walk-spec = tie.close (tie.spec visit-requires pop-all-requires same-length returns)
+walk-spec = tie.close (tie.spec (λ c κs. search needs) (λ c κs. search needs) (λ c. search needs) returns)

@@ -11,14 +11,8 @@ use borrow.Author.Needs.{needs}
 use Rattle.places.proofs.build.Statement.{statement}
 use Rattle.places.proofs.build.Tie as tie
 
-slice-relend-prefix-clear-words : tie.Need-slice-relend-prefix-clear-words
-slice-relend-prefix-clear-words c = search needs
-
 slice-aggregate-clear-words : tie.Need-slice-aggregate-clear-words
 slice-aggregate-clear-words c = let s = c .before .before .before .before in sym (length-take-le _ (s .args .u .now) (omega (arith, s .pre .1)))
-
-clear-words-requires : tie.Need-clear-words-requires
-clear-words-requires c κs = search needs
 
 -- what clearing leaves
 zeroed : (c : tie.After-clear-words) →
@@ -83,9 +77,9 @@ pub build-spec : {M : Type 1} → statement M
 build-spec =
     tie.close
     (tie.spec
-    slice-relend-prefix-clear-words
+    (λ c. search needs)
     slice-aggregate-clear-words
-    clear-words-requires
+    (λ c κs. search needs)
     count-requires
     sums-requires
     place-requires

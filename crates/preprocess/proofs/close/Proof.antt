@@ -17,15 +17,6 @@ propagate-requires c κs =
     let at-start = at-fill .before .before .before .before .before .before .before .before .before .before in
     placed-start (at-start .pre .0 .sound .shaped) (at-start .pre .0 .sound .start .long) (omega (arith, at-start .pre .0 .floats-room, at-fill .fill .ensures .long)) (at-start .pre .1) (omega (arith, at-start .pre .0 .words-room, at-start .pre .0 .sound .shaped .rows-long))
 
-same-length : tie.Need-same-length
-same-length c = search needs
-
-same-length-2 : tie.Need-same-length-2
-same-length-2 c = search needs
-
-same-length-3 : tie.Need-same-length-3
-same-length-3 c = search needs
-
 returns : tie.Need-returns
 returns c =
     let at-propagate = c .before .before .before .before .before .before in
@@ -38,7 +29,7 @@ close-spec =
     (tie.spec
     fill-requires
     propagate-requires
-    same-length
-    same-length-2
-    same-length-3
+    (λ c. search needs)
+    (λ c. search needs)
+    (λ c. search needs)
     returns)

@@ -6,15 +6,6 @@ use borrow.Author.Needs.{needs}
 use Rattle.preprocess.proofs.preprocess.Statement.{statement}
 use Rattle.preprocess.proofs.preprocess.Tie as tie
 
-ready-requires : tie.Need-ready-requires
-ready-requires c κs = search needs
-
-enum-known-checked : tie.Need-enum-known-checked
-enum-known-checked c = search needs
-
-same-length : tie.Need-same-length
-same-length c = search needs
-
 returns : tie.Need-returns
 returns c = refused-call _ _ _ _ _ (c .before .before .before .ready .ensures) (c .before .checked .given .1)
 
@@ -34,21 +25,6 @@ work-requires c κs =
     let at-ready = at-enum-told .before .before in
     (ready-built (tests-ready (at-ready .ready .ensures) (at-enum-told .enum-told .given .1)) (at-build .build .ensures .long), at-build .build .ensures .adjacent)
 
-clear-floats-requires : tie.Need-clear-floats-requires
-clear-floats-requires c κs = search needs
-
-clear-words-requires : tie.Need-clear-words-requires
-clear-words-requires c κs = search needs
-
-same-length-2 : tie.Need-same-length-2
-same-length-2 c = search needs
-
-same-length-3 : tie.Need-same-length-3
-same-length-3 c = search needs
-
-same-length-4 : tie.Need-same-length-4
-same-length-4 c = search needs
-
 returns-2 : tie.Need-returns-2
 returns-2 c =
     let at-clear-words = c .before .before in
@@ -64,17 +40,17 @@ pub preprocess-spec : {M : Type 1} → statement M
 preprocess-spec =
     tie.close
     (tie.spec
-    ready-requires
-    enum-known-checked
-    same-length
+    (λ c κs. search needs)
+    (λ c. search needs)
+    (λ c. search needs)
     returns
     enum-told
     graded-requires
     build-requires
     work-requires
-    clear-floats-requires
-    clear-words-requires
-    same-length-2
-    same-length-3
-    same-length-4
+    (λ c κs. search needs)
+    (λ c κs. search needs)
+    (λ c. search needs)
+    (λ c. search needs)
+    (λ c. search needs)
     returns-2)

@@ -22,15 +22,6 @@ solve-requires c κs =
     let at-start = at-fix-idle .before .before .before .before .before .before .before .before .before .before in
     solvable (at-start .pre .0) (at-fix-idle .fix-idle .ensures) (at-close .close .ensures) (search needs)
 
-same-length : tie.Need-same-length
-same-length c = search needs
-
-same-length-2 : tie.Need-same-length-2
-same-length-2 c = search needs
-
-same-length-3 : tie.Need-same-length-3
-same-length-3 c = search needs
-
 returns : tie.Need-returns
 returns c =
     let at-solve = c .before .before .before .before in
@@ -46,7 +37,7 @@ work-spec =
     fix-idle-requires
     close-requires
     solve-requires
-    same-length
-    same-length-2
-    same-length-3
+    (λ c. search needs)
+    (λ c. search needs)
+    (λ c. search needs)
     returns)

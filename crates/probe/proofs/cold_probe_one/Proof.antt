@@ -9,35 +9,11 @@ use borrow.Author.Needs.{needs}
 use Rattle.probe.proofs.cold_probe_one.Statement.{statement}
 use Rattle.probe.proofs.cold_probe_one.Tie as tie
 
-ready-to-probe-requires : tie.Need-ready-to-probe-requires
-ready-to-probe-requires c κs = search needs
-
-enum-known-checked : tie.Need-enum-known-checked
-enum-known-checked c = search needs
-
 returns : tie.Need-returns
 returns c = refused-call _ _ _ _ _ _ _ (sym (c .before .before .before .ready-to-probe .ensures) ∙ c .before .checked .given .1)
 
 enum-told : tie.Need-enum-told
 enum-told c = search needs
-
-clear-bytes-requires : tie.Need-clear-bytes-requires
-clear-bytes-requires c κs = search needs
-
-clear-floats-requires : tie.Need-clear-floats-requires
-clear-floats-requires c κs = search needs
-
-clear-words-requires : tie.Need-clear-words-requires
-clear-words-requires c κs = search needs
-
-same-length : tie.Need-same-length
-same-length c = search needs
-
-same-length-2 : tie.Need-same-length-2
-same-length-2 c = search needs
-
-same-length-3 : tie.Need-same-length-3
-same-length-3 c = search needs
 
 returns-2 : tie.Need-returns-2
 returns-2 c =
@@ -68,21 +44,6 @@ keep-new-requires c κs =
     let at-ready-to-probe = at-enum-told .before .before in
     omega (arith, at-if1 .if1 .left, probe-passes _ _ _ _ _ _ .0 (sym (at-ready-to-probe .ready-to-probe .ensures) ∙ at-enum-told .enum-told .given .1) .ready .sound .start .long)
 
-clear-floats-requires-2 : tie.Need-clear-floats-requires-2
-clear-floats-requires-2 c κs = search needs
-
-clear-words-requires-2 : tie.Need-clear-words-requires-2
-clear-words-requires-2 c κs = search needs
-
-same-length-4 : tie.Need-same-length-4
-same-length-4 c = search needs
-
-same-length-5 : tie.Need-same-length-5
-same-length-5 c = search needs
-
-same-length-6 : tie.Need-same-length-6
-same-length-6 c = search needs
-
 returns-3 : tie.Need-returns-3
 unfolding givenBy
 returns-3 c =
@@ -105,23 +66,23 @@ pub cold-probe-one-spec : {M : Type 1} → statement M
 cold-probe-one-spec =
     tie.close
     (tie.spec
-    ready-to-probe-requires
-    enum-known-checked
+    (λ c κs. search needs)
+    (λ c. search needs)
     returns
     enum-told
-    clear-bytes-requires
-    clear-floats-requires
-    clear-words-requires
-    same-length
-    same-length-2
-    same-length-3
+    (λ c κs. search needs)
+    (λ c κs. search needs)
+    (λ c κs. search needs)
+    (λ c. search needs)
+    (λ c. search needs)
+    (λ c. search needs)
     returns-2
     graded-requires
     work-requires
     keep-new-requires
-    clear-floats-requires-2
-    clear-words-requires-2
-    same-length-4
-    same-length-5
-    same-length-6
+    (λ c κs. search needs)
+    (λ c κs. search needs)
+    (λ c. search needs)
+    (λ c. search needs)
+    (λ c. search needs)
     returns-3)

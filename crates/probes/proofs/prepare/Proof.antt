@@ -9,9 +9,6 @@ use Rattle.probes.proofs.prepare.Tie as tie
 graded-requires : tie.Need-graded-requires
 graded-requires c κs = ready-loose (c .before .before .before .before .before .before .before .before .pre .0)
 
-copy-requires : tie.Need-copy-requires
-copy-requires c κs = search needs
-
 build-requires : tie.Need-build-requires
 build-requires c κs =
     let at-start = c .before .before .before .before .before .before .before .before .before .before .before .before .before .before in
@@ -28,15 +25,6 @@ remember-requires c κs =
       (at-copy .copy .ensures, (at-graded .graded .ensures, at-build .build .ensures .adjacent)),
     )
 
-same-length : tie.Need-same-length
-same-length c = search needs
-
-same-length-2 : tie.Need-same-length-2
-same-length-2 c = search needs
-
-same-length-3 : tie.Need-same-length-3
-same-length-3 c = search needs
-
 returns : tie.Need-returns
 returns c = c .before .before .before .before .before .before .remember .ensures
 
@@ -45,10 +33,10 @@ prepare-spec =
     tie.close
     (tie.spec
     graded-requires
-    copy-requires
+    (λ c κs. search needs)
     build-requires
     remember-requires
-    same-length
-    same-length-2
-    same-length-3
+    (λ c. search needs)
+    (λ c. search needs)
+    (λ c. search needs)
     returns)

@@ -13,27 +13,6 @@ use Rattle.probes.proofs.probe_all.Tie as tie
 prepare-requires : tie.Need-prepare-requires
 prepare-requires c κs = c .before .before .before .before .before .before .before .before .before .before .before .before .pre
 
-add-list-free : tie.Need-add-list-free
-add-list-free c = search needs
-
-mul-list-free : tie.Need-mul-list-free
-mul-list-free c = search needs
-
-add-list-free-2 : tie.Need-add-list-free-2
-add-list-free-2 c = search needs
-
-add-list-free-3 : tie.Need-add-list-free-3
-add-list-free-3 c = search needs
-
-add-list-free-4 : tie.Need-add-list-free-4
-add-list-free-4 c = search needs
-
-add-list-free-5 : tie.Need-add-list-free-5
-add-list-free-5 c = search needs
-
-add-list-free-6 : tie.Need-add-list-free-6
-add-list-free-6 c = search needs
-
 list-free-requires : tie.Need-list-free-requires
 list-free-requires c κs =
     let at-prepare = c .before .before .before .before .before .before .before in
@@ -49,18 +28,6 @@ settle-requires c κs =
           (at-prepare .prepare .ensures .1) (at-prepare .prepare .kept .1 .1 .1 .1 .1 .1 .1 .0),
       at-prepare .prepare .ensures .0,
     )
-
-same-length : tie.Need-same-length
-same-length c = search needs
-
-same-length-2 : tie.Need-same-length-2
-same-length-2 c = search needs
-
-same-length-3 : tie.Need-same-length-3
-same-length-3 c = search needs
-
-same-length-4 : tie.Need-same-length-4
-same-length-4 c = search needs
 
 returns : tie.Need-returns
 returns c =
@@ -81,17 +48,17 @@ probe-all-spec =
     tie.close
     (tie.spec
     prepare-requires
-    add-list-free
-    mul-list-free
-    add-list-free-2
-    add-list-free-3
-    add-list-free-4
-    add-list-free-5
-    add-list-free-6
+    (λ c. search needs)
+    (λ c. search needs)
+    (λ c. search needs)
+    (λ c. search needs)
+    (λ c. search needs)
+    (λ c. search needs)
+    (λ c. search needs)
     list-free-requires
     settle-requires
-    same-length
-    same-length-2
-    same-length-3
-    same-length-4
+    (λ c. search needs)
+    (λ c. search needs)
+    (λ c. search needs)
+    (λ c. search needs)
     returns)

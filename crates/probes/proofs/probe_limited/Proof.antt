@@ -8,12 +8,6 @@ use borrow.Author.Needs.{needs}
 use Rattle.probes.proofs.probe_limited.Statement.{statement}
 use Rattle.probes.proofs.probe_limited.Tie as tie
 
-ready-requires : tie.Need-ready-requires
-ready-requires c κs = search needs
-
-enum-known-checked : tie.Need-enum-known-checked
-enum-known-checked c = search needs
-
 returns : tie.Need-returns
 unfolding probeLimitedBy
 returns c =
@@ -27,9 +21,6 @@ returns c =
 
 enum-told : tie.Need-enum-told
 enum-told c = search needs
-
-no-room-requires : tie.Need-no-room-requires
-no-room-requires c κs = search needs
 
 same-length : tie.Need-same-length
 same-length c = c .before .before .before .before .before .before .before .before .no-room .kept .0
@@ -94,11 +85,11 @@ pub probe-limited-spec : {M : Type 1} → statement M
 probe-limited-spec =
     tie.close
     (tie.spec
-    ready-requires
-    enum-known-checked
+    (λ c κs. search needs)
+    (λ c. search needs)
     returns
     enum-told
-    no-room-requires
+    (λ c κs. search needs)
     same-length
     same-length-2
     same-length-3

@@ -31,12 +31,6 @@ same-length c =
     let start = at-work .before .before .before .before .before .before .before .before .before .before .before .before .before .before .before .before .before .before .before .before .before .before .before .before .before in
     at-work .work .ensures .kept .placed .values-long ∙ sym (start .pre .0 .start .long)
 
-same-length-2 : tie.Need-same-length-2
-same-length-2 c = search needs
-
-same-length-3 : tie.Need-same-length-3
-same-length-3 c = search needs
-
 returns : tie.Need-returns
 returns c =
     let at-work = c .before .before .before .before .before .before in
@@ -54,6 +48,6 @@ probe-spec =
     scan-some-requires
     work-requires
     same-length
-    same-length-2
-    same-length-3
+    (λ c. search needs)
+    (λ c. search needs)
     returns)

@@ -11,15 +11,6 @@ use borrow.Author.Needs.{needs}
 use Rattle.propagation.proofs.propagate.Statement.{statement}
 use Rattle.propagation.proofs.propagate.Tie as tie
 
-ready-requires : tie.Need-ready-requires
-ready-requires c κs = search needs
-
-enum-known-checked : tie.Need-enum-known-checked
-enum-known-checked c = search needs
-
-same-length : tie.Need-same-length
-same-length c = search needs
-
 returns : tie.Need-returns
 returns c = refused-call _ _ _ (sym (c .before .before .before .ready .ensures) ∙ c .before .checked .given .1)
 
@@ -28,15 +19,6 @@ enum-told c = search needs
 
 run-requires : tie.Need-run-requires
 run-requires c κs = ready-is _ _ _ .0 (sym (c .before .before .before .before .ready .ensures) ∙ c .before .before .enum-told .given .1)
-
-clear-words-requires : tie.Need-clear-words-requires
-clear-words-requires c κs = search needs
-
-same-length-2 : tie.Need-same-length-2
-same-length-2 c = search needs
-
-same-length-3 : tie.Need-same-length-3
-same-length-3 c = search needs
 
 returns-2 : tie.Need-returns-2
 returns-2 c =
@@ -59,15 +41,6 @@ write-back-requires c κs =
     let room : length (start .args .start .now) ≤ length (at-run .run .last .1 .1 .0) = omega (arith, ready .words-room, at-run .run .kept .1 .1 .0) in
     (room, found-small _ _ _ (ready .listed) (ready .small) room (at-run .run .ensures) (not-false _ (at-if1 .if1 .left)))
 
-clear-words-requires-2 : tie.Need-clear-words-requires-2
-clear-words-requires-2 c κs = search needs
-
-same-length-4 : tie.Need-same-length-4
-same-length-4 c = search needs
-
-same-length-5 : tie.Need-same-length-5
-same-length-5 c = search needs
-
 returns-3 : tie.Need-returns-3
 returns-3 c =
     let at-clear-words2 = c .before .before in
@@ -83,18 +56,18 @@ pub propagate-spec : {M : Type 1} → statement M
 propagate-spec =
     tie.close
     (tie.spec
-    ready-requires
-    enum-known-checked
-    same-length
+    (λ c κs. search needs)
+    (λ c. search needs)
+    (λ c. search needs)
     returns
     enum-told
     run-requires
-    clear-words-requires
-    same-length-2
-    same-length-3
+    (λ c κs. search needs)
+    (λ c. search needs)
+    (λ c. search needs)
     returns-2
     write-back-requires
-    clear-words-requires-2
-    same-length-4
-    same-length-5
+    (λ c κs. search needs)
+    (λ c. search needs)
+    (λ c. search needs)
     returns-3)

@@ -26,12 +26,6 @@ cast-start c = omega (arith, c .before .before .before .pre .1 _ (c .before .loo
 slice-write-start : tie.Need-slice-write-start Inv-loop μ-loop
 slice-write-start c = omega (arith, c .before .before .loop .inv .long)
 
-add-i : tie.Need-add-i Inv-loop μ-loop
-add-i c = omega arith
-
-loop-less : tie.Need-loop-less Inv-loop μ-loop
-loop-less c = omega arith
-
 loop-again : tie.Need-loop-again Inv-loop μ-loop
 loop-again c = copy-turn (c .before .before .loop .inv) (c .before .loop-test .taken)
 
@@ -52,8 +46,8 @@ write-back-spec =
     shared-slice-read-start
     cast-start
     slice-write-start
-    add-i
-    loop-less
+    (λ c. omega arith)
+    (λ c. omega arith)
     loop-again
     same-length
     returns)

@@ -13,17 +13,8 @@ list-free-requires c κs =
     let start = c .before .before .before .before .before .before .before .before .before .before .before .before in
     (omega (arith, start .pre .massable .values-long, start .pre .massable .shaped .few-variables), omega (arith, start .pre .massable .values-long, start .pre .room))
 
-add-sort-first : tie.Need-add-sort-first
-add-sort-first c = search needs
-
 sort-first-requires : tie.Need-sort-first-requires
 sort-first-requires c κs = rank-sortable (c .before .before .before .before .before .before .before .before .before .before .before .before .before .before .before .before .before .pre) (c .before .before .before .before .before .before .before .before .fill .ensures) (c .before .before .before .before .list-free .ensures)
-
-same-length : tie.Need-same-length
-same-length c = search needs
-
-same-length-2 : tie.Need-same-length-2
-same-length-2 c = search needs
 
 returns : tie.Need-returns
 returns c = (rank-done (c .before .before .before .before .before .before .before .before .before .before .before .before .before .before .before .before .before .before .before .before .pre) (c .before .before .before .before .before .before .before .before .before .before .before .fill .ensures) (c .before .before .before .before .before .before .before .list-free .ensures) (c .before .before .sort-first .ensures), c .before .before .before .before .before .before .before .before .before .before .before .fill .ensures)
@@ -34,8 +25,8 @@ rank-spec =
     (tie.spec
     fill-requires
     list-free-requires
-    add-sort-first
+    (λ c. search needs)
     sort-first-requires
-    same-length
-    same-length-2
+    (λ c. search needs)
+    (λ c. search needs)
     returns)

@@ -5,12 +5,6 @@ use borrow.Author.Needs.{needs}
 use Rattle.reason.proofs.reason.Statement.{statement}
 use Rattle.reason.proofs.reason.Tie as tie
 
-ready-requires : tie.Need-ready-requires
-ready-requires c κs = search needs
-
-enum-known-checked : tie.Need-enum-known-checked
-enum-known-checked c = search needs
-
 returns : tie.Need-returns
 returns c = refused-call _ _ _ _ _ _ (c .before .before .before .ready .ensures) (c .before .checked .given .1)
 
@@ -20,21 +14,6 @@ enum-told c = search needs
 work-requires : tie.Need-work-requires
 work-requires c κs = tests-ready (c .before .before .before .before .before .ready .ensures) (c .before .before .before .enum-told .given .1)
 
-clear-floats-requires : tie.Need-clear-floats-requires
-clear-floats-requires c κs = search needs
-
-clear-words-requires : tie.Need-clear-words-requires
-clear-words-requires c κs = search needs
-
-same-length : tie.Need-same-length
-same-length c = search needs
-
-same-length-2 : tie.Need-same-length-2
-same-length-2 c = search needs
-
-same-length-3 : tie.Need-same-length-3
-same-length-3 c = search needs
-
 returns-2 : tie.Need-returns-2
 returns-2 c = done-call _ _ _ _ _ _ (c .before .before .before .before .before .before .before .before .before .before .before .before .before .before .before .before .before .before .before .before .ready .ensures) (c .before .before .before .before .before .before .before .before .before .before .before .before .before .before .before .before .before .before .enum-told .given .1) (c .before .before .before .before .before .before .before .before .before .before .before .before .before .before .work .ensures) (c .before .before .before .before .before .before .clear-floats .ensures) (c .before .before .before .before .before .before .before .before .before .before .before .before .before .before .work .kept .1 .1 .1 .1 .1 .1 .1 .0) (c .before .before .clear-words .ensures) (c .before .before .before .before .before .before .before .before .before .before .before .before .before .before .work .kept .1 .1 .1 .1 .1 .1 .1 .1 .0)
 
@@ -42,14 +21,14 @@ pub reason-spec : {M : Type 1} → statement M
 reason-spec =
     tie.close
     (tie.spec
-    ready-requires
-    enum-known-checked
+    (λ c κs. search needs)
+    (λ c. search needs)
     returns
     enum-told
     work-requires
-    clear-floats-requires
-    clear-words-requires
-    same-length
-    same-length-2
-    same-length-3
+    (λ c κs. search needs)
+    (λ c κs. search needs)
+    (λ c. search needs)
+    (λ c. search needs)
+    (λ c. search needs)
     returns-2)

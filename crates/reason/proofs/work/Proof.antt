@@ -13,15 +13,6 @@ returns c = inexact-told (c .before .before .before .before .before .before .bef
 answer-requires : tie.Need-answer-requires
 answer-requires c κs = (c .before .before .before .before .before .before .before .before .before .before .before .before .before .pre, work-exact (c .before .before .before .before .before .before .before .before .before .before .before .before .before .pre) (c .before .before .before .before .least-unit .ensures) (c .before .before .before .if1 .left) .exact)
 
-same-length : tie.Need-same-length
-same-length c = search needs
-
-same-length-2 : tie.Need-same-length-2
-same-length-2 c = search needs
-
-same-length-3 : tie.Need-same-length-3
-same-length-3 c = search needs
-
 returns-2 : tie.Need-returns-2
 returns-2 c = exact-told (c .before .before .before .before .before .before .before .before .before .before .before .before .before .before .before .before .before .before .before .before .pre) (c .before .before .before .before .before .before .before .before .before .before .before .least-unit .ensures) _ _ (c .before .before .before .before .before .before .before .before .before .before .if1 .left) (c .before .before .before .before .before .before .answer .ensures)
 
@@ -32,7 +23,7 @@ work-spec =
     least-unit-requires
     returns
     answer-requires
-    same-length
-    same-length-2
-    same-length-3
+    (λ c. search needs)
+    (λ c. search needs)
+    (λ c. search needs)
     returns-2)

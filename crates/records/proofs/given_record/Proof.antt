@@ -10,27 +10,9 @@ use borrow.Author.Needs.{needs}
 use Rattle.records.proofs.given_record.Statement.{statement}
 use Rattle.records.proofs.given_record.Tie as tie
 
-left-requires : tie.Need-left-requires
-left-requires c κs = search needs
-
 returns : tie.Need-returns
 unfolding givenAt
 returns c = cut 5 (now (c .before .before .before .args .bytes)) (c .before .before .before .args .at) _ (c .before .left .ensures) (c .if1 .taken)
-
-add-short : tie.Need-add-short
-add-short c = search needs
-
-short-requires : tie.Need-short-requires
-short-requires c κs = search needs
-
-add-value : tie.Need-add-value
-add-value c = search needs
-
-shared-slice-read-value : tie.Need-shared-slice-read-value
-shared-slice-read-value c = search needs
-
-add-t5 : tie.Need-add-t5
-add-t5 c = search needs
 
 returns-2 : tie.Need-returns-2
 unfolding givenAt
@@ -45,11 +27,11 @@ pub given-record-spec : {M : Type 1} → statement M
 given-record-spec =
     tie.close
     (tie.spec
-    left-requires
+    (λ c κs. search needs)
     returns
-    add-short
-    short-requires
-    add-value
-    shared-slice-read-value
-    add-t5
+    (λ c. search needs)
+    (λ c κs. search needs)
+    (λ c. search needs)
+    (λ c. search needs)
+    (λ c. search needs)
     returns-2)

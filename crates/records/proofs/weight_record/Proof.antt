@@ -10,21 +10,9 @@ use borrow.Author.Needs.{needs}
 use Rattle.records.proofs.weight_record.Statement.{statement}
 use Rattle.records.proofs.weight_record.Tie as tie
 
-left-requires : tie.Need-left-requires
-left-requires c κs = search needs
-
 returns : tie.Need-returns
 unfolding weightAt
 returns c = cut 10 (now (c .before .before .before .args .bytes)) (c .before .before .before .args .at) _ (c .before .left .ensures) (c .if1 .taken)
-
-add-float : tie.Need-add-float
-add-float c = search needs
-
-float-requires : tie.Need-float-requires
-float-requires c κs = search needs
-
-add-t6 : tie.Need-add-t6
-add-t6 c = search needs
 
 returns-2 : tie.Need-returns-2
 unfolding weightAt
@@ -35,4 +23,4 @@ returns-2 c =
 
 pub weight-record-spec : {M : Type 1} → statement M
 weight-record-spec =
-    tie.close (tie.spec left-requires returns add-float float-requires add-t6 returns-2)
+    tie.close (tie.spec (λ c κs. search needs) returns (λ c. search needs) (λ c κs. search needs) (λ c. search needs) returns-2)

@@ -11,15 +11,6 @@ scan-requires c κs = c .before .before .before .before .before .before .before 
 work-requires : tie.Need-work-requires
 work-requires c κs = c .before .before .before .before .before .before .before .scan .ensures .kept .placed
 
-same-length : tie.Need-same-length
-same-length c = search needs
-
-same-length-2 : tie.Need-same-length-2
-same-length-2 c = search needs
-
-same-length-3 : tie.Need-same-length-3
-same-length-3 c = search needs
-
 returns : tie.Need-returns
 returns c =
     propagate-does refl (c .before .before .before .before .before .before .before .before .before .before .before .before .before .before .scan .ensures)
@@ -28,4 +19,4 @@ returns c =
 pub propagate-spec : {M : Type 1} → statement M
 propagate-spec =
     tie.close
-    (tie.spec scan-requires work-requires same-length same-length-2 same-length-3 returns)
+    (tie.spec scan-requires work-requires (λ c. search needs) (λ c. search needs) (λ c. search needs) returns)

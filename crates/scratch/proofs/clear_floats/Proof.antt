@@ -16,26 +16,11 @@ abbrev μ-loop : tie.MeasureT-loop
 loop-holds : tie.Need-loop-holds Inv-loop μ-loop
 loop-holds c = clear-start (ofBits binary64 0) _
 
-mul-floats : tie.Need-mul-floats Inv-loop μ-loop
-mul-floats c = omega arith
-
-slice-write-floats : tie.Need-slice-write-floats Inv-loop μ-loop
-slice-write-floats c = omega arith
-
-add-i : tie.Need-add-i Inv-loop μ-loop
-add-i c = omega arith
-
-loop-less : tie.Need-loop-less Inv-loop μ-loop
-loop-less c = omega arith
-
 loop-again : tie.Need-loop-again Inv-loop μ-loop
 loop-again c = clear-turn (ofBits binary64 0) _ (c .before .loop .inv) (omega arith)
-
-same-length : tie.Need-same-length Inv-loop μ-loop
-same-length c = omega arith
 
 returns : tie.Need-returns Inv-loop μ-loop
 returns c = clear-done (ofBits binary64 0) _ (c .before .loop .inv) (omega arith)
 
 pub clear-floats-spec : {M : Type 1} → statement M
-clear-floats-spec = tie.close (tie.spec Inv-loop μ-loop loop-holds mul-floats slice-write-floats add-i loop-less loop-again same-length returns)
+clear-floats-spec = tie.close (tie.spec Inv-loop μ-loop loop-holds (λ c. omega arith) (λ c. omega arith) (λ c. omega arith) (λ c. omega arith) loop-again (λ c. omega arith) returns)

@@ -15,26 +15,11 @@ abbrev μ-loop : tie.MeasureT-loop
 loop-holds : tie.Need-loop-holds Inv-loop μ-loop
 loop-holds c = clear-start 0 _
 
-mul-shorts : tie.Need-mul-shorts Inv-loop μ-loop
-mul-shorts c = omega arith
-
-slice-write-shorts : tie.Need-slice-write-shorts Inv-loop μ-loop
-slice-write-shorts c = omega arith
-
-add-i : tie.Need-add-i Inv-loop μ-loop
-add-i c = omega arith
-
-loop-less : tie.Need-loop-less Inv-loop μ-loop
-loop-less c = omega arith
-
 loop-again : tie.Need-loop-again Inv-loop μ-loop
 loop-again c = clear-turn 0 _ (c .before .loop .inv) (omega arith)
-
-same-length : tie.Need-same-length Inv-loop μ-loop
-same-length c = omega arith
 
 returns : tie.Need-returns Inv-loop μ-loop
 returns c = clear-done 0 _ (c .before .loop .inv) (omega arith)
 
 pub clear-shorts-spec : {M : Type 1} → statement M
-clear-shorts-spec = tie.close (tie.spec Inv-loop μ-loop loop-holds mul-shorts slice-write-shorts add-i loop-less loop-again same-length returns)
+clear-shorts-spec = tie.close (tie.spec Inv-loop μ-loop loop-holds (λ c. omega arith) (λ c. omega arith) (λ c. omega arith) (λ c. omega arith) loop-again (λ c. omega arith) returns)

@@ -15,26 +15,11 @@ abbrev μ-loop : tie.MeasureT-loop
 loop-holds : tie.Need-loop-holds Inv-loop μ-loop
 loop-holds c = clear-start 0 _
 
-mul-words : tie.Need-mul-words Inv-loop μ-loop
-mul-words c = omega arith
-
-slice-write-words : tie.Need-slice-write-words Inv-loop μ-loop
-slice-write-words c = omega arith
-
-add-i : tie.Need-add-i Inv-loop μ-loop
-add-i c = omega arith
-
-loop-less : tie.Need-loop-less Inv-loop μ-loop
-loop-less c = omega arith
-
 loop-again : tie.Need-loop-again Inv-loop μ-loop
 loop-again c = clear-turn 0 _ (c .before .loop .inv) (omega arith)
-
-same-length : tie.Need-same-length Inv-loop μ-loop
-same-length c = omega arith
 
 returns : tie.Need-returns Inv-loop μ-loop
 returns c = clear-done 0 _ (c .before .loop .inv) (omega arith)
 
 pub clear-words-spec : {M : Type 1} → statement M
-clear-words-spec = tie.close (tie.spec Inv-loop μ-loop loop-holds mul-words slice-write-words add-i loop-less loop-again same-length returns)
+clear-words-spec = tie.close (tie.spec Inv-loop μ-loop loop-holds (λ c. omega arith) (λ c. omega arith) (λ c. omega arith) (λ c. omega arith) loop-again (λ c. omega arith) returns)

@@ -23,12 +23,6 @@ close-at-requires c κs =
     let at-start = at-loop .before .before .before .before .before in
     stands-ready (at-start .pre .shaped) (at-loop .loop .inv) (at-loop-test .loop-test .taken)
 
-add-k : tie.Need-add-k Inv-loop μ-loop
-add-k c = search needs
-
-loop-less : tie.Need-loop-less Inv-loop μ-loop
-loop-less c = omega arith
-
 loop-again : tie.Need-loop-again Inv-loop μ-loop
 loop-again c =
     let at-close-at = c .before .before .before .before .before .before .before .before in
@@ -36,18 +30,6 @@ loop-again c =
     let at-loop = at-loop-test .before in
     let at-start = at-loop .before .before .before .before .before in
     stands-turn (at-start .pre .shaped) (at-loop .loop .inv) (at-loop-test .loop-test .taken) (at-close-at .close-at .ensures)
-
-same-length : tie.Need-same-length Inv-loop μ-loop
-same-length c = omega arith
-
-same-length-2 : tie.Need-same-length-2 Inv-loop μ-loop
-same-length-2 c = omega arith
-
-same-length-3 : tie.Need-same-length-3 Inv-loop μ-loop
-same-length-3 c = omega arith
-
-same-length-4 : tie.Need-same-length-4 Inv-loop μ-loop
-same-length-4 c = omega arith
 
 returns : tie.Need-returns Inv-loop μ-loop
 returns c = stands-done (c .before .before .before .before .before .before .pre .shaped) (c .before .loop .inv) (omega arith)
@@ -60,11 +42,11 @@ close-up-spec =
     μ-loop
     loop-holds
     close-at-requires
-    add-k
-    loop-less
+    (λ c. search needs)
+    (λ c. omega arith)
     loop-again
-    same-length
-    same-length-2
-    same-length-3
-    same-length-4
+    (λ c. omega arith)
+    (λ c. omega arith)
+    (λ c. omega arith)
+    (λ c. omega arith)
     returns)

@@ -6,24 +6,6 @@ use borrow.Author.Needs.{needs}
 use Rattle.shift.proofs.shift.Statement.{statement}
 use Rattle.shift.proofs.shift.Tie as tie
 
-loose-requires : tie.Need-loose-requires
-loose-requires c κs = search needs
-
-enum-known-checked : tie.Need-enum-known-checked
-enum-known-checked c = search needs
-
-same-length : tie.Need-same-length
-same-length c = search needs
-
-same-length-2 : tie.Need-same-length-2
-same-length-2 c = search needs
-
-same-length-3 : tie.Need-same-length-3
-same-length-3 c = search needs
-
-same-length-4 : tie.Need-same-length-4
-same-length-4 c = search needs
-
 returns : tie.Need-returns
 returns c = refused-call _ (sym (c .before .before .before .loose .ensures) ∙ c .before .checked .given .1)
 
@@ -42,18 +24,6 @@ close-up-requires c κs =
     let at-loose = at-enum-told .before .before in
     loose-passes _ .0 (sym (at-loose .loose .ensures) ∙ at-enum-told .enum-told .given .1)
 
-same-length-5 : tie.Need-same-length-5
-same-length-5 c = search needs
-
-same-length-6 : tie.Need-same-length-6
-same-length-6 c = search needs
-
-same-length-7 : tie.Need-same-length-7
-same-length-7 c = search needs
-
-same-length-8 : tie.Need-same-length-8
-same-length-8 c = search needs
-
 returns-2 : tie.Need-returns-2
 returns-2 c =
     let at-close-up = c .before .before .before .before .before .before .before .before in
@@ -66,18 +36,18 @@ pub shift-spec : {M : Type 1} → statement M
 shift-spec =
     tie.close
     (tie.spec
-    loose-requires
-    enum-known-checked
-    same-length
-    same-length-2
-    same-length-3
-    same-length-4
+    (λ c κs. search needs)
+    (λ c. search needs)
+    (λ c. search needs)
+    (λ c. search needs)
+    (λ c. search needs)
+    (λ c. search needs)
     returns
     enum-told
     graded-requires
     close-up-requires
-    same-length-5
-    same-length-6
-    same-length-7
-    same-length-8
+    (λ c. search needs)
+    (λ c. search needs)
+    (λ c. search needs)
+    (λ c. search needs)
     returns-2)

@@ -16,20 +16,11 @@ abbrev μ-loop : tie.MeasureT-loop
 loop-holds : tie.Need-loop-holds Inv-loop μ-loop
 loop-holds c = moving-start _ (c .args .at) (c .args .held) (c .pre .0) (c .pre .1)
 
-add-loop : tie.Need-add-loop Inv-loop μ-loop
-add-loop c = search needs
-
-add-buffer : tie.Need-add-buffer Inv-loop μ-loop
-add-buffer c = search needs
-
 slice-read-buffer : tie.Need-slice-read-buffer Inv-loop μ-loop
 slice-read-buffer c = omega (arith, c .before .loop-test .taken, c .before .before .loop .inv .room, c .before .before .loop .inv .long)
 
 slice-write-buffer : tie.Need-slice-write-buffer Inv-loop μ-loop
 slice-write-buffer c = omega (arith, c .before .loop-test .taken, c .before .before .loop .inv .room, c .before .before .loop .inv .long)
-
-add-i : tie.Need-add-i Inv-loop μ-loop
-add-i c = search needs
 
 loop-less : tie.Need-loop-less Inv-loop μ-loop
 loop-less c = omega (arith, c .before .loop-test .taken)
@@ -50,11 +41,11 @@ move-front-spec =
     Inv-loop
     μ-loop
     loop-holds
-    add-loop
-    add-buffer
+    (λ c. search needs)
+    (λ c. search needs)
     slice-read-buffer
     slice-write-buffer
-    add-i
+    (λ c. search needs)
     loop-less
     loop-again
     same-length

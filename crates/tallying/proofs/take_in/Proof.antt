@@ -26,26 +26,17 @@ loop-holds c =
 sub-is-enough : tie.Need-sub-is-enough Inv-loop μ-loop
 sub-is-enough c = c .loop .inv .0 .inside
 
-is-enough-requires : tie.Need-is-enough-requires Inv-loop μ-loop
-is-enough-requires c κs = search needs
-
 sub-step : tie.Need-sub-step Inv-loop μ-loop
 sub-step c = c .before .before .loop .inv .0 .inside
 
 part-step-start : tie.Need-part-step-start Inv-loop μ-loop
 part-step-start c = c .before .before .loop .inv .0 .inside
 
-part-step-end : tie.Need-part-step-end Inv-loop μ-loop
-part-step-end c = search needs
-
 step-requires : tie.Need-step-requires Inv-loop μ-loop
 step-requires c κs =
     let at-loop = c .before .before .before .before .before .before .before .before .before .before .before in
     let entry = c .before .before .before .before .before .before .before .before .before .before .before .before .before .before .before .before .before .before .before .before .before in
     (long-room (at-loop .loop .inv .1) (entry .pre .0), (long-few (at-loop .loop .inv .1) (entry .pre .1 .0), at-loop .loop .inv .0 .small))
-
-enum-known-stepped : tie.Need-enum-known-stepped Inv-loop μ-loop
-enum-known-stepped c = search needs
 
 add-at : tie.Need-add-at Inv-loop μ-loop
 add-at c =
@@ -81,9 +72,6 @@ loop-again c =
         words-long = omega (arith, at-step .step .kept, long .words-long);
       },
     )
-
-enum-known-stepped-2 : tie.Need-enum-known-stepped-2 Inv-loop μ-loop
-enum-known-stepped-2 c = search needs
 
 same-length : tie.Need-same-length Inv-loop μ-loop
 same-length c =
@@ -168,16 +156,16 @@ take-in-spec =
     μ-loop
     loop-holds
     sub-is-enough
-    is-enough-requires
+    (λ c κs. search needs)
     sub-step
     part-step-start
-    part-step-end
+    (λ c. search needs)
     step-requires
-    enum-known-stepped
+    (λ c. search needs)
     add-at
     loop-less
     loop-again
-    enum-known-stepped-2
+    (λ c. search needs)
     same-length
     same-length-2
     same-length-3

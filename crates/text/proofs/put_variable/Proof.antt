@@ -5,17 +5,11 @@ use borrow.Author.Needs.{needs}
 use Rattle.text.proofs.put_variable.Statement.{statement}
 use Rattle.text.proofs.put_variable.Tie as tie
 
-shared-slice-read-if1 : tie.Need-shared-slice-read-if1
-shared-slice-read-if1 c = search needs
-
 returns : tie.Need-returns
 returns c =
     let entry = c .before .before .before .before .before in
     let a = entry .args in
     shows-none (now (a .start)) (now (a .values)) (a .i) (not-free (now (a .start)) (now (a .values)) (a .i) (c .if1 .taken))
-
-shared-slice-read-value : tie.Need-shared-slice-read-value
-shared-slice-read-value c = search needs
 
 returns-2 : tie.Need-returns-2
 returns-2 c =
@@ -23,15 +17,6 @@ returns-2 c =
     let a = entry .args in
     shows-none (now (a .start)) (now (a .values)) (a .i) (still-free (now (a .start)) (now (a .values)) (a .i) (c .before .before .if1 .left)
     (c .if2 .taken))
-
-put-forced-requires : tie.Need-put-forced-requires
-put-forced-requires c κs = search needs
-
-add-t14 : tie.Need-add-t14
-add-t14 c = search needs
-
-same-length : tie.Need-same-length
-same-length c = search needs
 
 returns-3 : tie.Need-returns-3
 returns-3 c =
@@ -47,11 +32,11 @@ pub put-variable-spec : {M : Type 1} → statement M
 put-variable-spec =
     tie.close
     (tie.spec
-    shared-slice-read-if1
+    (λ c. search needs)
     returns
-    shared-slice-read-value
+    (λ c. search needs)
     returns-2
-    put-forced-requires
-    add-t14
-    same-length
+    (λ c κs. search needs)
+    (λ c. search needs)
+    (λ c. search needs)
     returns-3)

@@ -19,17 +19,8 @@ loop-holds c = show-start _ _ _ _
 put-variable-requires : tie.Need-put-variable-requires Inv-loop μ-loop
 put-variable-requires c κs = omega (arith, c .before .before .loop .inv .shows .short)
 
-add-i : tie.Need-add-i Inv-loop μ-loop
-add-i c = search needs
-
-loop-less : tie.Need-loop-less Inv-loop μ-loop
-loop-less c = omega arith
-
 loop-again : tie.Need-loop-again Inv-loop μ-loop
 loop-again c = show-turn (c .before .before .before .before .before .loop .inv) (omega arith) (c .before .before .put-variable .kept .0) (c .before .before .put-variable .ensures)
-
-same-length : tie.Need-same-length Inv-loop μ-loop
-same-length c = search needs
 
 returns : tie.Need-returns Inv-loop μ-loop
 returns c = show-done (c .before .loop .inv) (omega arith)
@@ -42,8 +33,8 @@ put-variables-spec =
     μ-loop
     loop-holds
     put-variable-requires
-    add-i
-    loop-less
+    (λ c. search needs)
+    (λ c. omega arith)
     loop-again
-    same-length
+    (λ c. search needs)
     returns)

@@ -7,12 +7,6 @@ use borrow.Author.Needs.{needs}
 use Rattle.text.proofs.write_answer.Statement.{statement}
 use Rattle.text.proofs.write_answer.Tie as tie
 
-put-grade-requires : tie.Need-put-grade-requires
-put-grade-requires c κs = search needs
-
-put-variables-requires : tie.Need-put-variables-requires
-put-variables-requires c κs = search needs
-
 put-end-requires : tie.Need-put-end-requires
 put-end-requires c κs =
     let at-put-variables = c .before .before .before in
@@ -29,9 +23,6 @@ put-end-requires c κs =
       at-put-grade .put-grade .kept .0,
       entry .pre,
     )
-
-same-length : tie.Need-same-length
-same-length c = search needs
 
 returns : tie.Need-returns
 returns c =
@@ -51,4 +42,4 @@ returns c =
 pub write-answer-spec : {M : Type 1} → statement M
 write-answer-spec =
     tie.close
-    (tie.spec put-grade-requires put-variables-requires put-end-requires same-length returns)
+    (tie.spec (λ c κs. search needs) (λ c κs. search needs) put-end-requires (λ c. search needs) returns)

@@ -6,30 +6,6 @@ use Rattle.twin.proofs.Halfway.{probe-asks, from-start, keep-asks, lay-
 use Rattle.twin.proofs.first_probe.Statement.{statement}
 use Rattle.twin.proofs.first_probe.Tie as tie
 
-add-base : tie.Need-add-base
-add-base c = omega arith
-
-mul-base : tie.Need-mul-base
-mul-base c = omega arith
-
-add-base-2 : tie.Need-add-base-2
-add-base-2 c = omega arith
-
-add-first : tie.Need-add-first
-add-first c = omega arith
-
-add-first-2 : tie.Need-add-first-2
-add-first-2 c = omega arith
-
-add-kept : tie.Need-add-kept
-add-kept c = omega arith
-
-add-kept-2 : tie.Need-add-kept-2
-add-kept-2 c = omega arith
-
-add-kept-3 : tie.Need-add-kept-3
-add-kept-3 c = omega arith
-
 probe-requires : tie.Need-probe-requires
 probe-requires c κs =
     probe-asks
@@ -134,14 +110,14 @@ pub first-probe-spec : {M : Type 1} → statement M
 first-probe-spec =
     tie.close
     (tie.spec
-    add-base
-    mul-base
-    add-base-2
-    add-first
-    add-first-2
-    add-kept
-    add-kept-2
-    add-kept-3
+    (λ c. omega arith)
+    (λ c. omega arith)
+    (λ c. omega arith)
+    (λ c. omega arith)
+    (λ c. omega arith)
+    (λ c. omega arith)
+    (λ c. omega arith)
+    (λ c. omega arith)
     probe-requires
     keep-requires
     lay-requires

@@ -7,30 +7,6 @@ use Rattle.twin.proofs.Twinned.{emit-asks, emit-asks-2, emitted-touched
 use Rattle.twin.proofs.second_probe.Statement.{statement}
 use Rattle.twin.proofs.second_probe.Tie as tie
 
-add-base : tie.Need-add-base
-add-base c = omega arith
-
-mul-base : tie.Need-mul-base
-mul-base c = omega arith
-
-add-base-2 : tie.Need-add-base-2
-add-base-2 c = omega arith
-
-add-first : tie.Need-add-first
-add-first c = omega arith
-
-add-first-2 : tie.Need-add-first-2
-add-first-2 c = omega arith
-
-add-at : tie.Need-add-at
-add-at c = omega arith
-
-add-kept : tie.Need-add-kept
-add-kept c = omega arith
-
-add-kept-2 : tie.Need-add-kept-2
-add-kept-2 c = omega arith
-
 probe-requires : tie.Need-probe-requires
 probe-requires c κs =
     probe-asks
@@ -147,14 +123,14 @@ pub second-probe-spec : {M : Type 1} → statement M
 second-probe-spec =
     tie.close
     (tie.spec
-    add-base
-    mul-base
-    add-base-2
-    add-first
-    add-first-2
-    add-at
-    add-kept
-    add-kept-2
+    (λ c. omega arith)
+    (λ c. omega arith)
+    (λ c. omega arith)
+    (λ c. omega arith)
+    (λ c. omega arith)
+    (λ c. omega arith)
+    (λ c. omega arith)
+    (λ c. omega arith)
     probe-requires
     emit-list-requires
     emit-list-requires-2

@@ -5,9 +5,6 @@ use Rattle.walking.specs.Walk.{endAfter}
 use Rattle.walking.proofs.end_after.Statement.{statement}
 use Rattle.walking.proofs.end_after.Tie as tie
 
-sub-if1 : tie.Need-sub-if1
-sub-if1 c = search needs
-
 returns : tie.Need-returns
 unfolding endAfter
 returns c = rw (le-leb _ _ (c .if1 .taken))
@@ -17,4 +14,4 @@ unfolding endAfter
 returns-2 c = rw (lt-leb _ _ (c .if1 .left))
 
 pub end-after-spec : {M : Type 1} → statement M
-end-after-spec = tie.close (tie.spec sub-if1 returns returns-2)
+end-after-spec = tie.close (tie.spec (λ c. search needs) returns returns-2)

@@ -5,9 +5,6 @@ use borrow.Author.Needs.{needs}
 use Rattle.walking.proofs.held_of.Statement.{statement}
 use Rattle.walking.proofs.held_of.Tie as tie
 
-enum-known-merged : tie.Need-enum-known-merged
-enum-known-merged c = search needs
-
 enum-told : tie.Need-enum-told
 enum-told c = search needs
 
@@ -20,4 +17,4 @@ unfolding heldOf
 returns-2 c = sym (ap heldOf (c .enum-told .given .1))
 
 pub held-of-spec : {M : Type 1} → statement M
-held-of-spec = tie.close (tie.spec enum-known-merged enum-told returns returns-2)
+held-of-spec = tie.close (tie.spec (λ c. search needs) enum-told returns returns-2)

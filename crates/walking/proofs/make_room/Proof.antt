@@ -5,21 +5,9 @@ use borrow.Author.Needs.{needs}
 use Rattle.walking.proofs.make_room.Statement.{statement}
 use Rattle.walking.proofs.make_room.Tie as tie
 
-sub-if1 : tie.Need-sub-if1
-sub-if1 c = search needs
-
 returns : tie.Need-returns
 unfolding roomed
 returns c = rw (le-leb _ _ (c .if1 .taken))
-
-flush-requires : tie.Need-flush-requires
-flush-requires c κs = search needs
-
-same-length : tie.Need-same-length
-same-length c = search needs
-
-same-length-2 : tie.Need-same-length-2
-same-length-2 c = search needs
 
 returns-2 : tie.Need-returns-2
 unfolding roomed
@@ -27,4 +15,4 @@ returns-2 c = rw (lt-leb _ _ (c .before .before .before .before .before .before 
 
 pub make-room-spec : {M : Type 1} → statement M
 make-room-spec =
-    tie.close (tie.spec sub-if1 returns flush-requires same-length same-length-2 returns-2)
+    tie.close (tie.spec (λ c. search needs) returns (λ c κs. search needs) (λ c. search needs) (λ c. search needs) returns-2)

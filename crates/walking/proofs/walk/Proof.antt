@@ -14,33 +14,6 @@ Inv-loop c rows cols q start values₀ list₀ f₀ u₀ known count n at lo hel
 abbrev μ-loop : tie.MeasureT-loop
 μ-loop c rows cols q start values₀ list₀ f₀ u₀ known count n at lo held₀ end₀ h₀ values list f u held end h = count - h
 
-add-at : tie.Need-add-at Inv-loop μ-loop
-add-at c = search needs
-
-mul-at : tie.Need-mul-at Inv-loop μ-loop
-mul-at c = search needs
-
-add-at-2 : tie.Need-add-at-2 Inv-loop μ-loop
-add-at-2 c = search needs
-
-add-at-3 : tie.Need-add-at-3 Inv-loop μ-loop
-add-at-3 c = search needs
-
-add-at-4 : tie.Need-add-at-4 Inv-loop μ-loop
-add-at-4 c = search needs
-
-add-at-5 : tie.Need-add-at-5 Inv-loop μ-loop
-add-at-5 c = search needs
-
-add-at-6 : tie.Need-add-at-6 Inv-loop μ-loop
-add-at-6 c = search needs
-
-add-lo : tie.Need-add-lo Inv-loop μ-loop
-add-lo c = search needs
-
-add-lo-2 : tie.Need-add-lo-2 Inv-loop μ-loop
-add-lo-2 c = search needs
-
 loop-holds : tie.Need-loop-holds Inv-loop μ-loop
 loop-holds c = walking-start (c .before .before .before .before .before .before .before .before .before .pre .0) (c .before .before .before .before .before .before .before .before .before .pre .1) _
 
@@ -78,24 +51,6 @@ returns c = (
       (c .before .before .before .before .before .before .make-room .ensures)
       (c .enum-told .given .1),
 )
-
-enum-told-2 : tie.Need-enum-told-2 Inv-loop μ-loop
-enum-told-2 c = search needs
-
-held-of-requires : tie.Need-held-of-requires Inv-loop μ-loop
-held-of-requires c κs = search needs
-
-add-wide-word : tie.Need-add-wide-word Inv-loop μ-loop
-add-wide-word c = search needs
-
-mul-wide-word : tie.Need-mul-wide-word Inv-loop μ-loop
-mul-wide-word c = search needs
-
-slice-read-wide-word : tie.Need-slice-read-wide-word Inv-loop μ-loop
-slice-read-wide-word c = search needs
-
-wide-word-requires : tie.Need-wide-word-requires Inv-loop μ-loop
-wide-word-requires c κs = search needs
 
 twin-requires : tie.Need-twin-requires Inv-loop μ-loop
 twin-requires c κs =
@@ -168,15 +123,15 @@ walk-spec =
     (tie.spec
     Inv-loop
     μ-loop
-    add-at
-    mul-at
-    add-at-2
-    add-at-3
-    add-at-4
-    add-at-5
-    add-at-6
-    add-lo
-    add-lo-2
+    (λ c. search needs)
+    (λ c. search needs)
+    (λ c. search needs)
+    (λ c. search needs)
+    (λ c. search needs)
+    (λ c. search needs)
+    (λ c. search needs)
+    (λ c. search needs)
+    (λ c. search needs)
     loop-holds
     end-after-requires
     make-room-requires
@@ -186,12 +141,12 @@ walk-spec =
     same-length-3
     same-length-4
     returns
-    enum-told-2
-    held-of-requires
-    add-wide-word
-    mul-wide-word
-    slice-read-wide-word
-    wide-word-requires
+    (λ c. search needs)
+    (λ c κs. search needs)
+    (λ c. search needs)
+    (λ c. search needs)
+    (λ c. search needs)
+    (λ c κs. search needs)
     twin-requires
     add-h
     loop-less

@@ -9,17 +9,11 @@ use Rattle.weights.proofs.PatternLaws.{at-zero-small}
 use Rattle.weights.proofs.beyond.Statement.{statement}
 use Rattle.weights.proofs.beyond.Tie as tie
 
-add-result : tie.Need-add-result
-add-result c = search needs
-
 cast-result : tie.Need-cast-result
 cast-result c = omega (arith, trailing-le 64 (c .args .b % lead + lead))
 
 add-result-2 : tie.Need-add-result-2
 add-result-2 c = omega (arith, trailing-le 64 (c .args .b % lead + lead))
-
-at-zero-requires : tie.Need-at-zero-requires
-at-zero-requires c κs = search needs
 
 add-result-3 : tie.Need-add-result-3
 add-result-3 c = omega (arith, trailing-le 64 (c .before .args .b % lead + lead), at-zero-small (c .before .args .b), c .at-zero .ensures)
@@ -29,4 +23,4 @@ unfolding beyond
 returns c = ap (λ (z : ℕ). c .before .args .b / lead + trailingZeros 64 (c .before .args .b % lead + lead) + z) (c .at-zero .ensures)
 
 pub beyond-spec : {M : Type 1} → statement M
-beyond-spec = tie.close (tie.spec add-result cast-result add-result-2 at-zero-requires add-result-3 returns)
+beyond-spec = tie.close (tie.spec (λ c. search needs) cast-result add-result-2 (λ c κs. search needs) add-result-3 returns)

@@ -16,35 +16,14 @@ Inv-loop c rows cols q grade start count f₀ u n members h₀ f h = Turning (fi
 abbrev μ-loop : tie.MeasureT-loop
 μ-loop c rows cols q grade start count f₀ u n members h₀ f h = count - h
 
-add-members : tie.Need-add-members Inv-loop μ-loop
-add-members c = search needs
-
-mul-members : tie.Need-mul-members Inv-loop μ-loop
-mul-members c = search needs
-
-add-members-2 : tie.Need-add-members-2 Inv-loop μ-loop
-add-members-2 c = search needs
-
-add-members-3 : tie.Need-add-members-3 Inv-loop μ-loop
-add-members-3 c = search needs
-
-add-members-4 : tie.Need-add-members-4 Inv-loop μ-loop
-add-members-4 c = search needs
-
 loop-holds : tie.Need-loop-holds Inv-loop μ-loop
 loop-holds c = (turning-start _ (c .before .before .before .before .before .before .before .pre .0), refl)
 
 add-wide-word : tie.Need-add-wide-word Inv-loop μ-loop
 add-wide-word c = omega (arith, member-index (c .before .before .before .before .before .before .before .before .before .pre .0) (c .before .loop .h) (c .loop-test .taken))
 
-mul-wide-word : tie.Need-mul-wide-word Inv-loop μ-loop
-mul-wide-word c = search needs
-
 shared-slice-read-wide-word : tie.Need-shared-slice-read-wide-word Inv-loop μ-loop
 shared-slice-read-wide-word c = member-index (c .before .before .before .before .before .before .before .before .before .before .pre .0) (c .before .before .loop .h) (c .before .loop-test .taken)
-
-wide-word-requires : tie.Need-wide-word-requires Inv-loop μ-loop
-wide-word-requires c κs = search needs
 
 shared-slice-read-if1 : tie.Need-shared-slice-read-if1 Inv-loop μ-loop
 shared-slice-read-if1 c =
@@ -85,9 +64,6 @@ returns-2 c =
     (c .before .before .before .before .before .before .before .before .before .loop-test .taken) (c .before .before .before .before .before .before .before .wide-word .ensures)
     (c .before .before .before .before .before .if1 .left) (c .before .before .before .is-balanced .ensures) (not-true _ (c .if2 .taken))
 
-add-h : tie.Need-add-h Inv-loop μ-loop
-add-h c = search needs
-
 loop-less : tie.Need-loop-less Inv-loop μ-loop
 loop-less c = omega (arith, c .before .before .before .before .before .before .before .before .before .loop-test .taken)
 
@@ -111,23 +87,23 @@ all-turnable-spec =
     (tie.spec
     Inv-loop
     μ-loop
-    add-members
-    mul-members
-    add-members-2
-    add-members-3
-    add-members-4
+    (λ c. search needs)
+    (λ c. search needs)
+    (λ c. search needs)
+    (λ c. search needs)
+    (λ c. search needs)
     loop-holds
     add-wide-word
-    mul-wide-word
+    (λ c. search needs)
     shared-slice-read-wide-word
-    wide-word-requires
+    (λ c κs. search needs)
     shared-slice-read-if1
     same-length
     returns
     is-balanced-requires
     same-length-2
     returns-2
-    add-h
+    (λ c. search needs)
     loop-less
     loop-again
     same-length-3

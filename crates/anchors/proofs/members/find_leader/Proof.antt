@@ -14,21 +14,6 @@ Inv-loop c rows cols q first count u n members weight leader₀ p₀ leader p = 
 abbrev μ-loop : tie.MeasureT-loop
 μ-loop c rows cols q first count u n members weight leader₀ p₀ leader p = count - p
 
-add-members : tie.Need-add-members Inv-loop μ-loop
-add-members c = search needs
-
-mul-members : tie.Need-mul-members Inv-loop μ-loop
-mul-members c = search needs
-
-add-members-2 : tie.Need-add-members-2 Inv-loop μ-loop
-add-members-2 c = search needs
-
-add-members-3 : tie.Need-add-members-3 Inv-loop μ-loop
-add-members-3 c = search needs
-
-add-members-4 : tie.Need-add-members-4 Inv-loop μ-loop
-add-members-4 c = search needs
-
 weigh-requires : tie.Need-weigh-requires Inv-loop μ-loop
 weigh-requires c κs =
     record
@@ -40,25 +25,13 @@ loop-holds c = leading-start _ (c .before .before .before .before .before .befor
 add-wide-word : tie.Need-add-wide-word Inv-loop μ-loop
 add-wide-word c = omega (arith, member-index (c .before .before .before .before .before .before .before .before .pre .0) (c .before .loop .p) (c .loop-test .taken))
 
-mul-wide-word : tie.Need-mul-wide-word Inv-loop μ-loop
-mul-wide-word c = search needs
-
 shared-slice-read-wide-word : tie.Need-shared-slice-read-wide-word Inv-loop μ-loop
 shared-slice-read-wide-word c = member-index (c .before .before .before .before .before .before .before .before .before .pre .0) (c .before .before .loop .p) (c .before .loop-test .taken)
-
-wide-word-requires : tie.Need-wide-word-requires Inv-loop μ-loop
-wide-word-requires c κs = search needs
 
 weigh-requires-2 : tie.Need-weigh-requires-2 Inv-loop μ-loop
 weigh-requires-2 c κs =
     member-walkable (c .before .before .before .before .before .before .before .before .before .before .pre .0) (c .before .before .before .loop .p) (c .before .before .loop-test .taken)
     (c .wide-word .ensures)
-
-against-requires : tie.Need-against-requires Inv-loop μ-loop
-against-requires c κs = search needs
-
-add-p : tie.Need-add-p Inv-loop μ-loop
-add-p c = search needs
 
 loop-less : tie.Need-loop-less Inv-loop μ-loop
 loop-less c = omega (arith, c .before .before .before .before .loop-test .taken)
@@ -77,20 +50,20 @@ find-leader-spec =
     (tie.spec
     Inv-loop
     μ-loop
-    add-members
-    mul-members
-    add-members-2
-    add-members-3
-    add-members-4
+    (λ c. search needs)
+    (λ c. search needs)
+    (λ c. search needs)
+    (λ c. search needs)
+    (λ c. search needs)
     weigh-requires
     loop-holds
     add-wide-word
-    mul-wide-word
+    (λ c. search needs)
     shared-slice-read-wide-word
-    wide-word-requires
+    (λ c κs. search needs)
     weigh-requires-2
-    against-requires
-    add-p
+    (λ c κs. search needs)
+    (λ c. search needs)
     loop-less
     loop-again
     returns)

@@ -19,9 +19,6 @@ loop-holds c = search-start _ (c .before .before .before .before .before .before
 visit-requires : tie.Need-visit-requires Inv-loop μ-loop
 visit-requires c κs = (c .before .before .before .before .loop .inv .standing, (c .before .before .before .loop-test .taken, (c .before .before .before .before .loop .inv .few, c .before .before .before .before .before .before .before .before .before .before .before .before .before .pre .1 .1)))
 
-add-i : tie.Need-add-i Inv-loop μ-loop
-add-i c = search needs
-
 loop-less : tie.Need-loop-less Inv-loop μ-loop
 loop-less c = omega (arith, c .before .before .before .before .before .before .before .before .before .before .loop-test .taken)
 
@@ -52,7 +49,7 @@ search-spec =
     μ-loop
     loop-holds
     visit-requires
-    add-i
+    (λ c. search needs)
     loop-less
     loop-again
     same-length

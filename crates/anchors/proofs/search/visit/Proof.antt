@@ -7,15 +7,6 @@ use borrow.Author.Needs.{needs}
 use Rattle.anchors.proofs.search.visit.Statement.{statement}
 use Rattle.anchors.proofs.search.visit.Tie as tie
 
-add-if1 : tie.Need-add-if1
-add-if1 c = search needs
-
-mul-if1 : tie.Need-mul-if1
-mul-if1 c = search needs
-
-add-if1-2 : tie.Need-add-if1-2
-add-if1-2 c = search needs
-
 add-if1-3 : tie.Need-add-if1-3
 add-if1-3 c =
     omega (
@@ -23,9 +14,6 @@ add-if1-3 c =
       mark-index (c .before .before .before .before .before .before .before .before .pre .0 .placed) (c .before .before .before .before .before .before .before .before .args .i)
           (c .before .before .before .before .before .before .before .before .pre .1 .0),
     )
-
-mul-if1-2 : tie.Need-mul-if1-2
-mul-if1-2 c = search needs
 
 slice-read-if1 : tie.Need-slice-read-if1
 slice-read-if1 c =
@@ -99,9 +87,6 @@ cast-store c =
       c .before .before .before .before .before .before .before .before .before .before .before .before .before .before .before .before .before .before .before .before .before .before .before .before .pre .0 .placed .shaped .few-variables,
     )
 
-store-requires : tie.Need-store-requires
-store-requires c κs = search needs
-
 add-result : tie.Need-add-result
 add-result c =
     omega (
@@ -135,11 +120,11 @@ pub visit-spec : {M : Type 1} → statement M
 visit-spec =
     tie.close
     (tie.spec
-    add-if1
-    mul-if1
-    add-if1-2
+    (λ c. search needs)
+    (λ c. search needs)
+    (λ c. search needs)
     add-if1-3
-    mul-if1-2
+    (λ c. search needs)
     slice-read-if1
     returns
     walk-requires
@@ -151,7 +136,7 @@ visit-spec =
     returns-3
     find-leader-requires
     cast-store
-    store-requires
+    (λ c κs. search needs)
     add-result
     same-length-4
     same-length-5

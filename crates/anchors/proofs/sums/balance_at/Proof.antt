@@ -5,20 +5,8 @@ use borrow.Author.Needs.{needs}
 use Rattle.anchors.proofs.sums.balance_at.Statement.{statement}
 use Rattle.anchors.proofs.sums.balance_at.Tie as tie
 
-mul-entry : tie.Need-mul-entry
-mul-entry c = search needs
-
-shared-slice-read-entry : tie.Need-shared-slice-read-entry
-shared-slice-read-entry c = search needs
-
-mul-if1 : tie.Need-mul-if1
-mul-if1 c = search needs
-
 shared-slice-read-if1 : tie.Need-shared-slice-read-if1
 shared-slice-read-if1 c = omega (arith, c .before .before .before .before .before .before .before .pre .0 .rows-long, c .before .before .before .before .before .before .before .pre .1)
-
-mul-if1-2 : tie.Need-mul-if1-2
-mul-if1-2 c = search needs
 
 shared-slice-read-if1-2 : tie.Need-shared-slice-read-if1-2
 shared-slice-read-if1-2 c = omega (arith, c .before .before .before .before .before .before .before .before .pre .0 .cols-long, c .before .before .before .before .before .before .before .before .pre .1)
@@ -26,17 +14,11 @@ shared-slice-read-if1-2 c = omega (arith, c .before .before .before .before .bef
 add-requires : tie.Need-add-requires
 add-requires c κs = c .before .before .before .before .before .before .before .before .before .before .pre .1 .1
 
-same-length : tie.Need-same-length
-same-length c = search needs
-
 returns : tie.Need-returns
 returns c = adds-twice _ _ (c .before .before .before .before .if1 .taken) (c .before .before .add .ensures)
 
 add-requires-2 : tie.Need-add-requires-2
 add-requires-2 c κs = c .before .before .before .before .before .before .before .before .before .before .before .pre .1 .1
-
-same-length-2 : tie.Need-same-length-2
-same-length-2 c = search needs
 
 returns-2 : tie.Need-returns-2
 returns-2 c = adds-once _ _ (c .before .before .before .before .before .if1 .left) (c .before .before .before .before .if2 .taken) (c .before .before .add2 .ensures)
@@ -48,16 +30,16 @@ pub balance-at-spec : {M : Type 1} → statement M
 balance-at-spec =
     tie.close
     (tie.spec
-    mul-entry
-    shared-slice-read-entry
-    mul-if1
+    (λ c. search needs)
+    (λ c. search needs)
+    (λ c. search needs)
     shared-slice-read-if1
-    mul-if1-2
+    (λ c. search needs)
     shared-slice-read-if1-2
     add-requires
-    same-length
+    (λ c. search needs)
     returns
     add-requires-2
-    same-length-2
+    (λ c. search needs)
     returns-2
     returns-3)

@@ -15,21 +15,9 @@ Inv-loop c rows cols q i f₀ u n start end sum₀ p₀ f sum p = Balancing (fie
 abbrev μ-loop : tie.MeasureT-loop
 μ-loop c rows cols q i f₀ u n start end sum₀ p₀ f sum p = end - p
 
-mul-wide-word : tie.Need-mul-wide-word Inv-loop μ-loop
-mul-wide-word c = search needs
-
 shared-slice-read-wide-word : tie.Need-shared-slice-read-wide-word Inv-loop μ-loop
 shared-slice-read-wide-word c =
     omega (arith, c .before .before .before .before .before .before .before .pre .0 .adjacent .room, c .before .before .before .before .before .before .before .pre .0 .below)
-
-wide-word-requires : tie.Need-wide-word-requires Inv-loop μ-loop
-wide-word-requires c κs = search needs
-
-add-wide-word : tie.Need-add-wide-word Inv-loop μ-loop
-add-wide-word c = search needs
-
-mul-wide-word-2 : tie.Need-mul-wide-word-2 Inv-loop μ-loop
-mul-wide-word-2 c = search needs
 
 shared-slice-read-wide-word-2 : tie.Need-shared-slice-read-wide-word-2 Inv-loop μ-loop
 shared-slice-read-wide-word-2 c =
@@ -38,12 +26,6 @@ shared-slice-read-wide-word-2 c =
       c .before .before .before .before .before .before .before .before .before .pre .0 .adjacent .room,
       c .before .before .before .before .before .before .before .before .before .pre .0 .below,
     )
-
-wide-word-requires-2 : tie.Need-wide-word-requires-2 Inv-loop μ-loop
-wide-word-requires-2 c κs = search needs
-
-mul-add : tie.Need-mul-add Inv-loop μ-loop
-mul-add c = search needs
 
 shared-slice-read-add : tie.Need-shared-slice-read-add Inv-loop μ-loop
 shared-slice-read-add c = omega (arith, c .before .before .before .before .before .before .before .before .before .before .before .before .pre .0 .below)
@@ -70,9 +52,6 @@ mul-entry-in c = omega (arith, walk-turn (c .before .loop .inv .along .walk) (c 
 shared-slice-read-entry-in : tie.Need-shared-slice-read-entry-in Inv-loop μ-loop
 shared-slice-read-entry-in c = walk-turn (c .before .before .loop .inv .along .walk) (c .before .loop-test .taken) .index
 
-entry-in-requires : tie.Need-entry-in-requires Inv-loop μ-loop
-entry-in-requires c κs = search needs
-
 balance-at-requires : tie.Need-balance-at-requires Inv-loop μ-loop
 balance-at-requires c κs = (
   c .before .before .before .before .before .before .before .before .before .before .before .before .before .before .before .before .before .before .before .before .pre .0 .shaped,
@@ -87,9 +66,6 @@ balance-at-requires c κs = (
   ),
 )
 
-add-p : tie.Need-add-p Inv-loop μ-loop
-add-p c = search needs
-
 loop-less : tie.Need-loop-less Inv-loop μ-loop
 loop-less c = omega (arith, c .before .before .before .before .before .before .loop-test .taken)
 
@@ -97,9 +73,6 @@ loop-again : tie.Need-loop-again Inv-loop μ-loop
 loop-again c =
     balance-turn (c .before .before .before .before .before .before .before .loop .inv) (c .before .before .before .before .before .before .loop-test .taken)
     (c .before .before .before .before .entry-in .ensures) (c .before .before .balance-at .kept .1 .1 .1 .1 .1 .1 .0) (c .before .before .balance-at .ensures)
-
-is-zero-requires : tie.Need-is-zero-requires Inv-loop μ-loop
-is-zero-requires c κs = search needs
 
 same-length : tie.Need-same-length Inv-loop μ-loop
 same-length c = c .before .before .loop .inv .long ∙ c .before .before .before .before .before .add .kept .1 .0
@@ -113,14 +86,14 @@ comes-to-zero-spec =
     (tie.spec
     Inv-loop
     μ-loop
-    mul-wide-word
+    (λ c. search needs)
     shared-slice-read-wide-word
-    wide-word-requires
-    add-wide-word
-    mul-wide-word-2
+    (λ c κs. search needs)
+    (λ c. search needs)
+    (λ c. search needs)
     shared-slice-read-wide-word-2
-    wide-word-requires-2
-    mul-add
+    (λ c κs. search needs)
+    (λ c. search needs)
     shared-slice-read-add
     add-requires
     loop-holds
@@ -128,11 +101,11 @@ comes-to-zero-spec =
     add-entry-in-2
     mul-entry-in
     shared-slice-read-entry-in
-    entry-in-requires
+    (λ c κs. search needs)
     balance-at-requires
-    add-p
+    (λ c. search needs)
     loop-less
     loop-again
-    is-zero-requires
+    (λ c κs. search needs)
     same-length
     returns)

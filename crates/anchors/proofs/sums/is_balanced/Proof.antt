@@ -13,14 +13,8 @@ plain-sum-requires c κs = c .before .before .before .before .before .before .be
 returns : tie.Need-returns
 returns c = exact-tells (c .before .before .before .before .before .before .before .before .before .pre .0 .shaped) (c .before .before .before .before .before .before .before .before .before .pre .0 .below) (c .before .before .before .before .before .before .before .before .before .pre .1 .1) (c .before .enum-told .given .1) (c .plain-sum .ensures)
 
-enum-told-2 : tie.Need-enum-told-2
-enum-told-2 c = search needs
-
 comes-to-zero-requires : tie.Need-comes-to-zero-requires
 comes-to-zero-requires c κs = (c .before .before .before .before .before .before .before .before .before .pre .0, c .before .before .before .before .before .before .before .before .before .pre .1 .0)
-
-same-length : tie.Need-same-length
-same-length c = search needs
 
 returns-2 : tie.Need-returns-2
 returns-2 c = c .before .before .comes-to-zero .ensures
@@ -32,7 +26,7 @@ is-balanced-spec =
     enum-told
     plain-sum-requires
     returns
-    enum-told-2
+    (λ c. search needs)
     comes-to-zero-requires
-    same-length
+    (λ c. search needs)
     returns-2)

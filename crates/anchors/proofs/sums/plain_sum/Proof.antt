@@ -14,29 +14,11 @@ Inv-loop c rows cols q i u n start end sum₀ p₀ sum p = Adding (fieldOf c row
 abbrev μ-loop : tie.MeasureT-loop
 μ-loop c rows cols q i u n start end sum₀ p₀ sum p = end - p
 
-mul-wide-word : tie.Need-mul-wide-word Inv-loop μ-loop
-mul-wide-word c = search needs
-
 shared-slice-read-wide-word : tie.Need-shared-slice-read-wide-word Inv-loop μ-loop
 shared-slice-read-wide-word c = omega (arith, c .before .before .before .before .before .before .pre .adjacent .room, c .before .before .before .before .before .before .pre .below)
 
-wide-word-requires : tie.Need-wide-word-requires Inv-loop μ-loop
-wide-word-requires c κs = search needs
-
-add-wide-word : tie.Need-add-wide-word Inv-loop μ-loop
-add-wide-word c = search needs
-
-mul-wide-word-2 : tie.Need-mul-wide-word-2 Inv-loop μ-loop
-mul-wide-word-2 c = search needs
-
 shared-slice-read-wide-word-2 : tie.Need-shared-slice-read-wide-word-2 Inv-loop μ-loop
 shared-slice-read-wide-word-2 c = omega (arith, c .before .before .before .before .before .before .before .before .pre .adjacent .room, c .before .before .before .before .before .before .before .before .pre .below)
-
-wide-word-requires-2 : tie.Need-wide-word-requires-2 Inv-loop μ-loop
-wide-word-requires-2 c κs = search needs
-
-mul-sum : tie.Need-mul-sum Inv-loop μ-loop
-mul-sum c = search needs
 
 shared-slice-read-sum : tie.Need-shared-slice-read-sum Inv-loop μ-loop
 shared-slice-read-sum c = omega (arith, c .before .before .before .before .before .before .before .before .before .before .pre .below)
@@ -56,17 +38,11 @@ mul-entry-in c = omega (arith, walk-turn (c .before .loop .inv .along .walk) (c 
 shared-slice-read-entry-in : tie.Need-shared-slice-read-entry-in Inv-loop μ-loop
 shared-slice-read-entry-in c = walk-turn (c .before .before .loop .inv .along .walk) (c .before .loop-test .taken) .index
 
-entry-in-requires : tie.Need-entry-in-requires Inv-loop μ-loop
-entry-in-requires c κs = search needs
-
 mul-sum-2 : tie.Need-mul-sum-2 Inv-loop μ-loop
 mul-sum-2 c = omega (arith, adding-entry (c .before .before .before .loop .inv) (c .before .before .loop-test .taken) (c .entry-in .ensures), c .before .before .before .before .before .before .before .before .before .before .before .before .before .before .pre .shaped .few-entries)
 
 shared-slice-read-sum-2 : tie.Need-shared-slice-read-sum-2 Inv-loop μ-loop
 shared-slice-read-sum-2 c = adding-entry (c .before .before .before .before .loop .inv) (c .before .before .before .loop-test .taken) (c .before .entry-in .ensures)
-
-add-p : tie.Need-add-p Inv-loop μ-loop
-add-p c = search needs
 
 loop-less : tie.Need-loop-less Inv-loop μ-loop
 loop-less c = omega (arith, c .before .before .before .loop-test .taken)
@@ -83,24 +59,24 @@ plain-sum-spec =
     (tie.spec
     Inv-loop
     μ-loop
-    mul-wide-word
+    (λ c. search needs)
     shared-slice-read-wide-word
-    wide-word-requires
-    add-wide-word
-    mul-wide-word-2
+    (λ c κs. search needs)
+    (λ c. search needs)
+    (λ c. search needs)
     shared-slice-read-wide-word-2
-    wide-word-requires-2
-    mul-sum
+    (λ c κs. search needs)
+    (λ c. search needs)
     shared-slice-read-sum
     loop-holds
     add-entry-in
     add-entry-in-2
     mul-entry-in
     shared-slice-read-entry-in
-    entry-in-requires
+    (λ c κs. search needs)
     mul-sum-2
     shared-slice-read-sum-2
-    add-p
+    (λ c. search needs)
     loop-less
     loop-again
     returns)

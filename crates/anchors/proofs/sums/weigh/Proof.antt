@@ -14,27 +14,12 @@ Inv-loop c rows cols q i u n start end weight₀ p₀ weight p = Weighing (field
 abbrev μ-loop : tie.MeasureT-loop
 μ-loop c rows cols q i u n start end weight₀ p₀ weight p = end - p
 
-mul-wide-word : tie.Need-mul-wide-word Inv-loop μ-loop
-mul-wide-word c = search needs
-
 shared-slice-read-wide-word : tie.Need-shared-slice-read-wide-word Inv-loop μ-loop
 shared-slice-read-wide-word c = omega (arith, c .before .before .before .before .before .before .pre .adjacent .room, c .before .before .before .before .before .before .pre .below)
-
-wide-word-requires : tie.Need-wide-word-requires Inv-loop μ-loop
-wide-word-requires c κs = search needs
-
-add-wide-word : tie.Need-add-wide-word Inv-loop μ-loop
-add-wide-word c = search needs
-
-mul-wide-word-2 : tie.Need-mul-wide-word-2 Inv-loop μ-loop
-mul-wide-word-2 c = search needs
 
 shared-slice-read-wide-word-2 : tie.Need-shared-slice-read-wide-word-2 Inv-loop μ-loop
 shared-slice-read-wide-word-2 c =
     omega (arith, c .before .before .before .before .before .before .before .before .pre .adjacent .room, c .before .before .before .before .before .before .before .before .pre .below)
-
-wide-word-requires-2 : tie.Need-wide-word-requires-2 Inv-loop μ-loop
-wide-word-requires-2 c κs = search needs
 
 loop-holds : tie.Need-loop-holds Inv-loop μ-loop
 loop-holds c = weigh-start (c .before .before .before .before .before .before .before .before .before .pre) (c .before .before .wide-word .ensures) (c .wide-word2 .ensures)
@@ -51,9 +36,6 @@ mul-entry-in c = omega (arith, walk-turn (c .before .loop .inv .along .walk) (c 
 shared-slice-read-entry-in : tie.Need-shared-slice-read-entry-in Inv-loop μ-loop
 shared-slice-read-entry-in c = walk-turn (c .before .before .loop .inv .along .walk) (c .before .loop-test .taken) .index
 
-entry-in-requires : tie.Need-entry-in-requires Inv-loop μ-loop
-entry-in-requires c κs = search needs
-
 weigh-at-requires : tie.Need-weigh-at-requires Inv-loop μ-loop
 weigh-at-requires c κs = (
   c .before .before .before .before .before .before .before .before .before .before .before .before .before .pre .shaped,
@@ -64,9 +46,6 @@ weigh-at-requires c κs = (
     c .before .before .before .before .before .before .before .before .before .before .before .before .before .pre .shaped .rows-long,
   ),
 )
-
-add-p : tie.Need-add-p Inv-loop μ-loop
-add-p c = search needs
 
 loop-less : tie.Need-loop-less Inv-loop μ-loop
 loop-less c = omega (arith, c .before .before .before .loop-test .taken)
@@ -83,21 +62,21 @@ weigh-spec =
     (tie.spec
     Inv-loop
     μ-loop
-    mul-wide-word
+    (λ c. search needs)
     shared-slice-read-wide-word
-    wide-word-requires
-    add-wide-word
-    mul-wide-word-2
+    (λ c κs. search needs)
+    (λ c. search needs)
+    (λ c. search needs)
     shared-slice-read-wide-word-2
-    wide-word-requires-2
+    (λ c κs. search needs)
     loop-holds
     add-entry-in
     add-entry-in-2
     mul-entry-in
     shared-slice-read-entry-in
-    entry-in-requires
+    (λ c κs. search needs)
     weigh-at-requires
-    add-p
+    (λ c. search needs)
     loop-less
     loop-again
     returns)

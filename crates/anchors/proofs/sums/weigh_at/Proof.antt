@@ -5,29 +5,14 @@ use borrow.Author.Needs.{needs}
 use Rattle.anchors.proofs.sums.weigh_at.Statement.{statement}
 use Rattle.anchors.proofs.sums.weigh_at.Tie as tie
 
-mul-entry : tie.Need-mul-entry
-mul-entry c = search needs
-
-shared-slice-read-entry : tie.Need-shared-slice-read-entry
-shared-slice-read-entry c = search needs
-
-mul-if1 : tie.Need-mul-if1
-mul-if1 c = search needs
-
 shared-slice-read-if1 : tie.Need-shared-slice-read-if1
 shared-slice-read-if1 c = omega (arith, c .before .before .before .before .before .before .pre .0 .rows-long, c .before .before .before .before .before .before .pre .1)
-
-mul-if1-2 : tie.Need-mul-if1-2
-mul-if1-2 c = search needs
 
 shared-slice-read-if1-2 : tie.Need-shared-slice-read-if1-2
 shared-slice-read-if1-2 c = omega (arith, c .before .before .before .before .before .before .before .pre .0 .cols-long, c .before .before .before .before .before .before .before .pre .1)
 
 returns : tie.Need-returns
 returns c = weighs-diagonal _ _ _ (c .if1 .taken)
-
-magnitude-requires : tie.Need-magnitude-requires
-magnitude-requires c κs = search needs
 
 returns-2 : tie.Need-returns-2
 returns-2 c = weighs-some _ _ _ (c .before .before .if1 .left) (c .before .if2 .taken) (c .magnitude .ensures)
@@ -39,13 +24,13 @@ pub weigh-at-spec : {M : Type 1} → statement M
 weigh-at-spec =
     tie.close
     (tie.spec
-    mul-entry
-    shared-slice-read-entry
-    mul-if1
+    (λ c. search needs)
+    (λ c. search needs)
+    (λ c. search needs)
     shared-slice-read-if1
-    mul-if1-2
+    (λ c. search needs)
     shared-slice-read-if1-2
     returns
-    magnitude-requires
+    (λ c κs. search needs)
     returns-2
     returns-3)

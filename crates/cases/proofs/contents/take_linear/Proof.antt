@@ -5,9 +5,6 @@ use borrow.Author.Needs.{needs}
 use Rattle.cases.proofs.contents.take_linear.Statement.{statement}
 use Rattle.cases.proofs.contents.take_linear.Tie as tie
 
-slice-relend-prefix-take-floats : tie.Need-slice-relend-prefix-take-floats
-slice-relend-prefix-take-floats c = search needs
-
 slice-aggregate-take-floats : tie.Need-slice-aggregate-take-floats
 slice-aggregate-take-floats c =
     let s = c .before .before .before in
@@ -18,9 +15,6 @@ take-floats-requires c κs =
     let s = c .before .before .before in
     linear-stands (s .args .head) (s .pre .0 .read) (part-fits _ (s .args .c .now) (s .pre .1))
 
-same-length : tie.Need-same-length
-same-length c = search needs
-
 returns : tie.Need-returns
 returns c =
     let s = c .before .before .before .before .before .before in
@@ -30,8 +24,8 @@ pub take-linear-spec : {M : Type 1} → statement M
 take-linear-spec =
     tie.close
     (tie.spec
-    slice-relend-prefix-take-floats
+    (λ c. search needs)
     slice-aggregate-take-floats
     take-floats-requires
-    same-length
+    (λ c. search needs)
     returns)

@@ -5,12 +5,6 @@ use borrow.Author.Needs.{needs}
 use Rattle.cases.proofs.contents.take_rows.Statement.{statement}
 use Rattle.cases.proofs.contents.take_rows.Tie as tie
 
-mul-at : tie.Need-mul-at
-mul-at c = search needs
-
-slice-relend-prefix-take-shorts : tie.Need-slice-relend-prefix-take-shorts
-slice-relend-prefix-take-shorts c = search needs
-
 slice-aggregate-take-shorts : tie.Need-slice-aggregate-take-shorts
 slice-aggregate-take-shorts c =
     let s = c .before .before .before .before in
@@ -21,9 +15,6 @@ take-shorts-requires c κs =
     let s = c .before .before .before .before in
     rows-stand (s .args .head) (s .pre .0 .read) (part-fits _ (s .args .rows .now) (s .pre .1))
 
-same-length : tie.Need-same-length
-same-length c = search needs
-
 returns : tie.Need-returns
 returns c =
     let s = c .before .before .before .before .before .before .before in
@@ -33,9 +24,9 @@ pub take-rows-spec : {M : Type 1} → statement M
 take-rows-spec =
     tie.close
     (tie.spec
-    mul-at
-    slice-relend-prefix-take-shorts
+    (λ c. search needs)
+    (λ c. search needs)
     slice-aggregate-take-shorts
     take-shorts-requires
-    same-length
+    (λ c. search needs)
     returns)

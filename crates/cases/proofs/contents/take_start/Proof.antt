@@ -5,12 +5,6 @@ use borrow.Author.Needs.{needs}
 use Rattle.cases.proofs.contents.take_start.Statement.{statement}
 use Rattle.cases.proofs.contents.take_start.Tie as tie
 
-start-at-requires : tie.Need-start-at-requires
-start-at-requires c κs = search needs
-
-slice-relend-prefix-take-bytes : tie.Need-slice-relend-prefix-take-bytes
-slice-relend-prefix-take-bytes c = search needs
-
 slice-aggregate-take-bytes : tie.Need-slice-aggregate-take-bytes
 slice-aggregate-take-bytes c =
     let s = c .before .before .before .before in
@@ -20,9 +14,6 @@ take-bytes-requires : tie.Need-take-bytes-requires
 take-bytes-requires c κs =
     let s = c .before .before .before .before in
     start-stands (s .args .head) (s .pre .0 .read) _ (c .before .start-at .ensures) (part-fits _ (s .args .start .now) (s .pre .1))
-
-same-length : tie.Need-same-length
-same-length c = search needs
 
 returns : tie.Need-returns
 returns c =
@@ -34,9 +25,9 @@ pub take-start-spec : {M : Type 1} → statement M
 take-start-spec =
     tie.close
     (tie.spec
-    start-at-requires
-    slice-relend-prefix-take-bytes
+    (λ c κs. search needs)
+    (λ c. search needs)
     slice-aggregate-take-bytes
     take-bytes-requires
-    same-length
+    (λ c. search needs)
     returns)

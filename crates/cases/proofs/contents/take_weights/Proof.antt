@@ -5,24 +5,6 @@ use borrow.Author.Needs.{needs}
 use Rattle.cases.proofs.contents.take_weights.Statement.{statement}
 use Rattle.cases.proofs.contents.take_weights.Tie as tie
 
-mul-at : tie.Need-mul-at
-mul-at c = search needs
-
-mul-at-2 : tie.Need-mul-at-2
-mul-at-2 c = search needs
-
-add-at : tie.Need-add-at
-add-at c = search needs
-
-mul-at-3 : tie.Need-mul-at-3
-mul-at-3 c = search needs
-
-add-at-2 : tie.Need-add-at-2
-add-at-2 c = search needs
-
-slice-relend-prefix-take-floats : tie.Need-slice-relend-prefix-take-floats
-slice-relend-prefix-take-floats c = search needs
-
 slice-aggregate-take-floats : tie.Need-slice-aggregate-take-floats
 slice-aggregate-take-floats c =
     let s = c .before .before .before .before .before .before in
@@ -33,9 +15,6 @@ take-floats-requires c κs =
     let s = c .before .before .before .before .before .before in
     weights-stand (s .args .head) (s .pre .0 .read) (part-fits _ (s .args .q .now) (s .pre .1))
 
-same-length : tie.Need-same-length
-same-length c = search needs
-
 returns : tie.Need-returns
 returns c =
     let s = c .before .before .before .before .before .before .before .before .before in
@@ -45,13 +24,13 @@ pub take-weights-spec : {M : Type 1} → statement M
 take-weights-spec =
     tie.close
     (tie.spec
-    mul-at
-    mul-at-2
-    add-at
-    mul-at-3
-    add-at-2
-    slice-relend-prefix-take-floats
+    (λ c. search needs)
+    (λ c. search needs)
+    (λ c. search needs)
+    (λ c. search needs)
+    (λ c. search needs)
+    (λ c. search needs)
     slice-aggregate-take-floats
     take-floats-requires
-    same-length
+    (λ c. search needs)
     returns)

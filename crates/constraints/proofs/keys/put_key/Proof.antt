@@ -4,21 +4,6 @@ use borrow.Author.Needs.{needs}
 use Rattle.constraints.proofs.keys.put_key.Statement.{statement}
 use Rattle.constraints.proofs.keys.put_key.Tie as tie
 
-lower-of-requires : tie.Need-lower-of-requires
-lower-of-requires c κs = search needs
-
-higher-of-requires : tie.Need-higher-of-requires
-higher-of-requires c κs = search needs
-
-set-of-requires : tie.Need-set-of-requires
-set-of-requires c κs = search needs
-
-store-requires : tie.Need-store-requires
-store-requires c κs = search needs
-
-same-length : tie.Need-same-length
-same-length c = search needs
-
 returns : tie.Need-returns
 returns c =
     let at-store = c .before .before in
@@ -31,9 +16,9 @@ pub put-key-spec : {M : Type 1} → statement M
 put-key-spec =
     tie.close
     (tie.spec
-    lower-of-requires
-    higher-of-requires
-    set-of-requires
-    store-requires
-    same-length
+    (λ c κs. search needs)
+    (λ c κs. search needs)
+    (λ c κs. search needs)
+    (λ c κs. search needs)
+    (λ c. search needs)
     returns)

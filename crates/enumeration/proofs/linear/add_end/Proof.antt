@@ -14,18 +14,6 @@ shared-slice-read-v c =
 returns : tie.Need-returns
 returns c = end-free _ _ _ _ _ (c .before .before .before .before .before .before .before .pre .1 .1) (c .if1 .taken)
 
-mul-weight : tie.Need-mul-weight
-mul-weight c = search needs
-
-shared-slice-read-weight : tie.Need-shared-slice-read-weight
-shared-slice-read-weight c = search needs
-
-half-requires : tie.Need-half-requires
-half-requires c κs = search needs
-
-int-to-float-result : tie.Need-int-to-float-result
-int-to-float-result c = search needs
-
 returns-2 : tie.Need-returns-2
 returns-2 c = end-fixed _ _ _ _ _ (c .before .before .before .before .before .before .before .before .before .before .pre .1 .1) (c .before .half .ensures) (c .before .before .before .if1 .left)
 
@@ -35,8 +23,8 @@ add-end-spec =
     (tie.spec
     shared-slice-read-v
     returns
-    mul-weight
-    shared-slice-read-weight
-    half-requires
-    int-to-float-result
+    (λ c. search needs)
+    (λ c. search needs)
+    (λ c κs. search needs)
+    (λ c. search needs)
     returns-2)

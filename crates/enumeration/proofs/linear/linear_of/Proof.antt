@@ -15,36 +15,15 @@ Inv-loop c rows cols q values u i n start end sum₀ p₀ sum p = Summing (field
 abbrev μ-loop : tie.MeasureT-loop
 μ-loop c rows cols q values u i n start end sum₀ p₀ sum p = end - p
 
-mul-wide-word : tie.Need-mul-wide-word Inv-loop μ-loop
-mul-wide-word c = search needs
-
 shared-slice-read-wide-word : tie.Need-shared-slice-read-wide-word Inv-loop μ-loop
 shared-slice-read-wide-word c =
     let start = c .before .before .before .before .before .before .before in
     omega (arith, start .pre .0 .placed .adjacent .room, start .pre .1)
 
-wide-word-requires : tie.Need-wide-word-requires Inv-loop μ-loop
-wide-word-requires c κs = search needs
-
-add-wide-word : tie.Need-add-wide-word Inv-loop μ-loop
-add-wide-word c = search needs
-
-mul-wide-word-2 : tie.Need-mul-wide-word-2 Inv-loop μ-loop
-mul-wide-word-2 c = search needs
-
 shared-slice-read-wide-word-2 : tie.Need-shared-slice-read-wide-word-2 Inv-loop μ-loop
 shared-slice-read-wide-word-2 c =
     let start = c .before .before .before .before .before .before .before .before .before in
     omega (arith, start .pre .0 .placed .adjacent .room, start .pre .1)
-
-wide-word-requires-2 : tie.Need-wide-word-requires-2 Inv-loop μ-loop
-wide-word-requires-2 c κs = search needs
-
-mul-sum : tie.Need-mul-sum Inv-loop μ-loop
-mul-sum c = search needs
-
-shared-slice-read-sum : tie.Need-shared-slice-read-sum Inv-loop μ-loop
-shared-slice-read-sum c = search needs
 
 loop-holds : tie.Need-loop-holds Inv-loop μ-loop
 loop-holds c =
@@ -52,9 +31,6 @@ loop-holds c =
     let at-wide-word = at-wide-word2 .before .before in
     let start = at-wide-word .before .before .before .before .before .before .before .before in
     sum-start (start .pre .0) (start .pre .1) (at-wide-word .wide-word .ensures) (at-wide-word2 .wide-word2 .ensures) refl
-
-add-word : tie.Need-add-word Inv-loop μ-loop
-add-word c = search needs
 
 add-word-2 : tie.Need-add-word-2 Inv-loop μ-loop
 add-word-2 c = omega (arith, walk-turn (c .before .loop .inv .along .walk) (c .loop-test .taken) .index)
@@ -65,12 +41,6 @@ mul-word c = omega (arith, walk-turn (c .before .loop .inv .along .walk) (c .loo
 shared-slice-read-word : tie.Need-shared-slice-read-word Inv-loop μ-loop
 shared-slice-read-word c = walk-turn (c .before .before .loop .inv .along .walk) (c .before .loop-test .taken) .index
 
-entry-in-requires : tie.Need-entry-in-requires Inv-loop μ-loop
-entry-in-requires c κs = search needs
-
-end-in-requires : tie.Need-end-in-requires Inv-loop μ-loop
-end-in-requires c κs = search needs
-
 add-end-requires : tie.Need-add-end-requires Inv-loop μ-loop
 add-end-requires c κs =
     let turn = walk-turn (c .before .before .before .before .loop .inv .along .walk) (c .before .before .before .loop-test .taken) in
@@ -79,12 +49,6 @@ add-end-requires c κs =
       record { shaped = start .pre .0 .placed .shaped; values-long = start .pre .0 .values-long },
       (omega (arith, turn-entry turn ek, start .pre .0 .placed .shaped .rows-long), turn-other turn ek (c .end-in .ensures)),
     )
-
-add-p : tie.Need-add-p Inv-loop μ-loop
-add-p c = search needs
-
-loop-less : tie.Need-loop-less Inv-loop μ-loop
-loop-less c = search needs
 
 loop-again : tie.Need-loop-again Inv-loop μ-loop
 loop-again c = sum-turn (c .before .before .before .before .before .loop .inv) (c .before .before .before .before .loop-test .taken) (c .before .before .entry-in .ensures) (c .add-end .ensures)
@@ -98,24 +62,24 @@ linear-of-spec =
     (tie.spec
     Inv-loop
     μ-loop
-    mul-wide-word
+    (λ c. search needs)
     shared-slice-read-wide-word
-    wide-word-requires
-    add-wide-word
-    mul-wide-word-2
+    (λ c κs. search needs)
+    (λ c. search needs)
+    (λ c. search needs)
     shared-slice-read-wide-word-2
-    wide-word-requires-2
-    mul-sum
-    shared-slice-read-sum
+    (λ c κs. search needs)
+    (λ c. search needs)
+    (λ c. search needs)
     loop-holds
-    add-word
+    (λ c. search needs)
     add-word-2
     mul-word
     shared-slice-read-word
-    entry-in-requires
-    end-in-requires
+    (λ c κs. search needs)
+    (λ c κs. search needs)
     add-end-requires
-    add-p
-    loop-less
+    (λ c. search needs)
+    (λ c. search needs)
     loop-again
     returns)

@@ -28,9 +28,6 @@ mul-wide-word c = omega (arith, c .loop-test .taken, c .before .before .before .
 shared-slice-read-wide-word : tie.Need-shared-slice-read-wide-word Inv-loop μ-loop
 shared-slice-read-wide-word c = omega (arith, c .before .loop-test .taken, c .before .before .before .before .before .before .before .before .before .before .before .pre .1 .0 .room)
 
-wide-word-requires : tie.Need-wide-word-requires Inv-loop μ-loop
-wide-word-requires c κs = search needs
-
 linear-of-requires : tie.Need-linear-of-requires Inv-loop μ-loop
 linear-of-requires c κs = (c .before .before .before .before .before .before .before .before .before .before .before .before .pre .0, omega (arith, c .wide-word .ensures, c .before .before .before .before .before .before .before .before .before .before .before .before .pre .1 .0 .below _ (c .before .before .loop-test .taken)))
 
@@ -42,12 +39,6 @@ list-term-requires c κs = (
   room-after 1 (c .before .before .before .before .before .before .before .loop .inv .listed) (linear-few _ _ _ _) (c .before .before .before .before .before .before .before .before .before .before .before .before .before .before .before .before .pre .1 .1) (omega (arith, c .before .before .before .before .before .before .loop-test .taken, c .before .before .before .before .before .before .before .before .before .before .before .before .before .before .before .before .pre .1 .0 .few)),
   bit-fits (c .before .before .before .before .before .before .before .before .before .before .before .before .before .before .before .before .pre .1 .0 .few) (c .before .before .before .before .before .before .loop-test .taken) (c .bit .ensures),
 )
-
-add-b : tie.Need-add-b Inv-loop μ-loop
-add-b c = search needs
-
-loop-less : tie.Need-loop-less Inv-loop μ-loop
-loop-less c = search needs
 
 loop-again : tie.Need-loop-again Inv-loop μ-loop
 loop-again c =
@@ -72,12 +63,12 @@ list-linear-spec =
     add-wide-word
     mul-wide-word
     shared-slice-read-wide-word
-    wide-word-requires
+    (λ c κs. search needs)
     linear-of-requires
     bit-requires
     list-term-requires
-    add-b
-    loop-less
+    (λ c. search needs)
+    (λ c. search needs)
     loop-again
     same-length
     same-length-2

@@ -15,37 +15,19 @@ Inv-loop c rows cols q u i j n start end p₀ p = Seeking (fieldOf c rows cols q
 abbrev μ-loop : tie.MeasureT-loop
 μ-loop c rows cols q u i j n start end p₀ p = end - p
 
-mul-wide-word : tie.Need-mul-wide-word Inv-loop μ-loop
-mul-wide-word c = search needs
-
 shared-slice-read-wide-word : tie.Need-shared-slice-read-wide-word Inv-loop μ-loop
 shared-slice-read-wide-word c = omega (arith, c .before .before .before .before .before .before .pre .0 .adjacent .room, c .before .before .before .before .before .before .pre .1)
-
-wide-word-requires : tie.Need-wide-word-requires Inv-loop μ-loop
-wide-word-requires c κs = search needs
-
-add-wide-word : tie.Need-add-wide-word Inv-loop μ-loop
-add-wide-word c = search needs
-
-mul-wide-word-2 : tie.Need-mul-wide-word-2 Inv-loop μ-loop
-mul-wide-word-2 c = search needs
 
 shared-slice-read-wide-word-2 : tie.Need-shared-slice-read-wide-word-2 Inv-loop μ-loop
 shared-slice-read-wide-word-2 c =
     let start = c .before .before .before .before .before .before .before .before in
     omega (arith, start .pre .0 .adjacent .room, start .pre .1)
 
-wide-word-requires-2 : tie.Need-wide-word-requires-2 Inv-loop μ-loop
-wide-word-requires-2 c κs = search needs
-
 loop-holds : tie.Need-loop-holds Inv-loop μ-loop
 loop-holds c =
     let at-wide-word = c .before .before in
     let start = at-wide-word .before .before .before .before .before .before .before in
     seek-start _ (start .pre .0) (start .pre .1) (at-wide-word .wide-word .ensures) (c .wide-word2 .ensures)
-
-add-entry-in : tie.Need-add-entry-in Inv-loop μ-loop
-add-entry-in c = search needs
 
 add-entry-in-2 : tie.Need-add-entry-in-2 Inv-loop μ-loop
 add-entry-in-2 c = omega (arith, walk-turn (c .before .loop .inv .along .walk) (c .loop-test .taken) .index)
@@ -55,9 +37,6 @@ mul-entry-in c = omega (arith, walk-turn (c .before .loop .inv .along .walk) (c 
 
 shared-slice-read-entry-in : tie.Need-shared-slice-read-entry-in Inv-loop μ-loop
 shared-slice-read-entry-in c = walk-turn (c .before .before .loop .inv .along .walk) (c .before .loop-test .taken) .index
-
-entry-in-requires : tie.Need-entry-in-requires Inv-loop μ-loop
-entry-in-requires c κs = search needs
 
 stands-at-requires : tie.Need-stands-at-requires Inv-loop μ-loop
 stands-at-requires c κs =
@@ -77,12 +56,6 @@ returns c =
     let at-loop = at-loop-test .before in
     seek-found (at-loop .loop .inv) (at-loop-test .loop-test .taken) (at-entry-in .entry-in .ensures) (sym (c .if1 .taken) ∙ at-stands-at .stands-at .ensures)
 
-add-p : tie.Need-add-p Inv-loop μ-loop
-add-p c = search needs
-
-loop-less : tie.Need-loop-less Inv-loop μ-loop
-loop-less c = search needs
-
 loop-again : tie.Need-loop-again Inv-loop μ-loop
 loop-again c =
     let at-stands-at = c .before in
@@ -100,22 +73,22 @@ entry-of-spec =
     (tie.spec
     Inv-loop
     μ-loop
-    mul-wide-word
+    (λ c. search needs)
     shared-slice-read-wide-word
-    wide-word-requires
-    add-wide-word
-    mul-wide-word-2
+    (λ c κs. search needs)
+    (λ c. search needs)
+    (λ c. search needs)
     shared-slice-read-wide-word-2
-    wide-word-requires-2
+    (λ c κs. search needs)
     loop-holds
-    add-entry-in
+    (λ c. search needs)
     add-entry-in-2
     mul-entry-in
     shared-slice-read-entry-in
-    entry-in-requires
+    (λ c κs. search needs)
     stands-at-requires
     returns
-    add-p
-    loop-less
+    (λ c. search needs)
+    (λ c. search needs)
     loop-again
     returns-2)

@@ -24,12 +24,6 @@ list-pair-requires c κs =
     let room = room-after 1 (c .before .before .before .loop .inv .listed) (column-few _ _ _ _) (c .before .before .before .before .before .before .before .before .before .before .before .pre .1 .1 .0) (omega (arith, c .before .before .loop-test .taken, c .before .before .before .before .before .before .before .before .before .before .before .pre .1 .0 .few)) in
     (c .before .before .before .before .before .before .before .before .before .before .before .pre .0, (c .before .before .before .before .before .before .before .before .before .before .before .pre .1 .0, (room, (c .before .before .loop-test .taken, c .before .before .before .before .before .before .before .before .before .before .before .pre .1 .1 .1))))
 
-add-a : tie.Need-add-a Inv-loop μ-loop
-add-a c = search needs
-
-loop-less : tie.Need-loop-less Inv-loop μ-loop
-loop-less c = search needs
-
 loop-again : tie.Need-loop-again Inv-loop μ-loop
 loop-again c = fill-turn (c .before .before .before .before .before .before .before .before .loop .inv) (c .before .before .before .before .before .before .before .loop-test .taken) (c .before .before .before .before .list-pair .ensures) (column-more _ _ _ _ _ _)
 
@@ -50,8 +44,8 @@ list-column-spec =
     μ-loop
     loop-holds
     list-pair-requires
-    add-a
-    loop-less
+    (λ c. search needs)
+    (λ c. search needs)
     loop-again
     same-length
     same-length-2

@@ -14,9 +14,6 @@ mul-wide-word c = omega (arith, c .before .before .before .before .before .befor
 shared-slice-read-wide-word : tie.Need-shared-slice-read-wide-word
 shared-slice-read-wide-word c = omega (arith, c .before .before .before .before .before .before .before .before .pre .1 .0 .room, c .before .before .before .before .before .before .before .before .pre .1 .1 .1 .0)
 
-wide-word-requires : tie.Need-wide-word-requires
-wide-word-requires c κs = search needs
-
 add-wide-word-2 : tie.Need-add-wide-word-2
 add-wide-word-2 c = omega (arith, c .before .before .before .before .before .before .before .before .before .pre .1 .0 .room, c .before .before .before .before .before .before .before .before .before .pre .1 .1 .1 .1)
 
@@ -26,9 +23,6 @@ mul-wide-word-2 c = omega (arith, c .before .before .before .before .before .bef
 shared-slice-read-wide-word-2 : tie.Need-shared-slice-read-wide-word-2
 shared-slice-read-wide-word-2 c = omega (arith, c .before .before .before .before .before .before .before .before .before .before .pre .1 .0 .room, c .before .before .before .before .before .before .before .before .before .before .pre .1 .1 .1 .1)
 
-wide-word-requires-2 : tie.Need-wide-word-requires-2
-wide-word-requires-2 c κs = search needs
-
 entry-of-requires : tie.Need-entry-of-requires
 entry-of-requires c κs = (c .before .before .before .before .before .before .before .before .before .before .before .pre .0, omega (arith, c .before .before .wide-word .ensures, c .before .before .before .before .before .before .before .before .before .before .before .pre .1 .0 .below _ (c .before .before .before .before .before .before .before .before .before .before .before .pre .1 .1 .1 .0)))
 
@@ -36,20 +30,11 @@ returns : tie.Need-returns
 returns c =
     pair-none _ _ _ _ (c .before .before .before .before .before .before .before .before .before .before .before .before .before .pre .1 .1 .1 .0) (c .before .before .before .before .before .before .before .before .before .before .before .before .before .pre .1 .1 .1 .1) (c .before .before .before .before .wide-word .ensures) (c .before .before .wide-word2 .ensures) (c .before .entry-of .ensures) (c .if1 .taken)
 
-mul-weight : tie.Need-mul-weight
-mul-weight c = search needs
-
-shared-slice-read-weight : tie.Need-shared-slice-read-weight
-shared-slice-read-weight c = search needs
-
 bit-requires : tie.Need-bit-requires
 bit-requires c κs = omega (arith, c .before .before .before .before .before .before .before .before .before .before .before .before .before .before .before .before .pre .1 .0 .few, c .before .before .before .before .before .before .before .before .before .before .before .before .before .before .before .before .pre .1 .1 .1 .0)
 
 bit-requires-2 : tie.Need-bit-requires-2
 bit-requires-2 c κs = omega (arith, c .before .before .before .before .before .before .before .before .before .before .before .before .before .before .before .before .before .pre .1 .0 .few, c .before .before .before .before .before .before .before .before .before .before .before .before .before .before .before .before .before .pre .1 .1 .1 .1)
-
-half-requires : tie.Need-half-requires
-half-requires c κs = search needs
 
 list-term-requires : tie.Need-list-term-requires
 list-term-requires c κs =
@@ -72,18 +57,18 @@ list-pair-spec =
     add-wide-word
     mul-wide-word
     shared-slice-read-wide-word
-    wide-word-requires
+    (λ c κs. search needs)
     add-wide-word-2
     mul-wide-word-2
     shared-slice-read-wide-word-2
-    wide-word-requires-2
+    (λ c κs. search needs)
     entry-of-requires
     returns
-    mul-weight
-    shared-slice-read-weight
+    (λ c. search needs)
+    (λ c. search needs)
     bit-requires
     bit-requires-2
-    half-requires
+    (λ c κs. search needs)
     list-term-requires
     same-length
     same-length-2

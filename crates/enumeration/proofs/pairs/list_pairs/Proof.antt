@@ -24,12 +24,6 @@ list-column-requires c κs =
     let room = room-after 10 (c .before .before .before .loop .inv .listed) (pairs-few _ _ _ _ (c .before .before .before .before .before .before .before .before .before .before .before .pre .1 .0 .few) (c .before .before .before .before .before .before .before .before .before .before .before .pre .1 .0 .room) _) (c .before .before .before .before .before .before .before .before .before .before .before .pre .1 .1) (omega (arith, c .before .before .loop-test .taken, c .before .before .before .before .before .before .before .before .before .before .before .pre .1 .0 .few)) in
     (c .before .before .before .before .before .before .before .before .before .before .before .pre .0, (c .before .before .before .before .before .before .before .before .before .before .before .pre .1 .0, (room, c .before .before .loop-test .taken)))
 
-add-b : tie.Need-add-b Inv-loop μ-loop
-add-b c = search needs
-
-loop-less : tie.Need-loop-less Inv-loop μ-loop
-loop-less c = search needs
-
 loop-again : tie.Need-loop-again Inv-loop μ-loop
 loop-again c = fill-turn (c .before .before .before .before .before .before .before .before .loop .inv) (c .before .before .before .before .before .before .before .loop-test .taken) (c .before .before .before .before .list-column .ensures) (pairs-more _ _ _ _ _ (c .before .before .before .before .before .before .before .before .before .before .before .before .before .before .before .before .pre .1 .0 .room))
 
@@ -50,8 +44,8 @@ list-pairs-spec =
     μ-loop
     loop-holds
     list-column-requires
-    add-b
-    loop-less
+    (λ c. search needs)
+    (λ c. search needs)
     loop-again
     same-length
     same-length-2

@@ -6,20 +6,11 @@ use borrow.Author.Needs.{needs}
 use Rattle.expansion.proofs.ExactSum.add.Statement.{statement}
 use Rattle.expansion.proofs.ExactSum.add.Tie as tie
 
-enum-known-self : tie.Need-enum-known-self
-enum-known-self c = search needs
-
-is-finite-requires : tie.Need-is-finite-requires
-is-finite-requires c κs = search needs
-
 returns : tie.Need-returns
 returns c = add-overflows (c .before .before .before .self .given .1) (sym (c .before .is-finite .ensures) ∙ not-true _ (c .if1 .taken))
 
 carry-requires : tie.Need-carry-requires
 carry-requires c κs = rw (c .before .before .before .before .self .given .1) at (c .before .before .before .before .before .before .before .pre)
-
-same-length : tie.Need-same-length
-same-length c = search needs
 
 returns-2 : tie.Need-returns-2
 returns-2 c =
@@ -36,11 +27,11 @@ pub add-spec : {M : Type 1} → statement M
 add-spec =
     tie.close
     (tie.spec
-    enum-known-self
-    is-finite-requires
+    (λ c. search needs)
+    (λ c κs. search needs)
     returns
     carry-requires
-    same-length
+    (λ c. search needs)
     returns-2
     enum-told
     returns-3)

@@ -4,9 +4,6 @@ use borrow.Author.Needs.{needs}
 use Rattle.expansion.proofs.ExactSum.is_zero.Statement.{statement}
 use Rattle.expansion.proofs.ExactSum.is_zero.Tie as tie
 
-enum-known-self : tie.Need-enum-known-self
-enum-known-self c = search needs
-
 returns : tie.Need-returns
 returns c = parts-zero (c .before .self .given .1)
 
@@ -17,4 +14,4 @@ returns-2 : tie.Need-returns-2
 returns-2 c = invalid-zero (c .enum-told .given .1)
 
 pub is-zero-spec : {M : Type 1} → statement M
-is-zero-spec = tie.close (tie.spec enum-known-self returns enum-told returns-2)
+is-zero-spec = tie.close (tie.spec (λ c. search needs) returns enum-told returns-2)

@@ -17,42 +17,6 @@ abbrev μ-loop : tie.MeasureT-loop
 loop-holds : tie.Need-loop-holds Inv-loop μ-loop
 loop-holds c = testing-start _ _
 
-add-loop : tie.Need-add-loop Inv-loop μ-loop
-add-loop c = search needs
-
-add-next : tie.Need-add-next Inv-loop μ-loop
-add-next c = search needs
-
-mul-stands-before : tie.Need-mul-stands-before Inv-loop μ-loop
-mul-stands-before c = search needs
-
-shared-slice-read-stands-before : tie.Need-shared-slice-read-stands-before Inv-loop μ-loop
-shared-slice-read-stands-before c = search needs
-
-mul-stands-before-2 : tie.Need-mul-stands-before-2 Inv-loop μ-loop
-mul-stands-before-2 c = search needs
-
-shared-slice-read-stands-before-2 : tie.Need-shared-slice-read-stands-before-2 Inv-loop μ-loop
-shared-slice-read-stands-before-2 c = search needs
-
-mul-stands-before-3 : tie.Need-mul-stands-before-3 Inv-loop μ-loop
-mul-stands-before-3 c = search needs
-
-shared-slice-read-stands-before-3 : tie.Need-shared-slice-read-stands-before-3 Inv-loop μ-loop
-shared-slice-read-stands-before-3 c = search needs
-
-mul-stands-before-4 : tie.Need-mul-stands-before-4 Inv-loop μ-loop
-mul-stands-before-4 c = search needs
-
-shared-slice-read-stands-before-4 : tie.Need-shared-slice-read-stands-before-4 Inv-loop μ-loop
-shared-slice-read-stands-before-4 c = search needs
-
-stands-before-requires : tie.Need-stands-before-requires Inv-loop μ-loop
-stands-before-requires c κs = search needs
-
-loop-less : tie.Need-loop-less Inv-loop μ-loop
-loop-less c = search needs
-
 loop-again : tie.Need-loop-again Inv-loop μ-loop
 loop-again c = testing-turn _ (c .before .before .before .before .before .before .loop .inv) (search needs) (c .stands-before .ensures)
 
@@ -67,17 +31,17 @@ all-rise-spec =
     Inv-loop
     μ-loop
     loop-holds
-    add-loop
-    add-next
-    mul-stands-before
-    shared-slice-read-stands-before
-    mul-stands-before-2
-    shared-slice-read-stands-before-2
-    mul-stands-before-3
-    shared-slice-read-stands-before-3
-    mul-stands-before-4
-    shared-slice-read-stands-before-4
-    stands-before-requires
-    loop-less
+    (λ c. search needs)
+    (λ c. search needs)
+    (λ c. search needs)
+    (λ c. search needs)
+    (λ c. search needs)
+    (λ c. search needs)
+    (λ c. search needs)
+    (λ c. search needs)
+    (λ c. search needs)
+    (λ c. search needs)
+    (λ c κs. search needs)
+    (λ c. search needs)
     loop-again
     returns)

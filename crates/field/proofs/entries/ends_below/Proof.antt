@@ -9,14 +9,5 @@ use Rattle.field.proofs.entries.ends_below.Tie as tie
 returns : tie.Need-returns
 returns c = sym (below-means _ _ .1 (λ k l. omega (arith, c .if1 .taken, c .before .shared-slice-known .given k)))
 
-cast-shorts-below : tie.Need-cast-shorts-below
-cast-shorts-below c = search needs
-
-shorts-below-requires : tie.Need-shorts-below-requires
-shorts-below-requires c κs = search needs
-
-returns-2 : tie.Need-returns-2
-returns-2 c = search needs
-
 pub ends-below-spec : {M : Type 1} → statement M
-ends-below-spec = tie.close (tie.spec returns cast-shorts-below shorts-below-requires returns-2)
+ends-below-spec = tie.close (tie.spec returns (λ c. search needs) (λ c κs. search needs) (λ c. search needs))

@@ -6,9 +6,6 @@ use borrow.Author.Needs.{needs}
 use Rattle.field.proofs.entries.fault.Statement.{statement}
 use Rattle.field.proofs.entries.fault.Tie as tie
 
-first-fault-requires : tie.Need-first-fault-requires
-first-fault-requires c κs = search needs
-
 wrong-at-requires : tie.Need-wrong-at-requires
 wrong-at-requires c κs =
     let at = walk-stops _ _ _ (c .before .before .before .pre .0) (c .before .before .before .pre .1) (c .first-fault .ensures) in
@@ -19,4 +16,4 @@ unfolding faultOf
 returns c = c .wrong-at .ensures ∙ ap (wrongAt _ _ _) (c .before .first-fault .ensures)
 
 pub fault-spec : {M : Type 1} → statement M
-fault-spec = tie.close (tie.spec first-fault-requires wrong-at-requires returns)
+fault-spec = tie.close (tie.spec (λ c κs. search needs) wrong-at-requires returns)

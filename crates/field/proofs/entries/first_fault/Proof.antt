@@ -20,17 +20,8 @@ abbrev μ-loop : tie.MeasureT-loop
 loop-holds : tie.Need-loop-holds Inv-loop μ-loop
 loop-holds c = all-start _ _
 
-is-fine-requires : tie.Need-is-fine-requires Inv-loop μ-loop
-is-fine-requires c κs = search needs
-
 returns : tie.Need-returns Inv-loop μ-loop
 returns c = first-stop _ (c .before .before .before .loop .inv) (search needs) (sym (c .before .is-fine .ensures) ∙ not-true _ (c .if1 .taken))
-
-add-k : tie.Need-add-k Inv-loop μ-loop
-add-k c = search needs
-
-loop-less : tie.Need-loop-less Inv-loop μ-loop
-loop-less c = search needs
 
 loop-again : tie.Need-loop-again Inv-loop μ-loop
 loop-again c = all-turn _ (c .before .before .before .loop .inv) (search needs) (sym (c .before .is-fine .ensures) ∙ not-false _ (c .if1 .left))
@@ -45,9 +36,9 @@ first-fault-spec =
     Inv-loop
     μ-loop
     loop-holds
-    is-fine-requires
+    (λ c κs. search needs)
     returns
-    add-k
-    loop-less
+    (λ c. search needs)
+    (λ c. search needs)
     loop-again
     returns-2)

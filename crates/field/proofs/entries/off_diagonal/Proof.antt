@@ -20,24 +20,6 @@ abbrev μ-loop : tie.MeasureT-loop
 loop-holds : tie.Need-loop-holds Inv-loop μ-loop
 loop-holds c = testing-start _ _
 
-mul-off : tie.Need-mul-off Inv-loop μ-loop
-mul-off c = search needs
-
-shared-slice-read-off : tie.Need-shared-slice-read-off Inv-loop μ-loop
-shared-slice-read-off c = search needs
-
-mul-off-2 : tie.Need-mul-off-2 Inv-loop μ-loop
-mul-off-2 c = search needs
-
-shared-slice-read-off-2 : tie.Need-shared-slice-read-off-2 Inv-loop μ-loop
-shared-slice-read-off-2 c = search needs
-
-add-k : tie.Need-add-k Inv-loop μ-loop
-add-k c = search needs
-
-loop-less : tie.Need-loop-less Inv-loop μ-loop
-loop-less c = search needs
-
 loop-again : tie.Need-loop-again Inv-loop μ-loop
 loop-again c = testing-turn _ (c .before .before .before .loop .inv) (search needs) refl
 
@@ -52,11 +34,11 @@ off-diagonal-spec =
     Inv-loop
     μ-loop
     loop-holds
-    mul-off
-    shared-slice-read-off
-    mul-off-2
-    shared-slice-read-off-2
-    add-k
-    loop-less
+    (λ c. search needs)
+    (λ c. search needs)
+    (λ c. search needs)
+    (λ c. search needs)
+    (λ c. search needs)
+    (λ c. search needs)
     loop-again
     returns)

@@ -4,32 +4,11 @@ use borrow.Author.Needs.{needs}
 use Rattle.field.proofs.grading.first_unit.Statement.{statement}
 use Rattle.field.proofs.grading.first_unit.Tie as tie
 
-add-greater : tie.Need-add-greater
-add-greater c = search needs
-
-add-greater-2 : tie.Need-add-greater-2
-add-greater-2 c = search needs
-
-add-greater-3 : tie.Need-add-greater-3
-add-greater-3 c = search needs
-
-add-greater-4 : tie.Need-add-greater-4
-add-greater-4 c = search needs
-
-greater-requires : tie.Need-greater-requires
-greater-requires c κs = search needs
-
-greater-requires-2 : tie.Need-greater-requires-2
-greater-requires-2 c κs = search needs
-
 returns : tie.Need-returns
 returns c = first-above (c .before .before .greater .ensures) (c .before .greater2 .ensures) (c .if1 .taken)
 
 returns-2 : tie.Need-returns-2
 returns-2 c = first-linear (c .before .before .before .before .greater .ensures) (c .before .before .before .greater2 .ensures) (c .if2 .taken)
-
-add-if3 : tie.Need-add-if3
-add-if3 c = search needs
 
 returns-3 : tie.Need-returns-3
 returns-3 c = first-quad (c .before .before .before .before .before .before .greater .ensures) (c .before .before .before .before .before .greater2 .ensures) (c .if3 .taken)
@@ -41,14 +20,14 @@ pub first-unit-spec : {M : Type 1} → statement M
 first-unit-spec =
     tie.close
     (tie.spec
-    add-greater
-    add-greater-2
-    add-greater-3
-    add-greater-4
-    greater-requires
-    greater-requires-2
+    (λ c. search needs)
+    (λ c. search needs)
+    (λ c. search needs)
+    (λ c. search needs)
+    (λ c κs. search needs)
+    (λ c κs. search needs)
     returns
     returns-2
-    add-if3
+    (λ c. search needs)
     returns-3
     returns-4)

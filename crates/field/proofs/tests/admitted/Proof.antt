@@ -9,21 +9,12 @@ use borrow.Author.Needs.{needs}
 use Rattle.field.proofs.tests.admitted.Statement.{statement}
 use Rattle.field.proofs.tests.admitted.Tie as tie
 
-loose-requires : tie.Need-loose-requires
-loose-requires c κs = search needs
-
-enum-known-shaped : tie.Need-enum-known-shaped
-enum-known-shaped c = search needs
-
 returns : tie.Need-returns
 unfolding openTests
 returns c = group-no _ _ (sym (c .before .before .before .loose .ensures) ∙ c .before .shaped .given .1)
 
 enum-told : tie.Need-enum-told
 enum-told c = search needs
-
-start-fits-requires : tie.Need-start-fits-requires
-start-fits-requires c κs = search needs
 
 returns-2 : tie.Need-returns-2
 unfolding openTests
@@ -68,11 +59,11 @@ pub admitted-spec : {M : Type 1} → statement M
 admitted-spec =
     tie.close
     (tie.spec
-    loose-requires
-    enum-known-shaped
+    (λ c κs. search needs)
+    (λ c. search needs)
     returns
     enum-told
-    start-fits-requires
+    (λ c κs. search needs)
     returns-2
     floats-fit-requires
     returns-3

@@ -7,22 +7,13 @@ use borrow.Author.Needs.{needs}
 use Rattle.field.proofs.tests.in_order.Statement.{statement}
 use Rattle.field.proofs.tests.in_order.Tie as tie
 
-ends-below-requires : tie.Need-ends-below-requires
-ends-below-requires c κs = search needs
-
 returns : tie.Need-returns
 unfolding inOrder
 returns c = and-no _ (sym (c .before .ends-below .ensures) ∙ not-true _ (c .if1 .taken))
 
-ends-below-requires-2 : tie.Need-ends-below-requires-2
-ends-below-requires-2 c κs = search needs
-
 returns-2 : tie.Need-returns-2
 unfolding inOrder
 returns-2 c = and-yes (sym (c .before .before .before .ends-below .ensures) ∙ not-false _ (c .before .before .if1 .left)) (and-no _ (sym (c .before .ends-below2 .ensures) ∙ not-true _ (c .if2 .taken)))
-
-all-rise-requires : tie.Need-all-rise-requires
-all-rise-requires c κs = search needs
 
 returns-3 : tie.Need-returns-3
 unfolding inOrder
@@ -32,9 +23,9 @@ pub in-order-spec : {M : Type 1} → statement M
 in-order-spec =
     tie.close
     (tie.spec
-    ends-below-requires
+    (λ c κs. search needs)
     returns
-    ends-below-requires-2
+    (λ c κs. search needs)
     returns-2
-    all-rise-requires
+    (λ c κs. search needs)
     returns-3)

@@ -7,21 +7,12 @@ use borrow.Author.Needs.{needs}
 use Rattle.field.proofs.tests.loose.Statement.{statement}
 use Rattle.field.proofs.tests.loose.Tie as tie
 
-shape-requires : tie.Need-shape-requires
-shape-requires c κs = search needs
-
-enum-known-shaped : tie.Need-enum-known-shaped
-enum-known-shaped c = search needs
-
 returns : tie.Need-returns
 unfolding looseTests
 returns c = group-no _ _ (sym (c .before .before .before .shape .ensures) ∙ c .before .shaped .given .1)
 
 enum-told : tie.Need-enum-told
 enum-told c = search needs
-
-weights-finite-requires : tie.Need-weights-finite-requires
-weights-finite-requires c κs = search needs
 
 returns-2 : tie.Need-returns-2
 unfolding looseTests
@@ -40,10 +31,10 @@ pub loose-spec : {M : Type 1} → statement M
 loose-spec =
     tie.close
     (tie.spec
-    shape-requires
-    enum-known-shaped
+    (λ c κs. search needs)
+    (λ c. search needs)
     returns
     enum-told
-    weights-finite-requires
+    (λ c κs. search needs)
     returns-2
     returns-3)

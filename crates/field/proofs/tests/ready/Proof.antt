@@ -11,12 +11,6 @@ use Rattle.field.proofs.tests.ready.Tie as tie
 
 -- `ready` makes tests 1 to 6, then 8. Assumes nothing.
 
-standard-requires : tie.Need-standard-requires
-standard-requires c κs = search needs
-
-enum-known-sound : tie.Need-enum-known-sound
-enum-known-sound c = search needs
-
 returns : tie.Need-returns
 unfolding readyTests
 returns c = group-no _ _ (sym (c .before .before .before .standard .ensures) ∙ c .before .sound .given .1)
@@ -55,8 +49,8 @@ pub ready-spec : {M : Type 1} → statement M
 ready-spec =
     tie.close
     (tie.spec
-    standard-requires
-    enum-known-sound
+    (λ c κs. search needs)
+    (λ c. search needs)
     returns
     enum-told
     floats-fit-requires

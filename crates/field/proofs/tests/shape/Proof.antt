@@ -10,15 +10,9 @@ use borrow.Author.Needs.{needs}
 use Rattle.field.proofs.tests.shape.Statement.{statement}
 use Rattle.field.proofs.tests.shape.Tie as tie
 
-few-variables-requires : tie.Need-few-variables-requires
-few-variables-requires c κs = search needs
-
 returns : tie.Need-returns
 unfolding shapeTests
 returns c = test-no _ _ (sym (c .before .few-variables .ensures) ∙ not-true _ (c .if1 .taken))
-
-lists-match-requires : tie.Need-lists-match-requires
-lists-match-requires c κs = search needs
 
 returns-2 : tie.Need-returns-2
 unfolding shapeTests
@@ -53,9 +47,9 @@ pub shape-spec : {M : Type 1} → statement M
 shape-spec =
     tie.close
     (tie.spec
-    few-variables-requires
+    (λ c κs. search needs)
     returns
-    lists-match-requires
+    (λ c κs. search needs)
     returns-2
     in-order-requires
     fault-requires

@@ -8,12 +8,6 @@ use borrow.Author.Needs.{needs}
 use Rattle.field.proofs.tests.standard.Statement.{statement}
 use Rattle.field.proofs.tests.standard.Tie as tie
 
-shape-requires : tie.Need-shape-requires
-shape-requires c κs = search needs
-
-enum-known-shaped : tie.Need-enum-known-shaped
-enum-known-shaped c = search needs
-
 returns : tie.Need-returns
 unfolding standardTests
 returns c = group-no _ _ (sym (c .before .before .before .shape .ensures) ∙ c .before .shaped .given .1)
@@ -30,18 +24,12 @@ returns-2 c =
     let shaped = sym (c .before .before .before .before .shape .ensures) ∙ c .before .before .enum-told .given .1 in
     group-ok _ _ shaped (test-no _ _ (sym (c .before .off-diagonal .ensures) ∙ not-true _ (c .if1 .taken)))
 
-weights-finite-requires : tie.Need-weights-finite-requires
-weights-finite-requires c κs = search needs
-
 returns-3 : tie.Need-returns-3
 unfolding standardTests
 returns-3 c =
     let shaped = sym (c .before .before .before .before .before .before .shape .ensures) ∙ c .before .before .before .before .enum-told .given .1 in
     let standard = sym (c .before .before .before .off-diagonal .ensures) ∙ not-false _ (c .before .before .if1 .left) in
     group-ok _ _ shaped (test-ok _ _ standard (test-no _ _ (sym (c .before .weights-finite .ensures) ∙ not-true _ (c .if2 .taken))))
-
-start-fits-requires : tie.Need-start-fits-requires
-start-fits-requires c κs = search needs
 
 returns-4 : tie.Need-returns-4
 unfolding standardTests
@@ -64,14 +52,14 @@ pub standard-spec : {M : Type 1} → statement M
 standard-spec =
     tie.close
     (tie.spec
-    shape-requires
-    enum-known-shaped
+    (λ c κs. search needs)
+    (λ c. search needs)
     returns
     enum-told
     off-diagonal-requires
     returns-2
-    weights-finite-requires
+    (λ c κs. search needs)
     returns-3
-    start-fits-requires
+    (λ c κs. search needs)
     returns-4
     returns-5)

@@ -10,12 +10,9 @@ returns : tie.Need-returns
 unfolding startFits
 returns c = and-no _ (ne-eqb _ _ (c .if1 .taken))
 
-bytes-small-requires : tie.Need-bytes-small-requires
-bytes-small-requires c κs = search needs
-
 returns-2 : tie.Need-returns-2
 unfolding startFits
 returns-2 c = and-yes (eq-eqb _ _ (c .before .if1 .left)) (c .bytes-small .ensures)
 
 pub start-fits-spec : {M : Type 1} → statement M
-start-fits-spec = tie.close (tie.spec returns bytes-small-requires returns-2)
+start-fits-spec = tie.close (tie.spec returns (λ c κs. search needs) returns-2)

@@ -7,15 +7,9 @@ use borrow.Author.Needs.{needs}
 use Rattle.field.proofs.tests.weights_finite.Statement.{statement}
 use Rattle.field.proofs.tests.weights_finite.Tie as tie
 
-all-finite-requires : tie.Need-all-finite-requires
-all-finite-requires c κs = search needs
-
 returns : tie.Need-returns
 unfolding weightsFinite
 returns c = and-no _ (sym (c .before .all-finite .ensures) ∙ not-true _ (c .if1 .taken))
-
-all-finite-requires-2 : tie.Need-all-finite-requires-2
-all-finite-requires-2 c κs = search needs
 
 returns-2 : tie.Need-returns-2
 unfolding weightsFinite
@@ -23,4 +17,4 @@ returns-2 c = and-yes (sym (c .before .before .all-finite .ensures) ∙ not-fals
 
 pub weights-finite-spec : {M : Type 1} → statement M
 weights-finite-spec =
-    tie.close (tie.spec all-finite-requires returns all-finite-requires-2 returns-2)
+    tie.close (tie.spec (λ c κs. search needs) returns (λ c κs. search needs) returns-2)

@@ -18,23 +18,8 @@ abbrev μ-loop : tie.MeasureT-loop
 loop-holds : tie.Need-loop-holds Inv-loop μ-loop
 loop-holds c = measure-start _
 
-mul-pattern : tie.Need-mul-pattern Inv-loop μ-loop
-mul-pattern c = search needs
-
-shared-slice-read-pattern : tie.Need-shared-slice-read-pattern Inv-loop μ-loop
-shared-slice-read-pattern c = search needs
-
 pattern-requires : tie.Need-pattern-requires Inv-loop μ-loop
 pattern-requires c κs = all-finite-means _ .0 (c .before .before .before .before .pre) _ (search needs)
-
-beyond-requires : tie.Need-beyond-requires Inv-loop μ-loop
-beyond-requires c κs = search needs
-
-lesser-requires : tie.Need-lesser-requires Inv-loop μ-loop
-lesser-requires c κs = search needs
-
-greater-requires : tie.Need-greater-requires Inv-loop μ-loop
-greater-requires c κs = search needs
 
 returns : tie.Need-returns Inv-loop μ-loop
 returns c =
@@ -42,12 +27,6 @@ returns c =
     measure-stop
     (measure-turn (at-loop .loop .inv) (search needs) (c .before .before .before .before .before .shared-slice-known2 .given (at-loop .loop .k)) (c .before .before .before .before .pattern .ensures)
     (c .before .before .before .beyond .ensures) (c .before .before .lesser .ensures) (c .before .greater .ensures)) (c .if1 .taken)
-
-add-k : tie.Need-add-k Inv-loop μ-loop
-add-k c = search needs
-
-loop-less : tie.Need-loop-less Inv-loop μ-loop
-loop-less c = search needs
 
 loop-again : tie.Need-loop-again Inv-loop μ-loop
 loop-again c =
@@ -65,14 +44,14 @@ measured-spec =
     Inv-loop
     μ-loop
     loop-holds
-    mul-pattern
-    shared-slice-read-pattern
+    (λ c. search needs)
+    (λ c. search needs)
     pattern-requires
-    beyond-requires
-    lesser-requires
-    greater-requires
+    (λ c κs. search needs)
+    (λ c κs. search needs)
+    (λ c κs. search needs)
     returns
-    add-k
-    loop-less
+    (λ c. search needs)
+    (λ c. search needs)
     loop-again
     returns-2)

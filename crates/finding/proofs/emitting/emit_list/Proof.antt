@@ -14,26 +14,11 @@ abbrev μ-loop : tie.MeasureT-loop
 loop-holds : tie.Need-loop-holds Inv-loop μ-loop
 loop-holds c = emitting-start (c .before .before .before .pre)
 
-add-wide-word : tie.Need-add-wide-word Inv-loop μ-loop
-add-wide-word c = search needs
-
-mul-wide-word : tie.Need-mul-wide-word Inv-loop μ-loop
-mul-wide-word c = search needs
-
 slice-read-wide-word : tie.Need-slice-read-wide-word Inv-loop μ-loop
 slice-read-wide-word c = emitting-read (c .before .before .loop .inv) (c .before .loop-test .taken)
 
-wide-word-requires : tie.Need-wide-word-requires Inv-loop μ-loop
-wide-word-requires c κs = search needs
-
 emit-from-requires : tie.Need-emit-from-requires Inv-loop μ-loop
 emit-from-requires c κs = emitting-asks (c .before .before .before .before .loop .inv) (c .before .before .before .loop-test .taken) (c .before .wide-word .ensures)
-
-add-p : tie.Need-add-p Inv-loop μ-loop
-add-p c = search needs
-
-loop-less : tie.Need-loop-less Inv-loop μ-loop
-loop-less c = search needs
 
 loop-again : tie.Need-loop-again Inv-loop μ-loop
 loop-again c = emitting-turn (c .before .before .before .before .before .before .before .loop .inv) (c .before .before .before .before .before .before .loop-test .taken) (c .before .before .before .before .wide-word .ensures) (c .before .before .emit-from .ensures)
@@ -51,13 +36,13 @@ emit-list-spec =
     Inv-loop
     μ-loop
     loop-holds
-    add-wide-word
-    mul-wide-word
+    (λ c. search needs)
+    (λ c. search needs)
     slice-read-wide-word
-    wide-word-requires
+    (λ c κs. search needs)
     emit-from-requires
-    add-p
-    loop-less
+    (λ c. search needs)
+    (λ c. search needs)
     loop-again
     same-length
     returns)

@@ -15,29 +15,11 @@ abbrev μ-loop : tie.MeasureT-loop
 loop-holds : tie.Need-loop-holds Inv-loop μ-loop
 loop-holds c = keeping-start (c .pre .0) (c .pre .1)
 
-add-u : tie.Need-add-u Inv-loop μ-loop
-add-u c = search needs
-
-mul-u : tie.Need-mul-u Inv-loop μ-loop
-mul-u c = search needs
-
 slice-read-u : tie.Need-slice-read-u Inv-loop μ-loop
 slice-read-u c = omega (arith, c .before .before .loop .inv .low, c .before .before .loop .inv .room, keeping-long (c .before .before .loop .inv), c .before .loop-test .taken)
 
-add-u-2 : tie.Need-add-u-2 Inv-loop μ-loop
-add-u-2 c = search needs
-
-mul-u-2 : tie.Need-mul-u-2 Inv-loop μ-loop
-mul-u-2 c = search needs
-
 slice-write-u : tie.Need-slice-write-u Inv-loop μ-loop
 slice-write-u c = omega (arith, c .before .before .loop .inv .room, keeping-long (c .before .before .loop .inv), c .before .loop-test .taken)
-
-add-p : tie.Need-add-p Inv-loop μ-loop
-add-p c = search needs
-
-loop-less : tie.Need-loop-less Inv-loop μ-loop
-loop-less c = search needs
 
 loop-again : tie.Need-loop-again Inv-loop μ-loop
 loop-again c = keeping-turn (c .before .before .loop .inv) (c .before .loop-test .taken)
@@ -55,14 +37,14 @@ keep-spec =
     Inv-loop
     μ-loop
     loop-holds
-    add-u
-    mul-u
+    (λ c. search needs)
+    (λ c. search needs)
     slice-read-u
-    add-u-2
-    mul-u-2
+    (λ c. search needs)
+    (λ c. search needs)
     slice-write-u
-    add-p
-    loop-less
+    (λ c. search needs)
+    (λ c. search needs)
     loop-again
     same-length
     returns)

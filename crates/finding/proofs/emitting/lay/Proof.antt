@@ -15,23 +15,11 @@ abbrev μ-loop : tie.MeasureT-loop
 loop-holds : tie.Need-loop-holds Inv-loop μ-loop
 loop-holds c = laying-start (c .before .before .pre)
 
-add-wide-word : tie.Need-add-wide-word Inv-loop μ-loop
-add-wide-word c = search needs
-
-mul-wide-word : tie.Need-mul-wide-word Inv-loop μ-loop
-mul-wide-word c = search needs
-
 slice-read-wide-word : tie.Need-slice-read-wide-word Inv-loop μ-loop
 slice-read-wide-word c = laying-read (c .before .before .loop .inv) (c .before .loop-test .taken)
 
-wide-word-requires : tie.Need-wide-word-requires Inv-loop μ-loop
-wide-word-requires c κs = search needs
-
 shared-slice-read-word : tie.Need-shared-slice-read-word Inv-loop μ-loop
 shared-slice-read-word c = laying-inside (c .before .before .before .before .loop .inv) (c .before .before .before .loop-test .taken) (c .before .wide-word .ensures)
-
-word-requires : tie.Need-word-requires Inv-loop μ-loop
-word-requires c κs = search needs
 
 add-u : tie.Need-add-u Inv-loop μ-loop
 add-u c = omega (arith, laying-write (c .before .before .before .before .before .loop .inv) (c .before .before .before .before .loop-test .taken) (c .before .before .wide-word .ensures), laying-long (c .before .before .before .before .before .loop .inv))
@@ -41,12 +29,6 @@ mul-u c = omega (arith, laying-write (c .before .before .before .before .before 
 
 slice-write-u : tie.Need-slice-write-u Inv-loop μ-loop
 slice-write-u c = laying-write (c .before .before .before .before .before .loop .inv) (c .before .before .before .before .loop-test .taken) (c .before .before .wide-word .ensures)
-
-add-p : tie.Need-add-p Inv-loop μ-loop
-add-p c = search needs
-
-loop-less : tie.Need-loop-less Inv-loop μ-loop
-loop-less c = search needs
 
 loop-again : tie.Need-loop-again Inv-loop μ-loop
 loop-again c = laying-turn (c .before .before .before .before .before .loop .inv) (c .before .before .before .before .loop-test .taken) (c .before .before .wide-word .ensures) (c .word .ensures)
@@ -64,17 +46,17 @@ lay-spec =
     Inv-loop
     μ-loop
     loop-holds
-    add-wide-word
-    mul-wide-word
+    (λ c. search needs)
+    (λ c. search needs)
     slice-read-wide-word
-    wide-word-requires
+    (λ c κs. search needs)
     shared-slice-read-word
-    word-requires
+    (λ c κs. search needs)
     add-u
     mul-u
     slice-write-u
-    add-p
-    loop-less
+    (λ c. search needs)
+    (λ c. search needs)
     loop-again
     same-length
     returns)

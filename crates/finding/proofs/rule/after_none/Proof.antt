@@ -6,15 +6,9 @@ use borrow.Author.Needs.{needs}
 use Rattle.finding.proofs.rule.after_none.Statement.{statement}
 use Rattle.finding.proofs.rule.after_none.Tie as tie
 
-key-requires : tie.Need-key-requires
-key-requires c κs = search needs
-
 returns : tie.Need-returns
 unfolding found numberOf
 returns c = rw (c .before .if1 .taken) (c .key .ensures)
-
-key-requires-2 : tie.Need-key-requires-2
-key-requires-2 c κs = search needs
 
 returns-2 : tie.Need-returns-2
 unfolding found numberOf
@@ -24,4 +18,4 @@ returns-3 : tie.Need-returns-3
 returns-3 c = after-none-none _ _ _ (c .before .if1 .left) (c .if2 .left)
 
 pub after-none-spec : {M : Type 1} → statement M
-after-none-spec = tie.close (tie.spec key-requires returns key-requires-2 returns-2 returns-3)
+after-none-spec = tie.close (tie.spec (λ c κs. search needs) returns (λ c κs. search needs) returns-2 returns-3)

@@ -6,9 +6,6 @@ use borrow.Author.Needs.{needs}
 use Rattle.finding.proofs.rule.after_one.Statement.{statement}
 use Rattle.finding.proofs.rule.after_one.Tie as tie
 
-key-requires : tie.Need-key-requires
-key-requires c κs = search needs
-
 returns : tie.Need-returns
 unfolding found numberOf
 returns c = rw (c .before .if1 .taken) (c .key .ensures)
@@ -17,11 +14,8 @@ returns-2 : tie.Need-returns-2
 unfolding found numberOf
 returns-2 c = rw (c .if2 .taken)
 
-key-requires-2 : tie.Need-key-requires-2
-key-requires-2 c κs = search needs
-
 returns-3 : tie.Need-returns-3
 returns-3 c = after-one-none _ _ _ (c .before .before .if1 .left) (c .before .if2 .left) (c .key2 .ensures)
 
 pub after-one-spec : {M : Type 1} → statement M
-after-one-spec = tie.close (tie.spec key-requires returns returns-2 key-requires-2 returns-3)
+after-one-spec = tie.close (tie.spec (λ c κs. search needs) returns returns-2 (λ c κs. search needs) returns-3)

@@ -10,18 +10,12 @@ returns : tie.Need-returns
 unfolding found numberOf
 returns c = rw (c .if1 .taken)
 
-key-requires : tie.Need-key-requires
-key-requires c κs = search needs
-
 returns-2 : tie.Need-returns-2
 unfolding found numberOf
 returns-2 c = rw (c .before .if2 .taken) (c .key .ensures)
-
-key-requires-2 : tie.Need-key-requires-2
-key-requires-2 c κs = search needs
 
 returns-3 : tie.Need-returns-3
 returns-3 c = after-zero-none _ _ _ (c .before .before .if1 .left) (c .before .if2 .left) (c .key2 .ensures)
 
 pub after-zero-spec : {M : Type 1} → statement M
-after-zero-spec = tie.close (tie.spec returns key-requires returns-2 key-requires-2 returns-3)
+after-zero-spec = tie.close (tie.spec returns (λ c κs. search needs) returns-2 (λ c κs. search needs) returns-3)

@@ -4,23 +4,14 @@ use borrow.Author.Needs.{needs}
 use Rattle.finding.proofs.rule.number.Statement.{statement}
 use Rattle.finding.proofs.rule.number.Tie as tie
 
-after-zero-requires : tie.Need-after-zero-requires
-after-zero-requires c κs = search needs
-
 returns : tie.Need-returns
 returns c = rw (c .before .if1 .taken) (c .after-zero .ensures)
 
-after-one-requires : tie.Need-after-one-requires
-after-one-requires c κs = search needs
-
 returns-2 : tie.Need-returns-2
 returns-2 c = rw (c .before .if2 .taken) (c .after-one .ensures)
-
-after-none-requires : tie.Need-after-none-requires
-after-none-requires c κs = search needs
 
 returns-3 : tie.Need-returns-3
 returns-3 c = number-none _ _ _ _ (c .before .before .if1 .left) (c .before .if2 .left) (c .after-none .ensures)
 
 pub number-spec : {M : Type 1} → statement M
-number-spec = tie.close (tie.spec after-zero-requires returns after-one-requires returns-2 after-none-requires returns-3)
+number-spec = tie.close (tie.spec (λ c κs. search needs) returns (λ c κs. search needs) returns-2 (λ c κs. search needs) returns-3)

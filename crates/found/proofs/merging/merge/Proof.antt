@@ -5,24 +5,12 @@ use borrow.Author.Needs.{needs}
 use Rattle.found.proofs.merging.merge.Statement.{statement}
 use Rattle.found.proofs.merging.merge.Tie as tie
 
-count-requires : tie.Need-count-requires
-count-requires c κs = search needs
-
-same-length : tie.Need-same-length
-same-length c = search needs
-
 returns : tie.Need-returns
 returns c =
     let at-count = c .before in
     let start = at-count .before .before .before .before in
     let a = start .args in
     settled-full (joint (a .held) (a .lo) (a .hi) (a .list .now) (a .u .now)) (a .list .now) (a .u .now) (at-count .count .ensures) (c .if1 .taken)
-
-lay-requires : tie.Need-lay-requires
-lay-requires c κs = search needs
-
-same-length-2 : tie.Need-same-length-2
-same-length-2 c = search needs
 
 returns-2 : tie.Need-returns-2
 returns-2 c =
@@ -35,4 +23,4 @@ returns-2 c =
 
 pub merge-spec : {M : Type 1} → statement M
 merge-spec =
-    tie.close (tie.spec count-requires same-length returns lay-requires same-length-2 returns-2)
+    tie.close (tie.spec (λ c κs. search needs) (λ c. search needs) returns (λ c κs. search needs) (λ c. search needs) returns-2)

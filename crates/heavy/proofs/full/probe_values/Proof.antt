@@ -4,9 +4,6 @@ use borrow.Author.Needs.{needs}
 use Rattle.heavy.proofs.full.probe_values.Statement.{statement}
 use Rattle.heavy.proofs.full.probe_values.Tie as tie
 
-copy-requires : tie.Need-copy-requires
-copy-requires c κs = search needs
-
 remember-requires : tie.Need-remember-requires
 remember-requires c κs =
     let at-before = c .before .before .before .before in
@@ -21,15 +18,6 @@ walk-free-requires c κs =
     let at-start = at-remember .before .before .before .before .before .before .before .before .before .before .before .before .before .before .before .before in
     (at-remember .remember .ensures .1, (at-remember .remember .ensures .0, walk-room (at-start .pre .0) (search needs)))
 
-same-length : tie.Need-same-length
-same-length c = search needs
-
-same-length-2 : tie.Need-same-length-2
-same-length-2 c = search needs
-
-same-length-3 : tie.Need-same-length-3
-same-length-3 c = search needs
-
 returns : tie.Need-returns
 returns c = c .before .before .before .before .before .before .walk-free .ensures
 
@@ -37,10 +25,10 @@ pub probe-values-spec : {M : Type 1} → statement M
 probe-values-spec =
     tie.close
     (tie.spec
-    copy-requires
+    (λ c κs. search needs)
     remember-requires
     walk-free-requires
-    same-length
-    same-length-2
-    same-length-3
+    (λ c. search needs)
+    (λ c. search needs)
+    (λ c. search needs)
     returns)

@@ -42,15 +42,6 @@ flat-rows-requires c κs =
     let placed = at-propagate .propagate .ensures .kept .placed in
     omega (arith, placed .values-long, placed .floats-room)
 
-same-length : tie.Need-same-length
-same-length c = search needs
-
-same-length-2 : tie.Need-same-length-2
-same-length-2 c = search needs
-
-same-length-3 : tie.Need-same-length-3
-same-length-3 c = search needs
-
 returns : tie.Need-returns
 returns c =
     let at-propagate = c .before .before .before .before .before .before .before .before .before in
@@ -70,7 +61,7 @@ work-spec =
     build-requires
     propagate-requires
     flat-rows-requires
-    same-length
-    same-length-2
-    same-length-3
+    (λ c. search needs)
+    (λ c. search needs)
+    (λ c. search needs)
     returns)

@@ -22,12 +22,6 @@ strict-rows-requires c κs =
     let ready = start .pre .0 in
     (omega (arith, ready .values-long, ready .shaped .few-variables), omega (arith, ready .values-long, start .pre .1, at-store-rows .store-rows .ensures .long))
 
-same-length : tie.Need-same-length
-same-length c = search needs
-
-same-length-2 : tie.Need-same-length-2
-same-length-2 c = search needs
-
 returns : tie.Need-returns
 returns c =
     let at-store-rows = c .before .before .before .before in
@@ -42,6 +36,6 @@ begin-spec =
     fill-requires
     store-rows-requires
     strict-rows-requires
-    same-length
-    same-length-2
+    (λ c. search needs)
+    (λ c. search needs)
     returns)

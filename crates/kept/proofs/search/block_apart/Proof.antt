@@ -18,30 +18,6 @@ abbrev μ-loop : tie.MeasureT-loop
 loop-holds : tie.Need-loop-holds Inv-loop μ-loop
 loop-holds c = testing-start _ _
 
-add-at : tie.Need-add-at Inv-loop μ-loop
-add-at c = search needs
-
-mul-is-apart : tie.Need-mul-is-apart Inv-loop μ-loop
-mul-is-apart c = search needs
-
-shared-slice-read-is-apart : tie.Need-shared-slice-read-is-apart Inv-loop μ-loop
-shared-slice-read-is-apart c = search needs
-
-mul-is-apart-2 : tie.Need-mul-is-apart-2 Inv-loop μ-loop
-mul-is-apart-2 c = search needs
-
-shared-slice-read-is-apart-2 : tie.Need-shared-slice-read-is-apart-2 Inv-loop μ-loop
-shared-slice-read-is-apart-2 c = search needs
-
-is-apart-requires : tie.Need-is-apart-requires Inv-loop μ-loop
-is-apart-requires c κs = search needs
-
-add-k : tie.Need-add-k Inv-loop μ-loop
-add-k c = search needs
-
-loop-less : tie.Need-loop-less Inv-loop μ-loop
-loop-less c = search needs
-
 loop-again : tie.Need-loop-again Inv-loop μ-loop
 loop-again c = testing-turn _ (c .before .before .before .before .loop .inv) (omega arith) (c .is-apart .ensures)
 
@@ -55,13 +31,13 @@ block-apart-spec =
     Inv-loop
     μ-loop
     loop-holds
-    add-at
-    mul-is-apart
-    shared-slice-read-is-apart
-    mul-is-apart-2
-    shared-slice-read-is-apart-2
-    is-apart-requires
-    add-k
-    loop-less
+    (λ c. search needs)
+    (λ c. search needs)
+    (λ c. search needs)
+    (λ c. search needs)
+    (λ c. search needs)
+    (λ c κs. search needs)
+    (λ c. search needs)
+    (λ c. search needs)
     loop-again
     returns)

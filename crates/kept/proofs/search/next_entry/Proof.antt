@@ -22,20 +22,8 @@ skip-requires c κs = c .before .before .pre
 loop-holds : tie.Need-loop-holds Inv-loop μ-loop
 loop-holds c = c .skip .ensures
 
-mul-is-apart : tie.Need-mul-is-apart Inv-loop μ-loop
-mul-is-apart c = search needs
-
-shared-slice-read-is-apart : tie.Need-shared-slice-read-is-apart Inv-loop μ-loop
-shared-slice-read-is-apart c = search needs
-
-mul-is-apart-2 : tie.Need-mul-is-apart-2 Inv-loop μ-loop
-mul-is-apart-2 c = search needs
-
 shared-slice-read-is-apart-2 : tie.Need-shared-slice-read-is-apart-2 Inv-loop μ-loop
 shared-slice-read-is-apart-2 c = omega (arith, c .before .before .loop-test .taken, c .before .before .before .before .before .before .before .pre .0)
-
-is-apart-requires : tie.Need-is-apart-requires Inv-loop μ-loop
-is-apart-requires c κs = search needs
 
 returns : tie.Need-returns Inv-loop μ-loop
 returns c = next-found (c .before .before .before .before .before .loop .inv) (sym (c .before .is-apart .ensures) ∙ not-true _ (c .if1 .taken))
@@ -64,11 +52,11 @@ next-entry-spec =
     μ-loop
     skip-requires
     loop-holds
-    mul-is-apart
-    shared-slice-read-is-apart
-    mul-is-apart-2
+    (λ c. search needs)
+    (λ c. search needs)
+    (λ c. search needs)
     shared-slice-read-is-apart-2
-    is-apart-requires
+    (λ c κs. search needs)
     returns
     add-k
     loop-less

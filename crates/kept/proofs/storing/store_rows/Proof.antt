@@ -19,23 +19,11 @@ abbrev μ-loop : tie.MeasureT-loop
 loop-holds : tie.Need-loop-holds Inv-loop μ-loop
 loop-holds c = written-none _
 
-shared-slice-read-stored-row : tie.Need-shared-slice-read-stored-row Inv-loop μ-loop
-shared-slice-read-stored-row c = search needs
-
 row-at-requires : tie.Need-row-at-requires Inv-loop μ-loop
 row-at-requires c κs = omega (arith, c .before .before .before .before .before .before .before .pre .0)
 
-stored-row-requires : tie.Need-stored-row-requires Inv-loop μ-loop
-stored-row-requires c κs = search needs
-
 put-row-requires : tie.Need-put-row-requires Inv-loop μ-loop
 put-row-requires c κs = omega (arith, c .before .before .before .before .before .loop .inv .long, c .before .before .before .before .before .before .before .before .before .pre .1)
-
-add-t : tie.Need-add-t Inv-loop μ-loop
-add-t c = search needs
-
-loop-less : tie.Need-loop-less Inv-loop μ-loop
-loop-less c = search needs
 
 loop-again : tie.Need-loop-again Inv-loop μ-loop
 loop-again c =
@@ -60,12 +48,12 @@ store-rows-spec =
     Inv-loop
     μ-loop
     loop-holds
-    shared-slice-read-stored-row
+    (λ c. search needs)
     row-at-requires
-    stored-row-requires
+    (λ c κs. search needs)
     put-row-requires
-    add-t
-    loop-less
+    (λ c. search needs)
+    (λ c. search needs)
     loop-again
     same-length
     returns)

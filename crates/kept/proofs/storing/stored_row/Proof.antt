@@ -5,12 +5,6 @@ use borrow.Author.Needs.{needs}
 use Rattle.kept.proofs.storing.stored_row.Statement.{statement}
 use Rattle.kept.proofs.storing.stored_row.Tie as tie
 
-plain-requires : tie.Need-plain-requires
-plain-requires c κs = search needs
-
-start-requires : tie.Need-start-requires
-start-requires c κs = search needs
-
 returns : tie.Need-returns
 unfolding storedRow
 returns c = simp (eq-eqb _ _ (c .before .if1 .taken)) (c .plain .ensures)
@@ -20,4 +14,4 @@ unfolding storedRow
 returns-2 c = simp (ne-eqb _ _ (c .before .if1 .left)) (c .start .ensures)
 
 pub stored-row-spec : {M : Type 1} → statement M
-stored-row-spec = tie.close (tie.spec plain-requires start-requires returns returns-2)
+stored-row-spec = tie.close (tie.spec (λ c κs. search needs) (λ c κs. search needs) returns returns-2)

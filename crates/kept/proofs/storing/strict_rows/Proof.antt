@@ -16,14 +16,8 @@ abbrev μ-loop : tie.MeasureT-loop
 loop-holds : tie.Need-loop-holds Inv-loop μ-loop
 loop-holds c = count-start _ _
 
-shared-slice-read-strict-at : tie.Need-shared-slice-read-strict-at Inv-loop μ-loop
-shared-slice-read-strict-at c = search needs
-
 row-at-requires : tie.Need-row-at-requires Inv-loop μ-loop
 row-at-requires c κs = omega (arith, c .before .before .before .before .before .pre)
-
-strict-at-requires : tie.Need-strict-at-requires Inv-loop μ-loop
-strict-at-requires c κs = search needs
 
 add-strict : tie.Need-add-strict Inv-loop μ-loop
 add-strict c =
@@ -32,12 +26,6 @@ add-strict c =
     let at-loop = at-loop-test .before in
     let start = at-loop .before .before .before in
     omega (arith, count-few (at-loop .loop .inv) refl (at-row-at .row-at .ensures) (c .strict-at .ensures), start .pre .0, at-loop-test .loop-test .taken)
-
-add-i : tie.Need-add-i Inv-loop μ-loop
-add-i c = search needs
-
-loop-less : tie.Need-loop-less Inv-loop μ-loop
-loop-less c = search needs
 
 loop-again : tie.Need-loop-again Inv-loop μ-loop
 loop-again c = count-turn (c .before .before .before .before .loop .inv) refl (c .before .row-at .ensures) (c .strict-at .ensures) (c .before .before .before .loop-test .taken)
@@ -52,11 +40,11 @@ strict-rows-spec =
     Inv-loop
     μ-loop
     loop-holds
-    shared-slice-read-strict-at
+    (λ c. search needs)
     row-at-requires
-    strict-at-requires
+    (λ c κs. search needs)
     add-strict
-    add-i
-    loop-less
+    (λ c. search needs)
+    (λ c. search needs)
     loop-again
     returns)

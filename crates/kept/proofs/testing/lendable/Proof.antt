@@ -9,12 +9,6 @@ use borrow.Author.Needs.{needs}
 use Rattle.kept.proofs.testing.lendable.Statement.{statement}
 use Rattle.kept.proofs.testing.lendable.Tie as tie
 
-recorded-requires : tie.Need-recorded-requires
-recorded-requires c κs = search needs
-
-enum-known-checked : tie.Need-enum-known-checked
-enum-known-checked c = search needs
-
 returns : tie.Need-returns
 unfolding lentTests
 returns c = group-no _ _ (sym (c .before .before .before .recorded .ensures) ∙ c .before .checked .given .1)
@@ -66,8 +60,8 @@ pub lendable-spec : {M : Type 1} → statement M
 lendable-spec =
     tie.close
     (tie.spec
-    recorded-requires
-    enum-known-checked
+    (λ c κs. search needs)
+    (λ c. search needs)
     returns
     enum-told
     floats-fit-requires

@@ -11,9 +11,6 @@ returns : tie.Need-returns
 unfolding mayPin
 returns c = and-no _ (le-ltb _ _ (c .if1 .taken))
 
-shared-slice-read-if2 : tie.Need-shared-slice-read-if2
-shared-slice-read-if2 c = search needs
-
 returns-2 : tie.Need-returns-2
 unfolding mayPin
 returns-2 c = and-yes (lt-ltb _ _ (c .before .before .if1 .left)) (and-no _ (ne-eqb _ _ (c .if2 .taken)))
@@ -23,4 +20,4 @@ unfolding mayPin
 returns-3 c = and-yes (lt-ltb _ _ (c .before .before .if1 .left)) (and-yes (eq-eqb _ _ (c .if2 .left)) refl)
 
 pub may-pin-spec : {M : Type 1} → statement M
-may-pin-spec = tie.close (tie.spec returns shared-slice-read-if2 returns-2 returns-3)
+may-pin-spec = tie.close (tie.spec returns (λ c. search needs) returns-2 returns-3)

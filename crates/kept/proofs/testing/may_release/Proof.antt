@@ -11,12 +11,9 @@ returns : tie.Need-returns
 unfolding mayRelease
 returns c = and-no _ (le-ltb _ _ (c .if1 .taken))
 
-shared-slice-read-result : tie.Need-shared-slice-read-result
-shared-slice-read-result c = search needs
-
 returns-2 : tie.Need-returns-2
 unfolding mayRelease
 returns-2 c = and-yes (lt-ltb _ _ (c .before .if1 .left)) refl
 
 pub may-release-spec : {M : Type 1} → statement M
-may-release-spec = tie.close (tie.spec returns shared-slice-read-result returns-2)
+may-release-spec = tie.close (tie.spec returns (λ c. search needs) returns-2)

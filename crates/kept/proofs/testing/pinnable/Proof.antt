@@ -8,12 +8,6 @@ use borrow.Author.Needs.{needs}
 use Rattle.kept.proofs.testing.pinnable.Statement.{statement}
 use Rattle.kept.proofs.testing.pinnable.Tie as tie
 
-recorded-requires : tie.Need-recorded-requires
-recorded-requires c κs = search needs
-
-enum-known-checked : tie.Need-enum-known-checked
-enum-known-checked c = search needs
-
 returns : tie.Need-returns
 unfolding pinTests
 returns c = group-no _ _ (sym (c .before .before .before .recorded .ensures) ∙ c .before .checked .given .1)
@@ -44,8 +38,8 @@ pub pinnable-spec : {M : Type 1} → statement M
 pinnable-spec =
     tie.close
     (tie.spec
-    recorded-requires
-    enum-known-checked
+    (λ c κs. search needs)
+    (λ c. search needs)
     returns
     enum-told
     may-pin-requires

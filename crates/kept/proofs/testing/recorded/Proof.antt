@@ -7,21 +7,12 @@ use borrow.Author.Needs.{needs}
 use Rattle.kept.proofs.testing.recorded.Statement.{statement}
 use Rattle.kept.proofs.testing.recorded.Tie as tie
 
-standard-requires : tie.Need-standard-requires
-standard-requires c κs = search needs
-
-enum-known-sound : tie.Need-enum-known-sound
-enum-known-sound c = search needs
-
 returns : tie.Need-returns
 unfolding recordTests
 returns c = group-no _ _ (sym (c .before .before .before .standard .ensures) ∙ c .before .sound .given .1)
 
 enum-told : tie.Need-enum-told
 enum-told c = search needs
-
-add-if1 : tie.Need-add-if1
-add-if1 c = search needs
 
 returns-2 : tie.Need-returns-2
 unfolding recordTests boundsFit
@@ -34,4 +25,4 @@ returns-3 c = group-ok _ _ (sym (c .before .before .before .standard .ensures) �
 pub recorded-spec : {M : Type 1} → statement M
 recorded-spec =
     tie.close
-    (tie.spec standard-requires enum-known-sound returns enum-told add-if1 returns-2 returns-3)
+    (tie.spec (λ c κs. search needs) (λ c. search needs) returns enum-told (λ c. search needs) returns-2 returns-3)

@@ -10,17 +10,11 @@ use Rattle.kept.proofs.turning.afresh.Tie as tie
 shared-slice-read-value : tie.Need-shared-slice-read-value
 shared-slice-read-value c = omega (arith, c .before .before .before .before .before .before .pre .1, c .before .before .before .before .before .before .pre .0 .start .long)
 
-start-requires : tie.Need-start-requires
-start-requires c κs = search needs
-
 returns : tie.Need-returns
 returns c = c .start .ensures ∙ sym (stored-fixed _ (c .before .if1 .taken))
 
 own-row-requires : tie.Need-own-row-requires
 own-row-requires c κs = c .before .before .before .before .before .before .before .pre
-
-plain-requires : tie.Need-plain-requires
-plain-requires c κs = search needs
 
 returns-2 : tie.Need-returns-2
 returns-2 c = c .plain .ensures ∙ ap plain (c .before .own-row .ensures) ∙ sym (stored-free _ (c .before .before .if1 .left))
@@ -30,8 +24,8 @@ afresh-spec =
     tie.close
     (tie.spec
     shared-slice-read-value
-    start-requires
+    (λ c κs. search needs)
     returns
     own-row-requires
-    plain-requires
+    (λ c κs. search needs)
     returns-2)

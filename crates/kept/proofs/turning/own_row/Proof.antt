@@ -18,15 +18,6 @@ abbrev μ-loop : tie.MeasureT-loop
 cast-short : tie.Need-cast-short Inv-loop μ-loop
 cast-short c = omega (arith, c .before .before .before .before .before .pre .1, c .before .before .before .before .before .pre .0 .shaped .few-variables)
 
-mul-start : tie.Need-mul-start Inv-loop μ-loop
-mul-start c = search needs
-
-shared-slice-read-start : tie.Need-shared-slice-read-start Inv-loop μ-loop
-shared-slice-read-start c = search needs
-
-start-requires : tie.Need-start-requires Inv-loop μ-loop
-start-requires c κs = search needs
-
 next-entry-requires : tie.Need-next-entry-requires Inv-loop μ-loop
 next-entry-requires c κs =
     let start = c .before .before .before .before .before .before .before in
@@ -42,18 +33,12 @@ other-end-requires c κs =
     let shaped = start .pre .0 .shaped in
     (c .loop-test .taken, omega (arith, c .loop-test .taken, shaped .rows-long, shaped .cols-long))
 
-mul-half : tie.Need-mul-half Inv-loop μ-loop
-mul-half c = search needs
-
 shared-slice-read-half : tie.Need-shared-slice-read-half Inv-loop μ-loop
 shared-slice-read-half c =
     let at-loop-test = c .before .before in
     let start = at-loop-test .before .before .before .before .before .before .before .before .before .before in
     let shaped = start .pre .0 .shaped in
     omega (arith, at-loop-test .loop-test .taken, shaped .rows-long)
-
-half-requires : tie.Need-half-requires Inv-loop μ-loop
-half-requires c κs = search needs
 
 shared-slice-read-add-term : tie.Need-shared-slice-read-add-term Inv-loop μ-loop
 shared-slice-read-add-term c =
@@ -63,9 +48,6 @@ shared-slice-read-add-term c =
     let start = at-loop .before .before .before .before .before .before .before .before .before in
     let shaped = start .pre .0 .shaped in
     omega (arith, at-other-end .other-end .ensures, other-below shaped (start .args .i) (at-loop .loop .k) (omega (arith, at-loop-test .loop-test .taken, shaped .rows-long)), start .pre .0 .start .long)
-
-add-term-requires : tie.Need-add-term-requires Inv-loop μ-loop
-add-term-requires c κs = search needs
 
 add-next-entry : tie.Need-add-next-entry Inv-loop μ-loop
 add-next-entry c = omega (arith, c .before .before .before .before .before .loop-test .taken)
@@ -102,17 +84,17 @@ own-row-spec =
     Inv-loop
     μ-loop
     cast-short
-    mul-start
-    shared-slice-read-start
-    start-requires
+    (λ c. search needs)
+    (λ c. search needs)
+    (λ c κs. search needs)
     next-entry-requires
     loop-holds
     other-end-requires
-    mul-half
+    (λ c. search needs)
     shared-slice-read-half
-    half-requires
+    (λ c κs. search needs)
     shared-slice-read-add-term
-    add-term-requires
+    (λ c κs. search needs)
     add-next-entry
     next-entry-requires-2
     loop-less

@@ -21,38 +21,17 @@ shared-slice-read-if1 c =
 returns : tie.Need-returns
 returns c = turn-none _ _ _ _ _ _ _ (c .before .before .other-end .ensures) (c .before .before .before .before .before .before .before .before .before .pre .1 .1) (c .if1 .taken)
 
-mul-half : tie.Need-mul-half
-mul-half c = search needs
-
-shared-slice-read-half : tie.Need-shared-slice-read-half
-shared-slice-read-half c = search needs
-
-half-requires : tie.Need-half-requires
-half-requires c κs = search needs
-
 row-at-requires : tie.Need-row-at-requires
 row-at-requires c κs =
     let at-other-end = c .before .before .before .before .before in
     let start = at-other-end .before .before .before .before .before .before .before in
     omega (arith, at-other-end .other-end .ensures, other-below (start .pre .0 .sound .shaped) (start .args .i) (start .args .k) (start .pre .1 .0), start .pre .0 .long)
 
-remove-term-requires : tie.Need-remove-term-requires
-remove-term-requires c κs = search needs
-
-add-term-requires : tie.Need-add-term-requires
-add-term-requires c κs = search needs
-
-plain-requires : tie.Need-plain-requires
-plain-requires c κs = search needs
-
 put-row-requires : tie.Need-put-row-requires
 put-row-requires c κs =
     let at-other-end = c .before .before .before .before .before .before .before .before .before .before in
     let start = at-other-end .before .before .before .before .before .before .before in
     omega (arith, at-other-end .other-end .ensures, other-below (start .pre .0 .sound .shaped) (start .args .i) (start .args .k) (start .pre .1 .0), start .pre .0 .long)
-
-same-length : tie.Need-same-length
-same-length c = search needs
 
 returns-2 : tie.Need-returns-2
 returns-2 c =
@@ -75,13 +54,13 @@ turn-at-spec =
     other-end-requires
     shared-slice-read-if1
     returns
-    mul-half
-    shared-slice-read-half
-    half-requires
+    (λ c. search needs)
+    (λ c. search needs)
+    (λ c κs. search needs)
     row-at-requires
-    remove-term-requires
-    add-term-requires
-    plain-requires
+    (λ c κs. search needs)
+    (λ c κs. search needs)
+    (λ c κs. search needs)
     put-row-requires
-    same-length
+    (λ c. search needs)
     returns-2)

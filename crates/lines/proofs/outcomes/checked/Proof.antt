@@ -8,15 +8,6 @@ use Rattle.lines.proofs.outcomes.checked.Tie as tie
 enum-told : tie.Need-enum-told
 enum-told c = search needs
 
-refused-requires : tie.Need-refused-requires
-refused-requires c κs = search needs
-
-enum-known-answer : tie.Need-enum-known-answer
-enum-known-answer c = search needs
-
-refusing-requires : tie.Need-refusing-requires
-refusing-requires c κs = search needs
-
 returns : tie.Need-returns
 returns c = c .refused .ensures ∙ ap checked (sym (c .before .enum-told .given .1))
 
@@ -28,8 +19,8 @@ checked-spec =
     tie.close
     (tie.spec
     enum-told
-    refused-requires
-    enum-known-answer
-    refusing-requires
+    (λ c κs. search needs)
+    (λ c. search needs)
+    (λ c κs. search needs)
     returns
     returns-2)

@@ -7,12 +7,6 @@ use borrow.Author.Needs.{needs}
 use Rattle.lines.proofs.outcomes.refusing.Statement.{statement}
 use Rattle.lines.proofs.outcomes.refusing.Tie as tie
 
-number-requires : tie.Need-number-requires
-number-requires c κs = search needs
-
-position-requires : tie.Need-position-requires
-position-requires c κs = search needs
-
 same-parts : {a b k j : ℕ} → a ≡ b → k ≡ j → outcome a false k 0 ≡ outcome b false j 0
 same-parts e f = rw (e, f)
 
@@ -20,4 +14,4 @@ returns : tie.Need-returns
 returns c = same-parts (c .before .number .ensures) (c .position .ensures)
 
 pub refusing-spec : {M : Type 1} → statement M
-refusing-spec = tie.close (tie.spec number-requires position-requires returns)
+refusing-spec = tie.close (tie.spec (λ c κs. search needs) (λ c κs. search needs) returns)

@@ -6,12 +6,6 @@ use borrow.Author.Needs.{needs}
 use Rattle.lines.proofs.shifted.put_closed.Statement.{statement}
 use Rattle.lines.proofs.shifted.put_closed.Tie as tie
 
-slice-aggregate-put-text : tie.Need-slice-aggregate-put-text
-slice-aggregate-put-text c = search needs
-
-put-text-requires : tie.Need-put-text-requires
-put-text-requires c κs = search needs
-
 slice-aggregate-put-entries : tie.Need-slice-aggregate-put-entries
 slice-aggregate-put-entries c =
     let a = c .before .before .before .before .before .before .before .before .before .before .before .before in
@@ -35,33 +29,18 @@ put-entries-requires c κs =
       omega (arith, r, length-take-le (s .args .m) (s .args .q .now) (omega arith)),
     )
 
-slice-aggregate-put-text-2 : tie.Need-slice-aggregate-put-text-2
-slice-aggregate-put-text-2 c = search needs
-
-put-text-requires-2 : tie.Need-put-text-requires-2
-put-text-requires-2 c κs = search needs
-
-put-promise-requires : tie.Need-put-promise-requires
-put-promise-requires c κs = search needs
-
-same-length : tie.Need-same-length
-same-length c = search needs
-
-returns : tie.Need-returns
-returns c = search needs
-
 pub put-closed-spec : {M : Type 1} → statement M
 put-closed-spec =
     tie.close
     (tie.spec
-    slice-aggregate-put-text
-    put-text-requires
+    (λ c. search needs)
+    (λ c κs. search needs)
     slice-aggregate-put-entries
     slice-aggregate-put-entries-2
     slice-aggregate-put-entries-3
     put-entries-requires
-    slice-aggregate-put-text-2
-    put-text-requires-2
-    put-promise-requires
-    same-length
-    returns)
+    (λ c. search needs)
+    (λ c κs. search needs)
+    (λ c κs. search needs)
+    (λ c. search needs)
+    (λ c. search needs))

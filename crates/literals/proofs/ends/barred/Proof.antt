@@ -3,9 +3,6 @@ use borrow.Author.Needs.{needs}
 use Rattle.literals.proofs.ends.barred.Statement.{statement}
 use Rattle.literals.proofs.ends.barred.Tie as tie
 
-forbids-requires : tie.Need-forbids-requires
-forbids-requires c κs = search needs
-
 returns : tie.Need-returns
 returns c = rw (c .before .if1 .taken) (c .forbids .ensures)
 
@@ -16,4 +13,4 @@ returns-2 : tie.Need-returns-2
 returns-2 c = rw (c .before .if1 .left) (c .forbids2 .ensures)
 
 pub barred-spec : {M : Type 1} → statement M
-barred-spec = tie.close (tie.spec forbids-requires returns forbids-requires-2 returns-2)
+barred-spec = tie.close (tie.spec (λ c κs. search needs) returns forbids-requires-2 returns-2)

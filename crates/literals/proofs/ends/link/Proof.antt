@@ -77,12 +77,6 @@ slice-write-u-2 c =
     let pre = start .pre in
     simp length-set (omega (arith, pre .1 .1 .0, at-loop .loop .inv .long, at-mine .mine .ensures, mine-below _ (pre .0) _ (at-loop-test .loop-test .taken)))
 
-add-x : tie.Need-add-x Inv-loop μ-loop
-add-x c = omega arith
-
-loop-less : tie.Need-loop-less Inv-loop μ-loop
-loop-less c = omega arith
-
 loop-again : tie.Need-loop-again Inv-loop μ-loop
 loop-again c =
     let at-mine = c .before in
@@ -120,8 +114,8 @@ link-spec =
     add-u-2
     mul-u-4
     slice-write-u-2
-    add-x
-    loop-less
+    (λ c. omega arith)
+    (λ c. omega arith)
     loop-again
     same-length
     returns)

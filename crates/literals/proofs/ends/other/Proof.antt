@@ -4,24 +4,6 @@ use borrow.Author.Needs.{needs}
 use Rattle.literals.proofs.ends.other.Statement.{statement}
 use Rattle.literals.proofs.ends.other.Tie as tie
 
-mul-at : tie.Need-mul-at
-mul-at c = search needs
-
-sub-at : tie.Need-sub-at
-sub-at c = search needs
-
-add-at : tie.Need-add-at
-add-at c = search needs
-
-mul-wide-short : tie.Need-mul-wide-short
-mul-wide-short c = search needs
-
-shared-slice-read-wide-short : tie.Need-shared-slice-read-wide-short
-shared-slice-read-wide-short c = search needs
-
-wide-short-requires : tie.Need-wide-short-requires
-wide-short-requires c κs = search needs
-
 returns : tie.Need-returns
 unfolding other
 returns c = search needs
@@ -30,10 +12,10 @@ pub other-spec : {M : Type 1} → statement M
 other-spec =
     tie.close
     (tie.spec
-    mul-at
-    sub-at
-    add-at
-    mul-wide-short
-    shared-slice-read-wide-short
-    wide-short-requires
+    (λ c. search needs)
+    (λ c. search needs)
+    (λ c. search needs)
+    (λ c. search needs)
+    (λ c. search needs)
+    (λ c κs. search needs)
     returns)

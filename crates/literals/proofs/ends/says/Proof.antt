@@ -4,12 +4,9 @@ use borrow.Author.Needs.{needs}
 use Rattle.literals.proofs.ends.says.Statement.{statement}
 use Rattle.literals.proofs.ends.says.Tie as tie
 
-gives-requires : tie.Need-gives-requires
-gives-requires c κs = search needs
-
 returns : tie.Need-returns
 unfolding setAt says
 returns c = c .gives .ensures
 
 pub says-spec : {M : Type 1} → statement M
-says-spec = tie.close (tie.spec (λ c. search needs) (λ c. search needs) (λ c. search needs) (λ c. search needs) gives-requires returns)
+says-spec = tie.close (tie.spec (λ c. search needs) (λ c. search needs) (λ c. search needs) (λ c. search needs) (λ c κs. search needs) returns)

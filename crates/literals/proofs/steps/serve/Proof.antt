@@ -11,9 +11,6 @@ Inv-loop start list u₀ tail i n last₀ p₀ u last p = Serving list start u�
 abbrev μ-loop : tie.MeasureT-loop
 μ-loop start list u₀ tail i n last₀ p₀ u last p = p
 
-mul-wide-word : tie.Need-mul-wide-word Inv-loop μ-loop
-mul-wide-word c = omega arith
-
 add-wide-word : tie.Need-add-wide-word Inv-loop μ-loop
 add-wide-word c = let pre = c .before .before .before .pre in omega (arith, pre .1 .0, pre .1 .1 .1 .variable)
 
@@ -23,14 +20,8 @@ mul-wide-word-2 c = let pre = c .before .before .before .pre in omega (arith, pr
 slice-read-wide-word : tie.Need-slice-read-wide-word Inv-loop μ-loop
 slice-read-wide-word c = let pre = c .before .before .before .before .pre in omega (arith, pre .1 .1 .0 .long, pre .1 .1 .1 .variable)
 
-wide-word-requires : tie.Need-wide-word-requires Inv-loop μ-loop
-wide-word-requires c κs = search needs
-
 loop-holds : tie.Need-loop-holds Inv-loop μ-loop
 loop-holds c = let pre = c .before .before .before .before .before .pre in serve-start (pre .0) (pre .1 .1 .1) (pre .1 .1 .0) (c .wide-word .ensures)
-
-sub-x : tie.Need-sub-x Inv-loop μ-loop
-sub-x c = omega arith
 
 serve-end-requires : tie.Need-serve-end-requires Inv-loop μ-loop
 serve-end-requires c κs = let pre = c .before .before .before .before .before .before .before .before .pre in let now = c .before .before .loop .inv in (
@@ -48,14 +39,8 @@ serve-end-requires c κs = let pre = c .before .before .before .before .before .
   ),
 )
 
-enum-known-step : tie.Need-enum-known-step Inv-loop μ-loop
-enum-known-step c = search needs
-
 enum-told : tie.Need-enum-told Inv-loop μ-loop
 enum-told c = search needs
-
-same-length : tie.Need-same-length Inv-loop μ-loop
-same-length c = search needs
 
 returns : tie.Need-returns Inv-loop μ-loop
 returns c =
@@ -65,9 +50,6 @@ returns c =
     let start = at-loop .before .before .before .before .before .before in
     let pre = start .pre in
     serve-clash (pre .0) (pre .1 .1 .1) (at-loop .loop .inv) (at-loop-test .loop-test .taken) (at-serve-end .serve-end .ensures) (c .enum-told .given .1)
-
-mul-wide-word-3 : tie.Need-mul-wide-word-3 Inv-loop μ-loop
-mul-wide-word-3 c = omega arith
 
 add-wide-word-2 : tie.Need-add-wide-word-2 Inv-loop μ-loop
 add-wide-word-2 c =
@@ -92,9 +74,6 @@ slice-read-wide-word-2 c =
     let now = at-loop .loop .inv in
     omega (arith, now .within, now .served .going .long, went-on (at-serve-end .serve-end .ensures) (at-step .step .given .1) .kept .long, at-loop-test .loop-test .taken)
 
-wide-word-requires-2 : tie.Need-wide-word-requires-2 Inv-loop μ-loop
-wide-word-requires-2 c κs = search needs
-
 loop-less : tie.Need-loop-less Inv-loop μ-loop
 loop-less c =
     let at-step = c .before .before .before in
@@ -117,9 +96,6 @@ loop-again c =
     serve-turn (pre .0) (pre .1 .1 .1) (at-loop .loop .inv) (at-loop-test .loop-test .taken) (went-on (at-serve-end .serve-end .ensures) (at-step .step .given .1))
     (c .wide-word2 .ensures)
 
-same-length-2 : tie.Need-same-length-2 Inv-loop μ-loop
-same-length-2 c = search needs
-
 returns-2 : tie.Need-returns-2 Inv-loop μ-loop
 returns-2 c = let pre = c .before .before .before .before .before .before .before .pre in serve-done (pre .0) (pre .1 .1 .1) (c .before .loop .inv) (c .loop-test .left)
 
@@ -129,24 +105,24 @@ serve-spec =
     (tie.spec
     Inv-loop
     μ-loop
-    mul-wide-word
+    (λ c. omega arith)
     add-wide-word
     mul-wide-word-2
     slice-read-wide-word
-    wide-word-requires
+    (λ c κs. search needs)
     loop-holds
-    sub-x
+    (λ c. omega arith)
     serve-end-requires
-    enum-known-step
+    (λ c. search needs)
     enum-told
-    same-length
+    (λ c. search needs)
     returns
-    mul-wide-word-3
+    (λ c. omega arith)
     add-wide-word-2
     mul-wide-word-4
     slice-read-wide-word-2
-    wide-word-requires-2
+    (λ c κs. search needs)
     loop-less
     loop-again
-    same-length-2
+    (λ c. search needs)
     returns-2)

@@ -19,9 +19,6 @@ says-requires c κs =
     let pre = start .pre in
     (pre .0 .whole, (pre .1 .1 .1 .0, rw (c .value .ensures, at-mine .mine .ensures) (pre .1 .1 .1 .1 .value)))
 
-same-length : tie.Need-same-length
-same-length c = search needs
-
 returns : tie.Need-returns
 returns c =
     let at-says = c .before in
@@ -30,9 +27,6 @@ returns c =
     let start = at-mine .before .before .before .before .before in
     let pre = start .pre in
     end-nothing (pre .0) (pre .1 .1 .0) (pre .1 .1 .1 .0) (pre .1 .1 .1 .1) (at-mine .mine .ensures) (at-value .value .ensures) (at-says .says .ensures) (c .if1 .taken)
-
-same-length-2 : tie.Need-same-length-2
-same-length-2 c = search needs
 
 returns-2 : tie.Need-returns-2
 returns-2 c =
@@ -52,9 +46,6 @@ value-requires-2 c κs =
     let start = at-other .before .before .before .before .before .before .before .before .before .before in
     let pre = start .pre in reads (pre .0) (pre .1 .1 .0) (at-other .other .ensures) (other-below _ (pre .0) _ (pre .1 .1 .1 .0))
 
-same-length-3 : tie.Need-same-length-3
-same-length-3 c = search needs
-
 returns-3 : tie.Need-returns-3
 returns-3 c =
     let at-value2 = c .before in
@@ -66,9 +57,6 @@ returns-3 c =
     let pre = start .pre in
     end-same (pre .0) (pre .1 .1 .0) (pre .1 .1 .1 .0) (pre .1 .1 .1 .1) (at-mine .mine .ensures) (at-value .value .ensures) (at-says .says .ensures)
     (at-other .other .ensures) (at-value2 .value2 .ensures) (c .if3 .taken)
-
-same-length-4 : tie.Need-same-length-4
-same-length-4 c = search needs
 
 returns-4 : tie.Need-returns-4
 returns-4 c =
@@ -102,9 +90,6 @@ force-requires c κs =
     (at-if1 .if1 .left) (at-if2 .if2 .left) (at-other .other .ensures) (at-value2 .value2 .ensures) (at-if3 .if3 .left) (at-if4 .if4 .left) in
     (room .0, (pre .1 .0, omega (arith, room .1, pre .1 .1 .0 .long)))
 
-same-length-5 : tie.Need-same-length-5
-same-length-5 c = search needs
-
 returns-5 : tie.Need-returns-5
 returns-5 c =
     let at-force = c .before .before in
@@ -130,16 +115,16 @@ serve-end-spec =
     mine-requires
     value-requires
     says-requires
-    same-length
+    (λ c. search needs)
     returns
-    same-length-2
+    (λ c. search needs)
     returns-2
     other-requires
     value-requires-2
-    same-length-3
+    (λ c. search needs)
     returns-3
-    same-length-4
+    (λ c. search needs)
     returns-4
     force-requires
-    same-length-5
+    (λ c. search needs)
     returns-5)

@@ -6,12 +6,6 @@ use borrow.Author.Needs.{needs}
 use Rattle.margins.proofs.bounds.hopeless.Statement.{statement}
 use Rattle.margins.proofs.bounds.hopeless.Tie as tie
 
-between-requires : tie.Need-between-requires
-between-requires c κs = search needs
-
-between-requires-2 : tie.Need-between-requires-2
-between-requires-2 c κs = search needs
-
 returns : tie.Need-returns
 unfolding hopeless
 returns c = and-yes (sym (c .before .before .between .ensures) ∙ c .before .if1 .taken) (c .between2 .ensures)
@@ -21,4 +15,4 @@ unfolding hopeless
 returns-2 c = and-no _ (sym (c .before .between .ensures) ∙ c .if1 .left)
 
 pub hopeless-spec : {M : Type 1} → statement M
-hopeless-spec = tie.close (tie.spec between-requires between-requires-2 returns returns-2)
+hopeless-spec = tie.close (tie.spec (λ c κs. search needs) (λ c κs. search needs) returns returns-2)

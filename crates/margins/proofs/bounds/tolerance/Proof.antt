@@ -3,11 +3,8 @@ use borrow.Author.Needs.{needs}
 use Rattle.margins.proofs.bounds.tolerance.Statement.{statement}
 use Rattle.margins.proofs.bounds.tolerance.Tie as tie
 
-at-least-one-requires : tie.Need-at-least-one-requires
-at-least-one-requires c κs = search needs
-
 returns : tie.Need-returns
 returns c = rw (c .at-least-one .ensures)
 
 pub tolerance-spec : {M : Type 1} → statement M
-tolerance-spec = tie.close (tie.spec at-least-one-requires returns)
+tolerance-spec = tie.close (tie.spec (λ c κs. search needs) returns)

@@ -4,9 +4,6 @@ use borrow.Author.Needs.{needs}
 use Rattle.margins.proofs.walking.is_going.Statement.{statement}
 use Rattle.margins.proofs.walking.is_going.Tie as tie
 
-hopeless-requires : tie.Need-hopeless-requires
-hopeless-requires c κs = search needs
-
 returns : tie.Need-returns
 returns c = going-no _ _ _ _ (c .before .hopeless .ensures) (c .if1 .taken)
 
@@ -17,4 +14,4 @@ returns-3 : tie.Need-returns-3
 returns-3 c = going-right _ _ _ _ (c .before .before .hopeless .ensures) (c .before .if1 .left) (c .if2 .left)
 
 pub is-going-spec : {M : Type 1} → statement M
-is-going-spec = tie.close (tie.spec hopeless-requires returns returns-2 returns-3)
+is-going-spec = tie.close (tie.spec (λ c κs. search needs) returns returns-2 returns-3)

@@ -10,12 +10,6 @@ returns c = met-i _ _ _ _ _ _ (c .if1 .taken)
 returns-2 : tie.Need-returns-2
 returns-2 c = met-j _ _ _ _ _ _ (c .before .if1 .left) (c .if2 .taken)
 
-meets-requires : tie.Need-meets-requires
-meets-requires c κs = search needs
-
-widened-requires : tie.Need-widened-requires
-widened-requires c κs = search needs
-
 returns-3 : tie.Need-returns-3
 returns-3 c =
     let at-if2 = c .before .before .before in
@@ -27,4 +21,4 @@ returns-4 c = met-none _ _ _ _ _ _ (c .before .before .before .if1 .left) (c .be
 
 pub met-spec : {M : Type 1} → statement M
 met-spec =
-    tie.close (tie.spec returns returns-2 meets-requires widened-requires returns-3 returns-4)
+    tie.close (tie.spec returns returns-2 (λ c κs. search needs) (λ c κs. search needs) returns-3 returns-4)

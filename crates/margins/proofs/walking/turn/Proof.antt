@@ -5,36 +5,6 @@ use borrow.Author.Needs.{needs}
 use Rattle.margins.proofs.walking.turn.Statement.{statement}
 use Rattle.margins.proofs.walking.turn.Tie as tie
 
-mul-wide-word : tie.Need-mul-wide-word
-mul-wide-word c = search needs
-
-shared-slice-read-wide-word : tie.Need-shared-slice-read-wide-word
-shared-slice-read-wide-word c = search needs
-
-wide-word-requires : tie.Need-wide-word-requires
-wide-word-requires c κs = search needs
-
-mul-wide-word-2 : tie.Need-mul-wide-word-2
-mul-wide-word-2 c = search needs
-
-shared-slice-read-wide-word-2 : tie.Need-shared-slice-read-wide-word-2
-shared-slice-read-wide-word-2 c = search needs
-
-wide-word-requires-2 : tie.Need-wide-word-requires-2
-wide-word-requires-2 c κs = search needs
-
-mul-met : tie.Need-mul-met
-mul-met c = search needs
-
-shared-slice-read-met : tie.Need-shared-slice-read-met
-shared-slice-read-met c = search needs
-
-met-requires : tie.Need-met-requires
-met-requires c κs = search needs
-
-add-t29 : tie.Need-add-t29
-add-t29 c = search needs
-
 returns : tie.Need-returns
 returns c =
     let at-wide-word2 = c .before .before .before in
@@ -43,18 +13,6 @@ returns c =
     let at-if1 = at-wide-word .before .before in
     turn-i _ _ _ _ _ (at-if1 .if1 .taken) (at-if2 .if2 .taken) (at-wide-word .wide-word .ensures) (at-wide-word2 .wide-word2 .ensures) (c .before .before .if3 .taken) (c .met .ensures)
 
-mul-met-2 : tie.Need-mul-met-2
-mul-met-2 c = search needs
-
-shared-slice-read-met-2 : tie.Need-shared-slice-read-met-2
-shared-slice-read-met-2 c = search needs
-
-met-requires-2 : tie.Need-met-requires-2
-met-requires-2 c κs = search needs
-
-add-t32 : tie.Need-add-t32
-add-t32 c = search needs
-
 returns-2 : tie.Need-returns-2
 returns-2 c =
     let at-wide-word2 = c .before .before .before .before in
@@ -62,27 +20,6 @@ returns-2 c =
     let at-wide-word = at-if2 .before in
     let at-if1 = at-wide-word .before .before in
     turn-j _ _ _ _ _ (at-if1 .if1 .taken) (at-if2 .if2 .taken) (at-wide-word .wide-word .ensures) (at-wide-word2 .wide-word2 .ensures) (c .before .before .if4 .taken) (c .met2 .ensures)
-
-mul-met-3 : tie.Need-mul-met-3
-mul-met-3 c = search needs
-
-shared-slice-read-met-3 : tie.Need-shared-slice-read-met-3
-shared-slice-read-met-3 c = search needs
-
-mul-met-4 : tie.Need-mul-met-4
-mul-met-4 c = search needs
-
-shared-slice-read-met-4 : tie.Need-shared-slice-read-met-4
-shared-slice-read-met-4 c = search needs
-
-met-requires-3 : tie.Need-met-requires-3
-met-requires-3 c κs = search needs
-
-add-t25 : tie.Need-add-t25
-add-t25 c = search needs
-
-add-t37 : tie.Need-add-t37
-add-t37 c = search needs
 
 returns-3 : tie.Need-returns-3
 returns-3 c =
@@ -95,18 +32,6 @@ returns-3 c =
     turn-both _ _ _ _ _ (at-if1 .if1 .taken) (at-if2 .if2 .taken) (at-wide-word .wide-word .ensures) (at-wide-word2 .wide-word2 .ensures) (at-if3 .if3 .left) (at-if4 .if4 .left)
     (c .met3 .ensures)
 
-mul-met-5 : tie.Need-mul-met-5
-mul-met-5 c = search needs
-
-shared-slice-read-met-5 : tie.Need-shared-slice-read-met-5
-shared-slice-read-met-5 c = search needs
-
-met-requires-4 : tie.Need-met-requires-4
-met-requires-4 c κs = search needs
-
-add-t21 : tie.Need-add-t21
-add-t21 c = search needs
-
 returns-4 : tie.Need-returns-4
 returns-4 c = turn-i-alone _ _ _ _ (c .before .before .before .before .before .if1 .taken) (c .before .before .if2 .left) (c .before .before .before .wide-word .ensures) (c .met4 .ensures)
 
@@ -116,9 +41,6 @@ mul-wide-word-3 c = omega (arith, right-live _ _ _ _ (c .before .before .before 
 shared-slice-read-wide-word-3 : tie.Need-shared-slice-read-wide-word-3
 shared-slice-read-wide-word-3 c = omega (arith, right-live _ _ _ _ (c .before .before .before .before .before .pre .1) (c .before .if1 .left), c .before .before .before .before .before .pre .0)
 
-wide-word-requires-3 : tie.Need-wide-word-requires-3
-wide-word-requires-3 c κs = search needs
-
 mul-met-6 : tie.Need-mul-met-6
 mul-met-6 c = omega (arith, right-live _ _ _ _ (c .before .before .before .before .before .before .pre .1) (c .before .before .if1 .left), c .before .before .before .before .before .before .pre .0)
 
@@ -127,9 +49,6 @@ shared-slice-read-met-6 c =
     let at-if1 = c .before .before .before in
     let start = at-if1 .before .before .before .before in
     omega (arith, right-live _ _ _ _ (start .pre .1) (at-if1 .if1 .left), start .pre .0)
-
-met-requires-5 : tie.Need-met-requires-5
-met-requires-5 c κs = search needs
 
 add-t42 : tie.Need-add-t42
 add-t42 c =
@@ -144,40 +63,40 @@ pub turn-spec : {M : Type 1} → statement M
 turn-spec =
     tie.close
     (tie.spec
-    mul-wide-word
-    shared-slice-read-wide-word
-    wide-word-requires
-    mul-wide-word-2
-    shared-slice-read-wide-word-2
-    wide-word-requires-2
-    mul-met
-    shared-slice-read-met
-    met-requires
-    add-t29
+    (λ c. search needs)
+    (λ c. search needs)
+    (λ c κs. search needs)
+    (λ c. search needs)
+    (λ c. search needs)
+    (λ c κs. search needs)
+    (λ c. search needs)
+    (λ c. search needs)
+    (λ c κs. search needs)
+    (λ c. search needs)
     returns
-    mul-met-2
-    shared-slice-read-met-2
-    met-requires-2
-    add-t32
+    (λ c. search needs)
+    (λ c. search needs)
+    (λ c κs. search needs)
+    (λ c. search needs)
     returns-2
-    mul-met-3
-    shared-slice-read-met-3
-    mul-met-4
-    shared-slice-read-met-4
-    met-requires-3
-    add-t25
-    add-t37
+    (λ c. search needs)
+    (λ c. search needs)
+    (λ c. search needs)
+    (λ c. search needs)
+    (λ c κs. search needs)
+    (λ c. search needs)
+    (λ c. search needs)
     returns-3
-    mul-met-5
-    shared-slice-read-met-5
-    met-requires-4
-    add-t21
+    (λ c. search needs)
+    (λ c. search needs)
+    (λ c κs. search needs)
+    (λ c. search needs)
     returns-4
     mul-wide-word-3
     shared-slice-read-wide-word-3
-    wide-word-requires-3
+    (λ c κs. search needs)
     mul-met-6
     shared-slice-read-met-6
-    met-requires-5
+    (λ c κs. search needs)
     add-t42
     returns-5)

@@ -15,9 +15,6 @@ abbrev μ-loop : tie.MeasureT-loop
 loop-holds : tie.Need-loop-holds Inv-loop μ-loop
 loop-holds c = going-start _ _ (c .before .before .pre)
 
-is-going-requires : tie.Need-is-going-requires Inv-loop μ-loop
-is-going-requires c κs = search needs
-
 turn-requires : tie.Need-turn-requires Inv-loop μ-loop
 turn-requires c κs = (c .before .before .loop .inv .fit, sym (c .before .is-going .ensures) ∙ c .if1 .taken)
 
@@ -37,7 +34,7 @@ walk-rows-spec =
     Inv-loop
     μ-loop
     loop-holds
-    is-going-requires
+    (λ c κs. search needs)
     turn-requires
     loop-less
     loop-again

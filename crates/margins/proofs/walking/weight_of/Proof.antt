@@ -17,20 +17,11 @@ abbrev μ-loop : tie.MeasureT-loop
 loop-holds : tie.Need-loop-holds Inv-loop μ-loop
 loop-holds c = search-start
 
-sub-mid : tie.Need-sub-mid Inv-loop μ-loop
-sub-mid c = search needs
-
-add-mid : tie.Need-add-mid Inv-loop μ-loop
-add-mid c = search needs
-
 mul-wide-word : tie.Need-mul-wide-word Inv-loop μ-loop
 mul-wide-word c = omega (arith, c .before .before .before .before .pre, c .before .loop .inv .to)
 
 shared-slice-read-wide-word : tie.Need-shared-slice-read-wide-word Inv-loop μ-loop
 shared-slice-read-wide-word c = omega (arith, c .before .before .before .before .before .pre, c .before .before .loop .inv .to)
-
-wide-word-requires : tie.Need-wide-word-requires Inv-loop μ-loop
-wide-word-requires c κs = search needs
 
 mul-result : tie.Need-mul-result Inv-loop μ-loop
 mul-result c = omega (arith, c .before .before .before .before .before .before .before .pre, c .before .before .before .before .loop .inv .to)
@@ -47,17 +38,11 @@ returns c =
 add-low : tie.Need-add-low Inv-loop μ-loop
 add-low c = omega (arith, c .before .before .before .before .before .before .before .before .pre, c .before .before .before .before .before .loop .inv .to)
 
-loop-less : tie.Need-loop-less Inv-loop μ-loop
-loop-less c = omega arith
-
 loop-again : tie.Need-loop-again Inv-loop μ-loop
 loop-again c =
     let at-loop = c .before .before .before .before .before in
     let start = at-loop .before .before .before in
     search-up (at-loop .loop .inv) (start .pre .0) (omega arith) (omega arith) (c .before .before .wide-word .ensures) (c .if2 .taken)
-
-loop-less-2 : tie.Need-loop-less-2 Inv-loop μ-loop
-loop-less-2 c = omega arith
 
 loop-again-2 : tie.Need-loop-again-2 Inv-loop μ-loop
 loop-again-2 c =
@@ -75,17 +60,17 @@ weight-of-spec =
     Inv-loop
     μ-loop
     loop-holds
-    sub-mid
-    add-mid
+    (λ c. search needs)
+    (λ c. search needs)
     mul-wide-word
     shared-slice-read-wide-word
-    wide-word-requires
+    (λ c κs. search needs)
     mul-result
     shared-slice-read-result
     returns
     add-low
-    loop-less
+    (λ c. omega arith)
     loop-again
-    loop-less-2
+    (λ c. omega arith)
     loop-again-2
     returns-2)

@@ -18,12 +18,6 @@ loop-holds c = passing (c .before .before .before .before .before .before .pre .
 add-entry-requires : tie.Need-add-entry-requires Inv-loop μ-loop
 add-entry-requires c κs = (passing-ready (c .before .before .loop .inv), search needs)
 
-add-k : tie.Need-add-k Inv-loop μ-loop
-add-k c = search needs
-
-loop-less : tie.Need-loop-less Inv-loop μ-loop
-loop-less c = search needs
-
 loop-again : tie.Need-loop-again Inv-loop μ-loop
 loop-again c =
     let at-loop-test = c .before .before .before .before in
@@ -44,8 +38,8 @@ add-entries-spec =
     μ-loop
     loop-holds
     add-entry-requires
-    add-k
-    loop-less
+    (λ c. search needs)
+    (λ c. search needs)
     loop-again
     same-length
     returns)

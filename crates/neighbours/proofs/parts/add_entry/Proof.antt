@@ -7,33 +7,6 @@ use borrow.Author.Needs.{needs}
 use Rattle.neighbours.proofs.parts.add_entry.Statement.{statement}
 use Rattle.neighbours.proofs.parts.add_entry.Tie as tie
 
-mul-half : tie.Need-mul-half
-mul-half c = search needs
-
-shared-slice-read-half : tie.Need-shared-slice-read-half
-shared-slice-read-half c = search needs
-
-half-requires : tie.Need-half-requires
-half-requires c κs = search needs
-
-mul-wide-short : tie.Need-mul-wide-short
-mul-wide-short c = search needs
-
-shared-slice-read-wide-short : tie.Need-shared-slice-read-wide-short
-shared-slice-read-wide-short c = search needs
-
-wide-short-requires : tie.Need-wide-short-requires
-wide-short-requires c κs = search needs
-
-mul-wide-short-2 : tie.Need-mul-wide-short-2
-mul-wide-short-2 c = search needs
-
-shared-slice-read-wide-short-2 : tie.Need-shared-slice-read-wide-short-2
-shared-slice-read-wide-short-2 c = search needs
-
-wide-short-requires-2 : tie.Need-wide-short-requires-2
-wide-short-requires-2 c κs = search needs
-
 shared-slice-read-add-end : tie.Need-shared-slice-read-add-end
 shared-slice-read-add-end c =
     let at-wide-short = c .before .before .before .before in
@@ -61,9 +34,6 @@ add-end-requires-2 c κs =
     let start = at-wide-short .before .before .before .before .before .before .before .before .before .before in
     omega (arith, ends-in (start .pre .0) _ (start .pre .1), at-wide-short .wide-short .ensures, at-wide-short2 .wide-short2 .ensures, at-add-end .add-end .kept)
 
-same-length : tie.Need-same-length
-same-length c = search needs
-
 returns : tie.Need-returns
 unfolding addBoth
 returns c =
@@ -77,18 +47,18 @@ pub add-entry-spec : {M : Type 1} → statement M
 add-entry-spec =
     tie.close
     (tie.spec
-    mul-half
-    shared-slice-read-half
-    half-requires
-    mul-wide-short
-    shared-slice-read-wide-short
-    wide-short-requires
-    mul-wide-short-2
-    shared-slice-read-wide-short-2
-    wide-short-requires-2
+    (λ c. search needs)
+    (λ c. search needs)
+    (λ c κs. search needs)
+    (λ c. search needs)
+    (λ c. search needs)
+    (λ c κs. search needs)
+    (λ c. search needs)
+    (λ c. search needs)
+    (λ c κs. search needs)
     shared-slice-read-add-end
     add-end-requires
     shared-slice-read-add-end-2
     add-end-requires-2
-    same-length
+    (λ c. search needs)
     returns)

@@ -20,38 +20,17 @@ loop-holds c = starting (c .before .before .pre)
 add-up : tie.Need-add-up Inv-loop μ-loop
 add-up c = omega (arith, c .before .loop .inv .long, c .before .loop .inv .parts .room)
 
-mul-f : tie.Need-mul-f Inv-loop μ-loop
-mul-f c = search needs
-
-shared-slice-read-f : tie.Need-shared-slice-read-f Inv-loop μ-loop
-shared-slice-read-f c = search needs
-
 mul-f-2 : tie.Need-mul-f-2 Inv-loop μ-loop
 mul-f-2 c = omega (arith, c .before .before .loop .inv .long, c .before .before .loop .inv .parts .room)
 
 slice-write-f : tie.Need-slice-write-f Inv-loop μ-loop
 slice-write-f c = omega (arith, c .before .before .loop .inv .long, c .before .before .loop .inv .parts .room)
 
-mul-magnitude : tie.Need-mul-magnitude Inv-loop μ-loop
-mul-magnitude c = search needs
-
-shared-slice-read-magnitude : tie.Need-shared-slice-read-magnitude Inv-loop μ-loop
-shared-slice-read-magnitude c = search needs
-
-magnitude-requires : tie.Need-magnitude-requires Inv-loop μ-loop
-magnitude-requires c κs = search needs
-
 mul-f-3 : tie.Need-mul-f-3 Inv-loop μ-loop
 mul-f-3 c = omega (arith, c .before .before .before .before .loop .inv .long, c .before .before .before .before .loop .inv .parts .room)
 
 slice-write-f-2 : tie.Need-slice-write-f-2 Inv-loop μ-loop
 slice-write-f-2 c = simp length-set (omega (arith, c .before .before .before .before .loop .inv .long, c .before .before .before .before .loop .inv .parts .room))
-
-add-i : tie.Need-add-i Inv-loop μ-loop
-add-i c = search needs
-
-loop-less : tie.Need-loop-less Inv-loop μ-loop
-loop-less c = search needs
 
 loop-again : tie.Need-loop-again Inv-loop μ-loop
 loop-again c = starting-turn (c .before .before .before .before .loop .inv) (c .before .before .before .loop-test .taken) (c .magnitude .ensures)
@@ -70,17 +49,17 @@ start-parts-spec =
     μ-loop
     loop-holds
     add-up
-    mul-f
-    shared-slice-read-f
+    (λ c. search needs)
+    (λ c. search needs)
     mul-f-2
     slice-write-f
-    mul-magnitude
-    shared-slice-read-magnitude
-    magnitude-requires
+    (λ c. search needs)
+    (λ c. search needs)
+    (λ c κs. search needs)
     mul-f-3
     slice-write-f-2
-    add-i
-    loop-less
+    (λ c. search needs)
+    (λ c. search needs)
     loop-again
     same-length
     returns)

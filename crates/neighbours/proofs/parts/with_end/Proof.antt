@@ -7,11 +7,8 @@ use Rattle.neighbours.proofs.parts.with_end.Tie as tie
 returns : tie.Need-returns
 returns c = simp (eq-eqb _ _ (c .if1 .taken))
 
-int-to-float-result : tie.Need-int-to-float-result
-int-to-float-result c = search needs
-
 returns-2 : tie.Need-returns-2
 returns-2 c = simp (ne-eqb _ _ (c .before .if1 .left))
 
 pub with-end-spec : {M : Type 1} → statement M
-with-end-spec = tie.close (tie.spec returns int-to-float-result returns-2)
+with-end-spec = tie.close (tie.spec returns (λ c. search needs) returns-2)

@@ -16,23 +16,11 @@ abbrev μ-loop : tie.MeasureT-loop
 loop-holds : tie.Need-loop-holds Inv-loop μ-loop
 loop-holds c = marks-start (c .before .before .before .pre .0) (c .before .before .before .pre .1 .0) (c .before .before .before .pre .1 .1)
 
-mul-wide-short : tie.Need-mul-wide-short Inv-loop μ-loop
-mul-wide-short c = omega arith
-
-shared-slice-read-wide-short : tie.Need-shared-slice-read-wide-short Inv-loop μ-loop
-shared-slice-read-wide-short c = omega arith
-
-wide-short-requires : tie.Need-wide-short-requires Inv-loop μ-loop
-wide-short-requires c κs = search needs
-
 mul-wide-short-2 : tie.Need-mul-wide-short-2 Inv-loop μ-loop
 mul-wide-short-2 c = omega (arith, c .before .before .before .before .before .before .before .pre .0 .same)
 
 shared-slice-read-wide-short-2 : tie.Need-shared-slice-read-wide-short-2 Inv-loop μ-loop
 shared-slice-read-wide-short-2 c = omega (arith, c .before .before .before .before .before .before .before .before .pre .0 .same)
-
-wide-short-requires-2 : tie.Need-wide-short-requires-2 Inv-loop μ-loop
-wide-short-requires-2 c κs = search needs
 
 mul-u : tie.Need-mul-u Inv-loop μ-loop
 mul-u c =
@@ -62,21 +50,12 @@ slice-write-u-2 c =
     let at-start = at-loop .before .before .before .before in
     simp length-set (column-there (at-start .pre .0) (at-loop .loop .inv) (at-loop-test .loop-test .taken) (c .before .before .wide-short .ensures) (c .wide-short2 .ensures))
 
-add-k : tie.Need-add-k Inv-loop μ-loop
-add-k c = omega arith
-
-loop-less : tie.Need-loop-less Inv-loop μ-loop
-loop-less c = omega arith
-
 loop-again : tie.Need-loop-again Inv-loop μ-loop
 loop-again c =
     let at-loop-test = c .before .before .before .before in
     let at-loop = at-loop-test .before in
     let at-start = at-loop .before .before .before .before in
     marks-turn (at-start .pre .0) (at-loop .loop .inv) (at-loop-test .loop-test .taken) (c .before .before .wide-short .ensures) (c .wide-short2 .ensures)
-
-same-length : tie.Need-same-length Inv-loop μ-loop
-same-length c = omega arith
 
 returns : tie.Need-returns Inv-loop μ-loop
 returns c = marks-done (c .before .before .before .before .before .pre .0) (c .before .loop .inv) (omega arith)
@@ -88,18 +67,18 @@ mark-spec =
     Inv-loop
     μ-loop
     loop-holds
-    mul-wide-short
-    shared-slice-read-wide-short
-    wide-short-requires
+    (λ c. omega arith)
+    (λ c. omega arith)
+    (λ c κs. search needs)
     mul-wide-short-2
     shared-slice-read-wide-short-2
-    wide-short-requires-2
+    (λ c κs. search needs)
     mul-u
     slice-write-u
     mul-u-2
     slice-write-u-2
-    add-k
-    loop-less
+    (λ c. omega arith)
+    (λ c. omega arith)
     loop-again
-    same-length
+    (λ c. omega arith)
     returns)

@@ -8,14 +8,8 @@ use borrow.Author.Needs.{needs}
 use Rattle.no_effect.proofs.marks.mark_ends.Statement.{statement}
 use Rattle.no_effect.proofs.marks.mark_ends.Tie as tie
 
-slice-relend-prefix-clear-words : tie.Need-slice-relend-prefix-clear-words
-slice-relend-prefix-clear-words c = search needs
-
 slice-aggregate-clear-words : tie.Need-slice-aggregate-clear-words
 slice-aggregate-clear-words c = let s = c .before .before .before .before in sym (length-take-le _ (s .args .u .now) (omega (arith, s .pre .1)))
-
-clear-words-requires : tie.Need-clear-words-requires
-clear-words-requires c κs = search needs
 
 mark-requires : tie.Need-mark-requires
 mark-requires c κs =
@@ -24,9 +18,6 @@ mark-requires c κs =
     let s = at-before .before in
     let z = zeroed-front (s .args .n) (s .args .u .now) (at-clear-words .clear-words .last .0) (s .pre .1) (at-clear-words .clear-words .ensures) in
     (s .pre .0, (omega (arith, z .long, s .pre .1), z .zeros))
-
-same-length : tie.Need-same-length
-same-length c = search needs
 
 returns : tie.Need-returns
 returns c =
@@ -40,9 +31,9 @@ pub mark-ends-spec : {M : Type 1} → statement M
 mark-ends-spec =
     tie.close
     (tie.spec
-    slice-relend-prefix-clear-words
+    (λ c. search needs)
     slice-aggregate-clear-words
-    clear-words-requires
+    (λ c κs. search needs)
     mark-requires
-    same-length
+    (λ c. search needs)
     returns)

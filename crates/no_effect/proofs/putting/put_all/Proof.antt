@@ -19,20 +19,11 @@ loop-holds c = fills-start
 put-at-requires : tie.Need-put-at-requires Inv-loop μ-loop
 put-at-requires c κs = record { in-weights = omega arith; in-words = omega arith; small = omega arith; behind = c .before .before .loop .inv .behind }
 
-add-i : tie.Need-add-i Inv-loop μ-loop
-add-i c = omega arith
-
-loop-less : tie.Need-loop-less Inv-loop μ-loop
-loop-less c = omega arith
-
 loop-again : tie.Need-loop-again Inv-loop μ-loop
 loop-again c =
     let at-loop-test = c .before .before .before .before in
     let at-loop = at-loop-test .before in
     fills-turn (at-loop .loop .inv) (at-loop-test .loop-test .taken) (c .before .before .put-at .ensures)
-
-same-length : tie.Need-same-length Inv-loop μ-loop
-same-length c = omega arith
 
 returns : tie.Need-returns Inv-loop μ-loop
 returns c = fills-done (c .before .loop .inv) (omega arith)
@@ -45,8 +36,8 @@ put-all-spec =
     μ-loop
     loop-holds
     put-at-requires
-    add-i
-    loop-less
+    (λ c. omega arith)
+    (λ c. omega arith)
     loop-again
-    same-length
+    (λ c. omega arith)
     returns)

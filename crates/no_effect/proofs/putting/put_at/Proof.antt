@@ -4,20 +4,8 @@ use borrow.Author.Needs.{needs}
 use Rattle.no_effect.proofs.putting.put_at.Statement.{statement}
 use Rattle.no_effect.proofs.putting.put_at.Tie as tie
 
-mul-if1 : tie.Need-mul-if1
-mul-if1 c = search needs
-
-shared-slice-read-if1 : tie.Need-shared-slice-read-if1
-shared-slice-read-if1 c = search needs
-
 returns : tie.Need-returns
 returns c = let a = c .before .before .args in passed-over (a .i) (a .list .now) (a .count) (marked-not (a .c .now) (a .u .now) (a .i) (c .if1 .taken))
-
-mul-if2 : tie.Need-mul-if2
-mul-if2 c = search needs
-
-shared-slice-read-if2 : tie.Need-shared-slice-read-if2
-shared-slice-read-if2 c = search needs
 
 returns-2 : tie.Need-returns-2
 returns-2 c =
@@ -25,30 +13,12 @@ returns-2 c =
     let a = at-start .args in
     passed-over (a .i) (a .list .now) (a .count) (weighs-not (a .c .now) (a .u .now) (a .i) (c .before .before .if1 .left) (c .if2 .taken))
 
-add-result : tie.Need-add-result
-add-result c = search needs
-
 returns-3 : tie.Need-returns-3
 returns-3 c =
     let at-if1 = c .before .before .before in
     let at-start = at-if1 .before .before in
     let a = at-start .args in
     counted-only (a .i) (a .list .now) (a .count) (c .if3 .taken) (is-idle (a .c .now) (a .u .now) (a .i) (at-if1 .if1 .left) (c .before .if2 .left))
-
-cast-list : tie.Need-cast-list
-cast-list c = search needs
-
-mul-list : tie.Need-mul-list
-mul-list c = search needs
-
-slice-write-list : tie.Need-slice-write-list
-slice-write-list c = search needs
-
-add-result-2 : tie.Need-add-result-2
-add-result-2 c = search needs
-
-same-length : tie.Need-same-length
-same-length c = search needs
 
 returns-4 : tie.Need-returns-4
 returns-4 c =
@@ -61,17 +31,17 @@ pub put-at-spec : {M : Type 1} → statement M
 put-at-spec =
     tie.close
     (tie.spec
-    mul-if1
-    shared-slice-read-if1
+    (λ c. search needs)
+    (λ c. search needs)
     returns
-    mul-if2
-    shared-slice-read-if2
+    (λ c. search needs)
+    (λ c. search needs)
     returns-2
-    add-result
+    (λ c. search needs)
     returns-3
-    cast-list
-    mul-list
-    slice-write-list
-    add-result-2
-    same-length
+    (λ c. search needs)
+    (λ c. search needs)
+    (λ c. search needs)
+    (λ c. search needs)
+    (λ c. search needs)
     returns-4)

@@ -36,19 +36,10 @@ shared-slice-read-tolerance-2 c =
     let start = c .before .before .before .before .before .before .before .before .before .before in
     omega (arith, start .pre .0 .laid .floats, start .pre .1 .0)
 
-tolerance-requires : tie.Need-tolerance-requires
-tolerance-requires c κs = search needs
-
 pair-bounds-requires : tie.Need-pair-bounds-requires
 pair-bounds-requires c κs =
     let start = c .before .before .before .before .before .before .before .before .before .before .before in
     (start .pre .0, (start .pre .1 .0, (start .pre .1 .1 .0, tolerance-is (start .pre .0) (start .pre .1 .0 .0) (start .pre .1 .0 .1) (c .tolerance .ensures))))
-
-judged-requires : tie.Need-judged-requires
-judged-requires c κs = search needs
-
-judged-requires-2 : tie.Need-judged-requires-2
-judged-requires-2 c κs = search needs
 
 cast-sum-key : tie.Need-cast-sum-key
 cast-sum-key c = let start = c .before .before .before .before .before .before .before .before .before .before .before .before .before .before in omega (arith, start .pre .0 .laid .shaped .few-variables, start .pre .1 .0)
@@ -104,10 +95,10 @@ append-pair-spec =
     add-tolerance-2
     mul-tolerance-2
     shared-slice-read-tolerance-2
-    tolerance-requires
+    (λ c κs. search needs)
     pair-bounds-requires
-    judged-requires
-    judged-requires-2
+    (λ c κs. search needs)
+    (λ c κs. search needs)
     cast-sum-key
     cast-sum-key-2
     sum-key-requires

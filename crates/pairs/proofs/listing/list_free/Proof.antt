@@ -27,20 +27,8 @@ mul-u c = omega (arith, c .before .before .before .before .pre, freeing-few (c .
 slice-write-u : tie.Need-slice-write-u Inv-loop μ-loop
 slice-write-u c = omega (arith, c .before .before .before .before .pre, freeing-few (c .before .loop .inv), c .before .loop .inv .freed .long)
 
-shared-slice-read-counted : tie.Need-shared-slice-read-counted Inv-loop μ-loop
-shared-slice-read-counted c = search needs
-
-counted-requires : tie.Need-counted-requires Inv-loop μ-loop
-counted-requires c κs = search needs
-
 add-count : tie.Need-add-count Inv-loop μ-loop
 add-count c = omega (arith, c .before .before .before .before .before .before .pre, freeing-few (c .before .before .before .loop .inv), c .counted .ensures .1)
-
-add-i : tie.Need-add-i Inv-loop μ-loop
-add-i c = search needs
-
-loop-less : tie.Need-loop-less Inv-loop μ-loop
-loop-less c = search needs
 
 loop-again : tie.Need-loop-again Inv-loop μ-loop
 loop-again c = freeing-turn (c .before .before .before .loop .inv) (c .before .before .loop-test .taken) (c .before .before .before .before .before .before .pre .1) (c .counted .ensures .0)
@@ -62,11 +50,11 @@ list-free-spec =
     add-u
     mul-u
     slice-write-u
-    shared-slice-read-counted
-    counted-requires
+    (λ c. search needs)
+    (λ c κs. search needs)
     add-count
-    add-i
-    loop-less
+    (λ c. search needs)
+    (λ c. search needs)
     loop-again
     same-length
     returns)

@@ -80,9 +80,6 @@ shared-slice-read-wide-word c =
     let start = c .before .before .before .before .before .before .before .before .before .before in
     omega (arith, start .pre .0 .laid .words, start .pre .0 .laid .floats, start .pre .0 .laid .shaped, start .pre .1 .0)
 
-wide-word-requires : tie.Need-wide-word-requires
-wide-word-requires c κs = search needs
-
 mul-wide-word-2 : tie.Need-mul-wide-word-2
 mul-wide-word-2 c =
     let start = c .before .before .before .before .before .before .before .before .before .before .before in
@@ -92,9 +89,6 @@ shared-slice-read-wide-word-2 : tie.Need-shared-slice-read-wide-word-2
 shared-slice-read-wide-word-2 c =
     let start = c .before .before .before .before .before .before .before .before .before .before .before .before in
     omega (arith, start .pre .0 .laid .words, start .pre .0 .laid .floats, start .pre .0 .laid .shaped, start .pre .1 .0)
-
-wide-word-requires-2 : tie.Need-wide-word-requires-2
-wide-word-requires-2 c κs = search needs
 
 add-wide-word : tie.Need-add-wide-word
 add-wide-word c =
@@ -111,9 +105,6 @@ shared-slice-read-wide-word-3 c =
     let start = c .before .before .before .before .before .before .before .before .before .before .before .before .before .before in
     omega (arith, start .pre .0 .laid .words, start .pre .0 .laid .floats, start .pre .0 .laid .shaped, start .pre .1 .0)
 
-wide-word-requires-3 : tie.Need-wide-word-requires-3
-wide-word-requires-3 c κs = search needs
-
 add-wide-word-2 : tie.Need-add-wide-word-2
 add-wide-word-2 c =
     let start = c .before .before .before .before .before .before .before .before .before .before .before .before .before .before .before in
@@ -128,9 +119,6 @@ shared-slice-read-wide-word-4 : tie.Need-shared-slice-read-wide-word-4
 shared-slice-read-wide-word-4 c =
     let start = c .before .before .before .before .before .before .before .before .before .before .before .before .before .before .before .before in
     omega (arith, start .pre .0 .laid .words, start .pre .0 .laid .floats, start .pre .0 .laid .shaped, start .pre .1 .0)
-
-wide-word-requires-4 : tie.Need-wide-word-requires-4
-wide-word-requires-4 c κs = search needs
 
 weight-of-requires : tie.Need-weight-of-requires
 weight-of-requires c κs =
@@ -157,9 +145,6 @@ shared-slice-read-start-2 : tie.Need-shared-slice-read-start-2
 shared-slice-read-start-2 c =
     let start = c .before .before .before .before .before .before .before .before .before .before .before .before .before .before .before .before .before .before .before .before in
     omega (arith, start .pre .0 .laid .words, start .pre .0 .laid .floats, start .pre .0 .laid .shaped, start .pre .1 .0)
-
-start-requires : tie.Need-start-requires
-start-requires c κs = search needs
 
 walk-rows-requires : tie.Need-walk-rows-requires
 walk-rows-requires c κs =
@@ -203,23 +188,23 @@ pair-bounds-spec =
     part-weights-end
     mul-wide-word
     shared-slice-read-wide-word
-    wide-word-requires
+    (λ c κs. search needs)
     mul-wide-word-2
     shared-slice-read-wide-word-2
-    wide-word-requires-2
+    (λ c κs. search needs)
     add-wide-word
     mul-wide-word-3
     shared-slice-read-wide-word-3
-    wide-word-requires-3
+    (λ c κs. search needs)
     add-wide-word-2
     mul-wide-word-4
     shared-slice-read-wide-word-4
-    wide-word-requires-4
+    (λ c κs. search needs)
     weight-of-requires
     mul-start
     shared-slice-read-start
     mul-start-2
     shared-slice-read-start-2
-    start-requires
+    (λ c κs. search needs)
     walk-rows-requires
     returns)

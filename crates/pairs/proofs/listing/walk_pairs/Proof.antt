@@ -18,32 +18,8 @@ Inv-loop c rows cols q values f u k limit list₀ most base pairs₀ items₀ x�
 abbrev μ-loop : tie.MeasureT-loop
 μ-loop c rows cols q values f u k limit list₀ most base pairs₀ items₀ x₀ list pairs items x = most - pairs
 
-capped-requires : tie.Need-capped-requires Inv-loop μ-loop
-capped-requires c κs = search needs
-
-add-base : tie.Need-add-base Inv-loop μ-loop
-add-base c = search needs
-
-mul-base : tie.Need-mul-base Inv-loop μ-loop
-mul-base c = search needs
-
-add-base-2 : tie.Need-add-base-2 Inv-loop μ-loop
-add-base-2 c = search needs
-
-add-base-3 : tie.Need-add-base-3 Inv-loop μ-loop
-add-base-3 c = search needs
-
-mul-base-2 : tie.Need-mul-base-2 Inv-loop μ-loop
-mul-base-2 c = search needs
-
-add-base-4 : tie.Need-add-base-4 Inv-loop μ-loop
-add-base-4 c = search needs
-
 loop-holds : tie.Need-loop-holds Inv-loop μ-loop
 loop-holds c = walking-start _ _ _ _
-
-is-left-requires : tie.Need-is-left-requires Inv-loop μ-loop
-is-left-requires c κs = search needs
 
 add-wide-word : tie.Need-add-wide-word Inv-loop μ-loop
 add-wide-word c =
@@ -69,9 +45,6 @@ shared-slice-read-wide-word c =
     let v = at-loop .loop .inv in
     let t = sym (c .before .before .is-left .ensures) ∙ c .before .if1 .taken in
     omega (arith, walking-reads v (s .pre .1 .0 .many) t, s .pre .1 .1)
-
-wide-word-requires : tie.Need-wide-word-requires Inv-loop μ-loop
-wide-word-requires c κs = search needs
 
 add-wide-word-2 : tie.Need-add-wide-word-2 Inv-loop μ-loop
 add-wide-word-2 c =
@@ -103,9 +76,6 @@ shared-slice-read-wide-word-2 c =
     let v = at-loop .loop .inv in
     let t = sym (at-is-left .is-left .ensures) ∙ at-if1 .if1 .taken in
     omega (arith, walking-reads v (s .pre .1 .0 .many) t, s .pre .1 .1)
-
-wide-word-requires-2 : tie.Need-wide-word-requires-2 Inv-loop μ-loop
-wide-word-requires-2 c κs = search needs
 
 append-pair-requires : tie.Need-append-pair-requires Inv-loop μ-loop
 append-pair-requires c κs =
@@ -200,23 +170,23 @@ walk-pairs-spec =
     (tie.spec
     Inv-loop
     μ-loop
-    capped-requires
-    add-base
-    mul-base
-    add-base-2
-    add-base-3
-    mul-base-2
-    add-base-4
+    (λ c κs. search needs)
+    (λ c. search needs)
+    (λ c. search needs)
+    (λ c. search needs)
+    (λ c. search needs)
+    (λ c. search needs)
+    (λ c. search needs)
     loop-holds
-    is-left-requires
+    (λ c κs. search needs)
     add-wide-word
     mul-wide-word
     shared-slice-read-wide-word
-    wide-word-requires
+    (λ c κs. search needs)
     add-wide-word-2
     mul-wide-word-2
     shared-slice-read-wide-word-2
-    wide-word-requires-2
+    (λ c κs. search needs)
     append-pair-requires
     add-pairs
     after-requires

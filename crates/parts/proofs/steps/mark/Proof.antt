@@ -15,12 +15,6 @@ abbrev μ-loop : tie.MeasureT-loop
 loop-holds : tie.Need-loop-holds Inv-loop μ-loop
 loop-holds c = mark-start (c .before .before .args .all) (c .before .before .pre)
 
-shared-slice-read-mark-of : tie.Need-shared-slice-read-mark-of Inv-loop μ-loop
-shared-slice-read-mark-of c = search needs
-
-mark-of-requires : tie.Need-mark-of-requires Inv-loop μ-loop
-mark-of-requires c κs = search needs
-
 add-u : tie.Need-add-u Inv-loop μ-loop
 add-u c = omega (arith, mark-index (c .before .before .before .loop .inv) (c .before .before .loop-test .taken))
 
@@ -29,12 +23,6 @@ mul-u c = omega (arith, mark-index (c .before .before .before .loop .inv) (c .be
 
 slice-write-u : tie.Need-slice-write-u Inv-loop μ-loop
 slice-write-u c = mark-index (c .before .before .before .loop .inv) (c .before .before .loop-test .taken)
-
-add-i : tie.Need-add-i Inv-loop μ-loop
-add-i c = search needs
-
-loop-less : tie.Need-loop-less Inv-loop μ-loop
-loop-less c = search needs
 
 loop-again : tie.Need-loop-again Inv-loop μ-loop
 loop-again c = mark-turn (c .before .before .before .loop .inv) (c .before .before .loop-test .taken) (c .mark-of .ensures)
@@ -52,13 +40,13 @@ mark-spec =
     Inv-loop
     μ-loop
     loop-holds
-    shared-slice-read-mark-of
-    mark-of-requires
+    (λ c. search needs)
+    (λ c κs. search needs)
     add-u
     mul-u
     slice-write-u
-    add-i
-    loop-less
+    (λ c. search needs)
+    (λ c. search needs)
     loop-again
     same-length
     returns)

@@ -15,26 +15,8 @@ Inv-loop c rows cols q zeros u₀ top n stack members last₀ count₀ u last co
 abbrev μ-loop : tie.MeasureT-loop
 μ-loop c rows cols q zeros u₀ top n stack members last₀ count₀ u last count = length c - count
 
-add-stack : tie.Need-add-stack Inv-loop μ-loop
-add-stack c = search needs
-
-mul-stack : tie.Need-mul-stack Inv-loop μ-loop
-mul-stack c = search needs
-
-add-stack-2 : tie.Need-add-stack-2 Inv-loop μ-loop
-add-stack-2 c = search needs
-
-add-stack-3 : tie.Need-add-stack-3 Inv-loop μ-loop
-add-stack-3 c = search needs
-
-add-members : tie.Need-add-members Inv-loop μ-loop
-add-members c = search needs
-
 loop-holds : tie.Need-loop-holds Inv-loop μ-loop
 loop-holds c = pop-start (c .before .before .before .before .before .args .zeros) (c .before .before .before .before .before .pre)
-
-sub-below : tie.Need-sub-below Inv-loop μ-loop
-sub-below c = omega arith
 
 add-pop : tie.Need-add-pop Inv-loop μ-loop
 add-pop c = omega (arith, from-index (c .before .before .loop .inv) (c .before .loop-test .taken))
@@ -90,13 +72,13 @@ pop-all-spec =
     (tie.spec
     Inv-loop
     μ-loop
-    add-stack
-    mul-stack
-    add-stack-2
-    add-stack-3
-    add-members
+    (λ c. search needs)
+    (λ c. search needs)
+    (λ c. search needs)
+    (λ c. search needs)
+    (λ c. search needs)
     loop-holds
-    sub-below
+    (λ c. omega arith)
     add-pop
     add-pop-2
     pop-requires

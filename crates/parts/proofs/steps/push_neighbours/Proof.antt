@@ -15,39 +15,21 @@ Inv-loop c rows cols q zeros u₀ top i n start end last₀ p₀ u last p = Serv
 abbrev μ-loop : tie.MeasureT-loop
 μ-loop c rows cols q zeros u₀ top i n start end last₀ p₀ u last p = end - p
 
-mul-wide-word : tie.Need-mul-wide-word Inv-loop μ-loop
-mul-wide-word c = search needs
-
 slice-read-wide-word : tie.Need-slice-read-wide-word Inv-loop μ-loop
 slice-read-wide-word c =
     let start = c .before .before .before .before .before .before in
     omega (arith, start .pre .0 .words-room, start .pre .1)
-
-wide-word-requires : tie.Need-wide-word-requires Inv-loop μ-loop
-wide-word-requires c κs = search needs
-
-add-wide-word : tie.Need-add-wide-word Inv-loop μ-loop
-add-wide-word c = search needs
-
-mul-wide-word-2 : tie.Need-mul-wide-word-2 Inv-loop μ-loop
-mul-wide-word-2 c = search needs
 
 slice-read-wide-word-2 : tie.Need-slice-read-wide-word-2 Inv-loop μ-loop
 slice-read-wide-word-2 c =
     let start = c .before .before .before .before .before .before .before .before in
     omega (arith, start .pre .0 .words-room, start .pre .1)
 
-wide-word-requires-2 : tie.Need-wide-word-requires-2 Inv-loop μ-loop
-wide-word-requires-2 c κs = search needs
-
 loop-holds : tie.Need-loop-holds Inv-loop μ-loop
 loop-holds c =
     let at-wide-word = c .before .before in
     let start = at-wide-word .before .before .before .before .before .before .before in
     serve-start (start .args .zeros) (start .pre .0) (start .pre .1) (at-wide-word .wide-word .ensures) (c .wide-word2 .ensures)
-
-add-word : tie.Need-add-word Inv-loop μ-loop
-add-word c = search needs
 
 add-word-2 : tie.Need-add-word-2 Inv-loop μ-loop
 add-word-2 c = omega (arith, walk-turn (c .before .loop .inv .along .walk) (c .loop-test .taken) .index)
@@ -58,21 +40,12 @@ mul-word c = omega (arith, walk-turn (c .before .loop .inv .along .walk) (c .loo
 slice-read-word : tie.Need-slice-read-word Inv-loop μ-loop
 slice-read-word c = walk-turn (c .before .before .loop .inv .along .walk) (c .before .loop-test .taken) .index
 
-entry-in-requires : tie.Need-entry-in-requires Inv-loop μ-loop
-entry-in-requires c κs = search needs
-
-end-in-requires : tie.Need-end-in-requires Inv-loop μ-loop
-end-in-requires c κs = search needs
-
 visit-at-requires : tie.Need-visit-at-requires Inv-loop μ-loop
 visit-at-requires c κs =
     let serving = c .before .before .before .before .before .loop .inv in
     let turn = walk-turn (serving .along .walk) (c .before .before .before .before .loop-test .taken) in
     let ek = c .before .before .entry-in .ensures in
     (serving .kept .placed, (omega (arith, turn-entry turn ek, c .before .before .before .before .before .before .before .before .before .before .before .before .before .before .before .pre .0 .shaped .rows-long), turn-other turn ek (c .before .end-in .ensures)))
-
-add-p : tie.Need-add-p Inv-loop μ-loop
-add-p c = search needs
 
 loop-less : tie.Need-loop-less Inv-loop μ-loop
 loop-less c = omega (arith, c .before .before .before .before .before .before .before .loop-test .taken)
@@ -92,22 +65,22 @@ push-neighbours-spec =
     (tie.spec
     Inv-loop
     μ-loop
-    mul-wide-word
+    (λ c. search needs)
     slice-read-wide-word
-    wide-word-requires
-    add-wide-word
-    mul-wide-word-2
+    (λ c κs. search needs)
+    (λ c. search needs)
+    (λ c. search needs)
     slice-read-wide-word-2
-    wide-word-requires-2
+    (λ c κs. search needs)
     loop-holds
-    add-word
+    (λ c. search needs)
     add-word-2
     mul-word
     slice-read-word
-    entry-in-requires
-    end-in-requires
+    (λ c κs. search needs)
+    (λ c κs. search needs)
     visit-at-requires
-    add-p
+    (λ c. search needs)
     loop-less
     loop-again
     same-length

@@ -5,15 +5,6 @@ use borrow.Author.Needs.{needs}
 use Rattle.parts.proofs.steps.visit_at.Statement.{statement}
 use Rattle.parts.proofs.steps.visit_at.Tie as tie
 
-mul-weight : tie.Need-mul-weight
-mul-weight c = search needs
-
-shared-slice-read-weight : tie.Need-shared-slice-read-weight
-shared-slice-read-weight c = search needs
-
-joins-by-requires : tie.Need-joins-by-requires
-joins-by-requires c κs = search needs
-
 returns : tie.Need-returns
 returns c =
     let start = c .before .before .before .before .before .before .before .before in
@@ -24,9 +15,6 @@ visit-requires c κs =
     let start = c .before .before .before .before .before .before .before .before .before in
     (start .pre .0, other-end-below (start .pre .0 .shaped) _ (start .pre .1 .0) (start .pre .1 .1))
 
-same-length : tie.Need-same-length
-same-length c = search needs
-
 returns-2 : tie.Need-returns-2
 returns-2 c =
     let start = c .before .before .before .before .before .before .before .before .before .before .before .before in
@@ -36,10 +24,10 @@ pub visit-at-spec : {M : Type 1} → statement M
 visit-at-spec =
     tie.close
     (tie.spec
-    mul-weight
-    shared-slice-read-weight
-    joins-by-requires
+    (λ c. search needs)
+    (λ c. search needs)
+    (λ c κs. search needs)
     returns
     visit-requires
-    same-length
+    (λ c. search needs)
     returns-2)

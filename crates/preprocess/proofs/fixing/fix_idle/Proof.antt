@@ -22,20 +22,11 @@ fix-at-requires c κs =
     let at-start = c .before .before .before .before .before .before .before .before .before in
     (omega arith, (omega (arith, at-start .pre .1 .1 .room), omega (arith, at-start .pre .1 .0)))
 
-add-i : tie.Need-add-i Inv-loop μ-loop
-add-i c = omega arith
-
-loop-less : tie.Need-loop-less Inv-loop μ-loop
-loop-less c = omega arith
-
 loop-again : tie.Need-loop-again Inv-loop μ-loop
 loop-again c =
     let at-loop-test = c .before .before .before .before in
     let at-loop = at-loop-test .before in
     fixes-turn (at-loop .loop .inv) (at-loop-test .loop-test .taken) (c .before .before .fix-at .ensures)
-
-same-length : tie.Need-same-length Inv-loop μ-loop
-same-length c = omega arith
 
 returns : tie.Need-returns Inv-loop μ-loop
 returns c =
@@ -50,8 +41,8 @@ fix-idle-spec =
     μ-loop
     loop-holds
     fix-at-requires
-    add-i
-    loop-less
+    (λ c. omega arith)
+    (λ c. omega arith)
     loop-again
-    same-length
+    (λ c. omega arith)
     returns)

@@ -9,12 +9,6 @@ use borrow.Author.Needs.{needs}
 use Rattle.probe.proofs.testing.ready_to_probe.Statement.{statement}
 use Rattle.probe.proofs.testing.ready_to_probe.Tie as tie
 
-standard-requires : tie.Need-standard-requires
-standard-requires c κs = search needs
-
-enum-known-sound : tie.Need-enum-known-sound
-enum-known-sound c = search needs
-
 returns : tie.Need-returns
 unfolding probeTests
 returns c = group-no _ _ (sym (c .before .before .before .standard .ensures) ∙ c .before .sound .given .1)
@@ -86,8 +80,8 @@ pub ready-to-probe-spec : {M : Type 1} → statement M
 ready-to-probe-spec =
     tie.close
     (tie.spec
-    standard-requires
-    enum-known-sound
+    (λ c κs. search needs)
+    (λ c. search needs)
     returns
     enum-told
     may-probe-requires

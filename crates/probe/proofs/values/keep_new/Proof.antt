@@ -19,31 +19,10 @@ abbrev μ-loop : tie.MeasureT-loop
 loop-holds : tie.Need-loop-holds Inv-loop μ-loop
 loop-holds c = write-start _ _
 
-shared-slice-read-new-at : tie.Need-shared-slice-read-new-at Inv-loop μ-loop
-shared-slice-read-new-at c = search needs
-
-slice-read-new-at : tie.Need-slice-read-new-at Inv-loop μ-loop
-slice-read-new-at c = search needs
-
-new-at-requires : tie.Need-new-at-requires Inv-loop μ-loop
-new-at-requires c κs = search needs
-
-slice-write-values : tie.Need-slice-write-values Inv-loop μ-loop
-slice-write-values c = search needs
-
-add-i : tie.Need-add-i Inv-loop μ-loop
-add-i c = search needs
-
-loop-less : tie.Need-loop-less Inv-loop μ-loop
-loop-less c = search needs
-
 loop-again : tie.Need-loop-again Inv-loop μ-loop
 loop-again c =
     let at-loop = c .before .before .before .before in
     write-turn _ _ (at-loop .loop .inv) (omega arith) (c .new-at .ensures ∙ ap (newAt _) (at-loop .loop .inv .rest _ (omega arith)))
-
-same-length : tie.Need-same-length Inv-loop μ-loop
-same-length c = search needs
 
 returns : tie.Need-returns Inv-loop μ-loop
 unfolding newOnly
@@ -56,12 +35,12 @@ keep-new-spec =
     Inv-loop
     μ-loop
     loop-holds
-    shared-slice-read-new-at
-    slice-read-new-at
-    new-at-requires
-    slice-write-values
-    add-i
-    loop-less
+    (λ c. search needs)
+    (λ c. search needs)
+    (λ c κs. search needs)
+    (λ c. search needs)
+    (λ c. search needs)
+    (λ c. search needs)
     loop-again
-    same-length
+    (λ c. search needs)
     returns)

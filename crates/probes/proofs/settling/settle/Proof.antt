@@ -11,29 +11,8 @@ use borrow.Author.Needs.{needs}
 use Rattle.probes.proofs.settling.settle.Statement.{statement}
 use Rattle.probes.proofs.settling.settle.Tie as tie
 
-add-at : tie.Need-add-at
-add-at c = search needs
-
-mul-at : tie.Need-mul-at
-mul-at c = search needs
-
-add-at-2 : tie.Need-add-at-2
-add-at-2 c = search needs
-
-add-at-3 : tie.Need-add-at-3
-add-at-3 c = search needs
-
-add-at-4 : tie.Need-add-at-4
-add-at-4 c = search needs
-
-add-at-5 : tie.Need-add-at-5
-add-at-5 c = search needs
-
 gather-requires : tie.Need-gather-requires
 gather-requires c κs = c .before .before .before .before .before .before .before .before .before .before .before .before .before .pre
-
-enum-known-merged : tie.Need-enum-known-merged
-enum-known-merged c = search needs
 
 hand-over-requires : tie.Need-hand-over-requires
 hand-over-requires c κs =
@@ -47,18 +26,6 @@ hand-over-requires c κs =
     held-bytes F (a .start .now) cands (a .constraints .now) (g .last .1 .1 .1 .1 .1 .1 .0) (g .last .1 .1 .1 .1 .1 .1 .1 .1 .0)
     (all-held F (a .start .now) cands (a .constraints .now) (g .last .1 .1 .1 .1 .1 .1 .0) (g .last .1 .1 .1 .1 .1 .1 .1 .1 .0) (g .ensures) (at-merged .merged .given .1))
     (g .kept .1 .1 .1 .1 .1 .0 ∙ ap length (start .pre .1) ∙ start .pre .0 .remembers .start .long) (omega (arith, start .pre .0 .space, g .kept .1 .1 .1 .1 .1 .1 .1 .1 .0))
-
-same-length : tie.Need-same-length
-same-length c = search needs
-
-same-length-2 : tie.Need-same-length-2
-same-length-2 c = search needs
-
-same-length-3 : tie.Need-same-length-3
-same-length-3 c = search needs
-
-same-length-4 : tie.Need-same-length-4
-same-length-4 c = search needs
 
 returns : tie.Need-returns
 returns c =
@@ -81,21 +48,6 @@ returns c =
 enum-told : tie.Need-enum-told
 enum-told c = search needs
 
-no-room-requires : tie.Need-no-room-requires
-no-room-requires c κs = search needs
-
-same-length-5 : tie.Need-same-length-5
-same-length-5 c = search needs
-
-same-length-6 : tie.Need-same-length-6
-same-length-6 c = search needs
-
-same-length-7 : tie.Need-same-length-7
-same-length-7 c = search needs
-
-same-length-8 : tie.Need-same-length-8
-same-length-8 c = search needs
-
 returns-2 : tie.Need-returns-2
 returns-2 c =
     let at-no-room = c .before .before .before .before .before .before .before .before in
@@ -116,24 +68,24 @@ pub settle-spec : {M : Type 1} → statement M
 settle-spec =
     tie.close
     (tie.spec
-    add-at
-    mul-at
-    add-at-2
-    add-at-3
-    add-at-4
-    add-at-5
+    (λ c. search needs)
+    (λ c. search needs)
+    (λ c. search needs)
+    (λ c. search needs)
+    (λ c. search needs)
+    (λ c. search needs)
     gather-requires
-    enum-known-merged
+    (λ c. search needs)
     hand-over-requires
-    same-length
-    same-length-2
-    same-length-3
-    same-length-4
+    (λ c. search needs)
+    (λ c. search needs)
+    (λ c. search needs)
+    (λ c. search needs)
     returns
     enum-told
-    no-room-requires
-    same-length-5
-    same-length-6
-    same-length-7
-    same-length-8
+    (λ c κs. search needs)
+    (λ c. search needs)
+    (λ c. search needs)
+    (λ c. search needs)
+    (λ c. search needs)
     returns-2)

@@ -14,20 +14,8 @@ abbrev μ-loop : tie.MeasureT-loop
 loop-holds : tie.Need-loop-holds Inv-loop μ-loop
 loop-holds c = noning-start _ _ _ (c .pre)
 
-add-u : tie.Need-add-u Inv-loop μ-loop
-add-u c = search needs
-
-mul-u : tie.Need-mul-u Inv-loop μ-loop
-mul-u c = search needs
-
 slice-write-u : tie.Need-slice-write-u Inv-loop μ-loop
 slice-write-u c = noning-room (c .before .loop .inv) (c .loop-test .taken)
-
-add-j : tie.Need-add-j Inv-loop μ-loop
-add-j c = search needs
-
-loop-less : tie.Need-loop-less Inv-loop μ-loop
-loop-less c = search needs
 
 loop-again : tie.Need-loop-again Inv-loop μ-loop
 loop-again c = noning-turn (c .before .loop .inv) (c .loop-test .taken)
@@ -45,11 +33,11 @@ set-none-spec =
     Inv-loop
     μ-loop
     loop-holds
-    add-u
-    mul-u
+    (λ c. search needs)
+    (λ c. search needs)
     slice-write-u
-    add-j
-    loop-less
+    (λ c. search needs)
+    (λ c. search needs)
     loop-again
     same-length
     returns)

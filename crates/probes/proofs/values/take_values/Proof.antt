@@ -18,32 +18,11 @@ abbrev μ-loop : tie.MeasureT-loop
 loop-holds : tie.Need-loop-holds Inv-loop μ-loop
 loop-holds c = write-start _ _
 
-add-values : tie.Need-add-values Inv-loop μ-loop
-add-values c = search needs
-
-mul-values : tie.Need-mul-values Inv-loop μ-loop
-mul-values c = search needs
-
-shared-slice-read-values : tie.Need-shared-slice-read-values Inv-loop μ-loop
-shared-slice-read-values c = search needs
-
 cast-values : tie.Need-cast-values Inv-loop μ-loop
 cast-values c = omega (arith, c .before .before .before .pre .small _ (c .before .loop-test .taken))
 
-slice-write-values : tie.Need-slice-write-values Inv-loop μ-loop
-slice-write-values c = search needs
-
-add-j : tie.Need-add-j Inv-loop μ-loop
-add-j c = search needs
-
-loop-less : tie.Need-loop-less Inv-loop μ-loop
-loop-less c = search needs
-
 loop-again : tie.Need-loop-again Inv-loop μ-loop
 loop-again c = write-turn _ _ (c .before .before .loop .inv) (omega arith) refl
-
-same-length : tie.Need-same-length Inv-loop μ-loop
-same-length c = search needs
 
 returns : tie.Need-returns Inv-loop μ-loop
 returns c = write-done _ _ (c .before .loop .inv) (omega arith) ∙ upTo-region _ _ _ (c .before .before .pre .room)
@@ -55,13 +34,13 @@ take-values-spec =
     Inv-loop
     μ-loop
     loop-holds
-    add-values
-    mul-values
-    shared-slice-read-values
+    (λ c. search needs)
+    (λ c. search needs)
+    (λ c. search needs)
     cast-values
-    slice-write-values
-    add-j
-    loop-less
+    (λ c. search needs)
+    (λ c. search needs)
+    (λ c. search needs)
     loop-again
-    same-length
+    (λ c. search needs)
     returns)

@@ -16,39 +16,15 @@ Inv-loop c rows cols q values u t n start end row₀ p₀ row p = Along (addPlac
 abbrev μ-loop : tie.MeasureT-loop
 μ-loop c rows cols q values u t n start end row₀ p₀ row p = end - p
 
-mul-wide-word : tie.Need-mul-wide-word Inv-loop μ-loop
-mul-wide-word c = search needs
-
 shared-slice-read-wide-word : tie.Need-shared-slice-read-wide-word Inv-loop μ-loop
 shared-slice-read-wide-word c =
     let start = c .before .before .before .before .before .before .before in
     omega (arith, start .pre .0 .adjacent .room, start .pre .1)
 
-wide-word-requires : tie.Need-wide-word-requires Inv-loop μ-loop
-wide-word-requires c κs = search needs
-
-add-wide-word : tie.Need-add-wide-word Inv-loop μ-loop
-add-wide-word c = search needs
-
-mul-wide-word-2 : tie.Need-mul-wide-word-2 Inv-loop μ-loop
-mul-wide-word-2 c = search needs
-
 shared-slice-read-wide-word-2 : tie.Need-shared-slice-read-wide-word-2 Inv-loop μ-loop
 shared-slice-read-wide-word-2 c =
     let start = c .before .before .before .before .before .before .before .before .before in
     omega (arith, start .pre .0 .adjacent .room, start .pre .1)
-
-wide-word-requires-2 : tie.Need-wide-word-requires-2 Inv-loop μ-loop
-wide-word-requires-2 c κs = search needs
-
-mul-start : tie.Need-mul-start Inv-loop μ-loop
-mul-start c = search needs
-
-shared-slice-read-start : tie.Need-shared-slice-read-start Inv-loop μ-loop
-shared-slice-read-start c = search needs
-
-start-requires : tie.Need-start-requires Inv-loop μ-loop
-start-requires c κs = search needs
 
 loop-holds : tie.Need-loop-holds Inv-loop μ-loop
 loop-holds c =
@@ -56,9 +32,6 @@ loop-holds c =
     let at-wide-word = at-wide-word2 .before .before in
     let start = at-wide-word .before .before .before .before .before .before .before .before in
     row-start (start .pre .0) (start .pre .1) (at-wide-word .wide-word .ensures) (at-wide-word2 .wide-word2 .ensures) (c .start .ensures)
-
-add-word : tie.Need-add-word Inv-loop μ-loop
-add-word c = search needs
 
 add-word-2 : tie.Need-add-word-2 Inv-loop μ-loop
 add-word-2 c = omega (arith, walk-turn (c .before .loop .inv .walk) (c .loop-test .taken) .index)
@@ -69,17 +42,8 @@ mul-word c = omega (arith, walk-turn (c .before .loop .inv .walk) (c .loop-test 
 shared-slice-read-word : tie.Need-shared-slice-read-word Inv-loop μ-loop
 shared-slice-read-word c = walk-turn (c .before .before .loop .inv .walk) (c .before .loop-test .taken) .index
 
-entry-in-requires : tie.Need-entry-in-requires Inv-loop μ-loop
-entry-in-requires c κs = search needs
-
-end-in-requires : tie.Need-end-in-requires Inv-loop μ-loop
-end-in-requires c κs = search needs
-
 add-place-requires : tie.Need-add-place-requires Inv-loop μ-loop
 add-place-requires c κs = row-reads (c .before .before .before .before .before .before .before .before .before .before .before .before .before .before .before .before .before .pre .0) (c .before .before .before .before .loop .inv) (c .before .before .before .loop-test .taken) (c .before .entry-in .ensures) (c .end-in .ensures)
-
-add-p : tie.Need-add-p Inv-loop μ-loop
-add-p c = omega arith
 
 loop-less : tie.Need-loop-less Inv-loop μ-loop
 loop-less c = omega (arith, c .before .before .before .before .loop-test .taken)
@@ -99,25 +63,25 @@ fresh-row-spec =
     (tie.spec
     Inv-loop
     μ-loop
-    mul-wide-word
+    (λ c. search needs)
     shared-slice-read-wide-word
-    wide-word-requires
-    add-wide-word
-    mul-wide-word-2
+    (λ c κs. search needs)
+    (λ c. search needs)
+    (λ c. search needs)
     shared-slice-read-wide-word-2
-    wide-word-requires-2
-    mul-start
-    shared-slice-read-start
-    start-requires
+    (λ c κs. search needs)
+    (λ c. search needs)
+    (λ c. search needs)
+    (λ c κs. search needs)
     loop-holds
-    add-word
+    (λ c. search needs)
     add-word-2
     mul-word
     shared-slice-read-word
-    entry-in-requires
-    end-in-requires
+    (λ c κs. search needs)
+    (λ c κs. search needs)
     add-place-requires
-    add-p
+    (λ c. omega arith)
     loop-less
     loop-again
     returns)

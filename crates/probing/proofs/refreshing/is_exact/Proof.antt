@@ -4,12 +4,6 @@ use borrow.Author.Needs.{needs}
 use Rattle.probing.proofs.refreshing.is_exact.Statement.{statement}
 use Rattle.probing.proofs.refreshing.is_exact.Tie as tie
 
-enum-told : tie.Need-enum-told
-enum-told c = search needs
-
-enum-told-2 : tie.Need-enum-told-2
-enum-told-2 c = search needs
-
 returns : tie.Need-returns
 unfolding exactBy
 returns c = search needs
@@ -19,4 +13,4 @@ unfolding exactBy
 returns-2 c = search needs
 
 pub is-exact-spec : {M : Type 1} → statement M
-is-exact-spec = tie.close (tie.spec enum-told enum-told-2 returns returns-2)
+is-exact-spec = tie.close (tie.spec (λ c. search needs) (λ c. search needs) returns returns-2)

@@ -6,22 +6,10 @@ use borrow.Author.Needs.{needs}
 use Rattle.probing.proofs.refreshing.move_at.Statement.{statement}
 use Rattle.probing.proofs.refreshing.move_at.Tie as tie
 
-mul-half : tie.Need-mul-half
-mul-half c = search needs
-
-shared-slice-read-half : tie.Need-shared-slice-read-half
-shared-slice-read-half c = search needs
-
-half-requires : tie.Need-half-requires
-half-requires c κs = search needs
-
 move-row-requires : tie.Need-move-row-requires
 move-row-requires c κs =
     let start = c .before .before .before .before .before .before .before .before .before .before in
     omega (arith, other-end-below (start .pre .0 .shaped) _ (start .pre .1 .0) (start .pre .1 .1), start .pre .0 .floats-room)
-
-same-length : tie.Need-same-length
-same-length c = search needs
 
 returns : tie.Need-returns
 returns c =
@@ -32,9 +20,9 @@ pub move-at-spec : {M : Type 1} → statement M
 move-at-spec =
     tie.close
     (tie.spec
-    mul-half
-    shared-slice-read-half
-    half-requires
+    (λ c. search needs)
+    (λ c. search needs)
+    (λ c κs. search needs)
     move-row-requires
-    same-length
+    (λ c. search needs)
     returns)

@@ -15,39 +15,21 @@ Inv-loop c rows cols q values f₀ u i v n start end p₀ f p = Moves (fieldOf c
 abbrev μ-loop : tie.MeasureT-loop
 μ-loop c rows cols q values f₀ u i v n start end p₀ f p = end - p
 
-mul-wide-word : tie.Need-mul-wide-word Inv-loop μ-loop
-mul-wide-word c = search needs
-
 shared-slice-read-wide-word : tie.Need-shared-slice-read-wide-word Inv-loop μ-loop
 shared-slice-read-wide-word c =
     let at-start = c .before .before .before .before .before .before .before .before in
     omega (arith, at-start .pre .0 .words-room, at-start .pre .1)
-
-wide-word-requires : tie.Need-wide-word-requires Inv-loop μ-loop
-wide-word-requires c κs = search needs
-
-add-wide-word : tie.Need-add-wide-word Inv-loop μ-loop
-add-wide-word c = search needs
-
-mul-wide-word-2 : tie.Need-mul-wide-word-2 Inv-loop μ-loop
-mul-wide-word-2 c = search needs
 
 shared-slice-read-wide-word-2 : tie.Need-shared-slice-read-wide-word-2 Inv-loop μ-loop
 shared-slice-read-wide-word-2 c =
     let at-start = c .before .before .before .before .before .before .before .before .before .before in
     omega (arith, at-start .pre .0 .words-room, at-start .pre .1)
 
-wide-word-requires-2 : tie.Need-wide-word-requires-2 Inv-loop μ-loop
-wide-word-requires-2 c κs = search needs
-
 loop-holds : tie.Need-loop-holds Inv-loop μ-loop
 loop-holds c =
     let at-wide-word = c .before .before in
     let at-start = at-wide-word .before .before .before .before .before .before .before .before .before in
     moves-start (at-start .pre .0) (at-start .pre .1) (at-wide-word .wide-word .ensures) (c .wide-word2 .ensures)
-
-add-word : tie.Need-add-word Inv-loop μ-loop
-add-word c = search needs
 
 add-word-2 : tie.Need-add-word-2 Inv-loop μ-loop
 add-word-2 c = omega (arith, walk-turn (c .before .loop .inv .along .walk) (c .loop-test .taken) .index)
@@ -58,21 +40,12 @@ mul-word c = omega (arith, walk-turn (c .before .loop .inv .along .walk) (c .loo
 shared-slice-read-word : tie.Need-shared-slice-read-word Inv-loop μ-loop
 shared-slice-read-word c = walk-turn (c .before .before .loop .inv .along .walk) (c .before .loop-test .taken) .index
 
-entry-in-requires : tie.Need-entry-in-requires Inv-loop μ-loop
-entry-in-requires c κs = search needs
-
-end-in-requires : tie.Need-end-in-requires Inv-loop μ-loop
-end-in-requires c κs = search needs
-
 move-at-requires : tie.Need-move-at-requires Inv-loop μ-loop
 move-at-requires c κs =
     let moving = c .before .before .before .before .before .loop .inv in
     let turn = walk-turn (moving .along .walk) (c .before .before .before .before .loop-test .taken) in
     let ek = c .before .before .entry-in .ensures in
     (moving .kept .placed, (omega (arith, turn-entry turn ek, c .before .before .before .before .before .before .before .before .before .before .before .before .before .before .before .before .before .pre .0 .shaped .rows-long), turn-other turn ek (c .before .end-in .ensures)))
-
-add-p : tie.Need-add-p Inv-loop μ-loop
-add-p c = omega arith
 
 loop-less : tie.Need-loop-less Inv-loop μ-loop
 loop-less c = omega (arith, c .before .before .before .before .before .before .before .loop-test .taken)
@@ -92,22 +65,22 @@ move-terms-spec =
     (tie.spec
     Inv-loop
     μ-loop
-    mul-wide-word
+    (λ c. search needs)
     shared-slice-read-wide-word
-    wide-word-requires
-    add-wide-word
-    mul-wide-word-2
+    (λ c κs. search needs)
+    (λ c. search needs)
+    (λ c. search needs)
     shared-slice-read-wide-word-2
-    wide-word-requires-2
+    (λ c κs. search needs)
     loop-holds
-    add-word
+    (λ c. search needs)
     add-word-2
     mul-word
     shared-slice-read-word
-    entry-in-requires
-    end-in-requires
+    (λ c κs. search needs)
+    (λ c κs. search needs)
     move-at-requires
-    add-p
+    (λ c. omega arith)
     loop-less
     loop-again
     same-length

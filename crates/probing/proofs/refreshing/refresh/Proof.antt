@@ -13,39 +13,21 @@ Inv-loop c rows cols q values f₀ u i n start end x₀ p₀ f x p = Refreshing 
 abbrev μ-loop : tie.MeasureT-loop
 μ-loop c rows cols q values f₀ u i n start end x₀ p₀ f x p = end - p
 
-mul-wide-word : tie.Need-mul-wide-word Inv-loop μ-loop
-mul-wide-word c = search needs
-
 shared-slice-read-wide-word : tie.Need-shared-slice-read-wide-word Inv-loop μ-loop
 shared-slice-read-wide-word c =
     let at-start = c .before .before .before .before .before .before .before .before in
     omega (arith, at-start .pre .0 .words-room, at-start .pre .1 .1)
-
-wide-word-requires : tie.Need-wide-word-requires Inv-loop μ-loop
-wide-word-requires c κs = search needs
-
-add-wide-word : tie.Need-add-wide-word Inv-loop μ-loop
-add-wide-word c = search needs
-
-mul-wide-word-2 : tie.Need-mul-wide-word-2 Inv-loop μ-loop
-mul-wide-word-2 c = search needs
 
 shared-slice-read-wide-word-2 : tie.Need-shared-slice-read-wide-word-2 Inv-loop μ-loop
 shared-slice-read-wide-word-2 c =
     let at-start = c .before .before .before .before .before .before .before .before .before .before in
     omega (arith, at-start .pre .0 .words-room, at-start .pre .1 .1)
 
-wide-word-requires-2 : tie.Need-wide-word-requires-2 Inv-loop μ-loop
-wide-word-requires-2 c κs = search needs
-
 loop-holds : tie.Need-loop-holds Inv-loop μ-loop
 loop-holds c =
     let at-wide-word = c .before .before in
     let at-start = at-wide-word .before .before .before .before .before .before .before .before .before in
     refresh-start (at-start .pre .0) (at-start .pre .1 .1) (at-wide-word .wide-word .ensures) (c .wide-word2 .ensures)
-
-add-entry-in : tie.Need-add-entry-in Inv-loop μ-loop
-add-entry-in c = search needs
 
 add-entry-in-2 : tie.Need-add-entry-in-2 Inv-loop μ-loop
 add-entry-in-2 c = omega (arith, refresh-reads (c .before .loop .inv) (c .loop-test .taken) .0)
@@ -56,18 +38,12 @@ mul-entry-in c = omega (arith, refresh-reads (c .before .loop .inv) (c .loop-tes
 shared-slice-read-entry-in : tie.Need-shared-slice-read-entry-in Inv-loop μ-loop
 shared-slice-read-entry-in c = refresh-reads (c .before .before .loop .inv) (c .before .loop-test .taken) .0
 
-entry-in-requires : tie.Need-entry-in-requires Inv-loop μ-loop
-entry-in-requires c κs = search needs
-
 refresh-once-requires : tie.Need-refresh-once-requires Inv-loop μ-loop
 refresh-once-requires c κs =
     let at-loop-test = c .before .before .before in
     let at-loop = at-loop-test .before in
     let at-start = at-loop .before .before .before .before .before .before .before .before .before .before .before .before in
     (at-loop .loop .inv .kept .placed, (at-start .pre .1 .0, (omega (arith, c .before .entry-in .ensures, refresh-reads (at-loop .loop .inv) (at-loop-test .loop-test .taken) .1 .1), at-loop .loop .inv .cursor)))
-
-add-p : tie.Need-add-p Inv-loop μ-loop
-add-p c = omega arith
 
 loop-less : tie.Need-loop-less Inv-loop μ-loop
 loop-less c = omega (arith, c .before .before .before .before .before .before .loop-test .taken)
@@ -92,21 +68,21 @@ refresh-spec =
     (tie.spec
     Inv-loop
     μ-loop
-    mul-wide-word
+    (λ c. search needs)
     shared-slice-read-wide-word
-    wide-word-requires
-    add-wide-word
-    mul-wide-word-2
+    (λ c κs. search needs)
+    (λ c. search needs)
+    (λ c. search needs)
     shared-slice-read-wide-word-2
-    wide-word-requires-2
+    (λ c κs. search needs)
     loop-holds
-    add-entry-in
+    (λ c. search needs)
     add-entry-in-2
     mul-entry-in
     shared-slice-read-entry-in
-    entry-in-requires
+    (λ c κs. search needs)
     refresh-once-requires
-    add-p
+    (λ c. omega arith)
     loop-less
     loop-again
     same-length

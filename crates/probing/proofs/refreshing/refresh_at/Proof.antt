@@ -6,9 +6,6 @@ use borrow.Author.Needs.{needs}
 use Rattle.probing.proofs.refreshing.refresh_at.Statement.{statement}
 use Rattle.probing.proofs.refreshing.refresh_at.Tie as tie
 
-other-end-requires : tie.Need-other-end-requires
-other-end-requires c κs = search needs
-
 shared-slice-read-if1 : tie.Need-shared-slice-read-if1
 shared-slice-read-if1 c =
     let at-other-end = c .before in
@@ -33,9 +30,6 @@ put-row-requires c κs =
     let start = at-other-end .before .before .before .before .before .before .before .before in
     omega (arith, other-end-below (start .pre .0 .shaped) _ (start .pre .1 .1) (at-other-end .other-end .ensures), start .pre .0 .floats-room)
 
-same-length : tie.Need-same-length
-same-length c = search needs
-
 returns-2 : tie.Need-returns-2
 returns-2 c =
     let at-put-row = c .before .before in
@@ -49,10 +43,10 @@ pub refresh-at-spec : {M : Type 1} → statement M
 refresh-at-spec =
     tie.close
     (tie.spec
-    other-end-requires
+    (λ c κs. search needs)
     shared-slice-read-if1
     returns
     fresh-row-requires
     put-row-requires
-    same-length
+    (λ c. search needs)
     returns-2)

@@ -7,31 +7,16 @@ use borrow.Author.Needs.{needs}
 use Rattle.probing.proofs.refreshing.refresh_once.Statement.{statement}
 use Rattle.probing.proofs.refreshing.refresh_once.Tie as tie
 
-mul-wide-short : tie.Need-mul-wide-short
-mul-wide-short c = search needs
-
-shared-slice-read-wide-short : tie.Need-shared-slice-read-wide-short
-shared-slice-read-wide-short c = search needs
-
-wide-short-requires : tie.Need-wide-short-requires
-wide-short-requires c κs = search needs
-
 refresh-at-requires : tie.Need-refresh-at-requires
 refresh-at-requires c κs =
     let at-start = c .before .before .before .before .before .before .before .before .before .before .before in
     (at-start .pre .0, (at-start .pre .1 .0, at-start .pre .1 .1 .0))
-
-same-length : tie.Need-same-length
-same-length c = search needs
 
 returns : tie.Need-returns
 returns c =
     let at-refresh-at = c .before .before in
     let at-start = at-refresh-at .before .before .before .before .before .before .before .before .before .before .before .before in
     (at-start .pre .1 .1 .1, inl (at-refresh-at .refresh-at .ensures))
-
-add-next-place : tie.Need-add-next-place
-add-next-place c = search needs
 
 next-place-requires : tie.Need-next-place-requires
 next-place-requires c κs =
@@ -56,9 +41,6 @@ refresh-at-requires-2 c κs =
     let at-start = c .before .before .before .before .before .before .before .before .before .before .before .before .before .before in
     (at-start .pre .0, (at-start .pre .1 .0, at-start .pre .1 .1 .0))
 
-same-length-2 : tie.Need-same-length-2
-same-length-2 c = search needs
-
 returns-3 : tie.Need-returns-3
 returns-3 c =
     let at-refresh-at2 = c .before .before in
@@ -70,15 +52,15 @@ pub refresh-once-spec : {M : Type 1} → statement M
 refresh-once-spec =
     tie.close
     (tie.spec
-    mul-wide-short
-    shared-slice-read-wide-short
-    wide-short-requires
+    (λ c. search needs)
+    (λ c. search needs)
+    (λ c κs. search needs)
     refresh-at-requires
-    same-length
+    (λ c. search needs)
     returns
-    add-next-place
+    (λ c. search needs)
     next-place-requires
     returns-2
     refresh-at-requires-2
-    same-length-2
+    (λ c. search needs)
     returns-3)

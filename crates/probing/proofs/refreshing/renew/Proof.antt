@@ -4,15 +4,6 @@ use borrow.Author.Needs.{needs}
 use Rattle.probing.proofs.refreshing.renew.Statement.{statement}
 use Rattle.probing.proofs.refreshing.renew.Tie as tie
 
-is-exact-requires : tie.Need-is-exact-requires
-is-exact-requires c κs = search needs
-
-move-terms-requires : tie.Need-move-terms-requires
-move-terms-requires c κs = search needs
-
-same-length : tie.Need-same-length
-same-length c = search needs
-
 returns : tie.Need-returns
 returns c =
     let at-move-terms = c .before .before in
@@ -20,12 +11,6 @@ returns c =
     let at-is-exact = at-if1 .before in
     let at-start = at-is-exact .before .before .before .before .before .before .before .before in
     by-moves (at-start .pre .1 .1 .1) (at-is-exact .is-exact .ensures) _ _ (at-if1 .if1 .taken) (at-move-terms .move-terms .ensures)
-
-refresh-requires : tie.Need-refresh-requires
-refresh-requires c κs = search needs
-
-same-length-2 : tie.Need-same-length-2
-same-length-2 c = search needs
 
 returns-2 : tie.Need-returns-2
 returns-2 c =
@@ -39,10 +24,10 @@ pub renew-spec : {M : Type 1} → statement M
 renew-spec =
     tie.close
     (tie.spec
-    is-exact-requires
-    move-terms-requires
-    same-length
+    (λ c κs. search needs)
+    (λ c κs. search needs)
+    (λ c. search needs)
     returns
-    refresh-requires
-    same-length-2
+    (λ c κs. search needs)
+    (λ c. search needs)
     returns-2)

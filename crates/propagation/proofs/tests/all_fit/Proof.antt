@@ -30,9 +30,6 @@ mul-wide-short c = omega (arith, has-room (c .before .before .before .args .list
 shared-slice-read-wide-short : tie.Need-shared-slice-read-wide-short Inv-loop μ-loop
 shared-slice-read-wide-short c = omega (arith, has-room (c .before .before .before .before .args .list .now) (c .before .before .loop .t) .0 (c .before .loop-test .taken))
 
-wide-short-requires : tie.Need-wide-short-requires Inv-loop μ-loop
-wide-short-requires c κs = search needs
-
 add-wide-short : tie.Need-add-wide-short Inv-loop μ-loop
 add-wide-short c = omega (arith, has-room (c .before .before .before .before .before .args .list .now) (c .before .before .before .loop .t) .0 (c .before .before .loop-test .taken))
 
@@ -45,9 +42,6 @@ shared-slice-read-wide-short-2 c =
     let at-loop = at-loop-test .before in
     let start = at-loop .before .before in
     omega (arith, has-room (start .args .list .now) (at-loop .loop .t) .0 (at-loop-test .loop-test .taken))
-
-wide-short-requires-2 : tie.Need-wide-short-requires-2 Inv-loop μ-loop
-wide-short-requires-2 c κs = search needs
 
 add-wide-short-2 : tie.Need-add-wide-short-2 Inv-loop μ-loop
 add-wide-short-2 c =
@@ -70,12 +64,6 @@ shared-slice-read-wide-short-3 c =
     let start = at-loop .before .before in
     omega (arith, has-room (start .args .list .now) (at-loop .loop .t) .0 (at-loop-test .loop-test .taken))
 
-wide-short-requires-3 : tie.Need-wide-short-requires-3 Inv-loop μ-loop
-wide-short-requires-3 c κs = search needs
-
-fits-requires : tie.Need-fits-requires Inv-loop μ-loop
-fits-requires c κs = search needs
-
 returns : tie.Need-returns Inv-loop μ-loop
 unfolding allFit
 returns c =
@@ -94,9 +82,6 @@ add-t c =
     let at-loop = at-loop-test .before in
     let start = at-loop .before .before in
     omega (arith, has-room (start .args .list .now) (at-loop .loop .t) .0 (at-loop-test .loop-test .taken))
-
-loop-less : tie.Need-loop-less Inv-loop μ-loop
-loop-less c = omega arith
 
 loop-again : tie.Need-loop-again Inv-loop μ-loop
 loop-again c =
@@ -124,18 +109,18 @@ all-fit-spec =
     mul-i
     mul-wide-short
     shared-slice-read-wide-short
-    wide-short-requires
+    (λ c κs. search needs)
     add-wide-short
     mul-wide-short-2
     shared-slice-read-wide-short-2
-    wide-short-requires-2
+    (λ c κs. search needs)
     add-wide-short-2
     mul-wide-short-3
     shared-slice-read-wide-short-3
-    wide-short-requires-3
-    fits-requires
+    (λ c κs. search needs)
+    (λ c κs. search needs)
     returns
     add-t
-    loop-less
+    (λ c. omega arith)
     loop-again
     returns-2)

@@ -14,12 +14,9 @@ returns-2 : tie.Need-returns-2
 unfolding constraintsFit
 returns-2 c = and-yes (le-leb _ _ (c .before .if1 .left)) (and-no _ (ne-eqb _ _ (c .if2 .taken)))
 
-all-fit-requires : tie.Need-all-fit-requires
-all-fit-requires c κs = search needs
-
 returns-3 : tie.Need-returns-3
 unfolding constraintsFit
 returns-3 c = and-yes (le-leb _ _ (c .before .before .if1 .left)) (and-yes (eq-eqb _ _ (c .before .if2 .left)) (c .all-fit .ensures))
 
 pub constraints-fit-spec : {M : Type 1} → statement M
-constraints-fit-spec = tie.close (tie.spec returns returns-2 all-fit-requires returns-3)
+constraints-fit-spec = tie.close (tie.spec returns returns-2 (λ c κs. search needs) returns-3)

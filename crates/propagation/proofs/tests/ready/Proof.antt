@@ -10,15 +10,9 @@ use borrow.Author.Needs.{needs}
 use Rattle.propagation.proofs.tests.ready.Statement.{statement}
 use Rattle.propagation.proofs.tests.ready.Tie as tie
 
-few-variables-requires : tie.Need-few-variables-requires
-few-variables-requires c κs = search needs
-
 returns : tie.Need-returns
 unfolding propagationTests
 returns c = test-no _ _ (sym (c .before .few-variables .ensures) ∙ not-true _ (c .if1 .taken))
-
-start-fits-requires : tie.Need-start-fits-requires
-start-fits-requires c κs = search needs
 
 returns-2 : tie.Need-returns-2
 unfolding propagationTests
@@ -28,9 +22,6 @@ returns-2 c =
     let at-few-variables = at-if1 .before in
     test-ok _ _ (sym (at-few-variables .few-variables .ensures) ∙ not-false _ (at-if1 .if1 .left)) (test-no _ _ (sym
     (at-start-fits .start-fits .ensures) ∙ not-true _ (c .if2 .taken)))
-
-constraints-fit-requires : tie.Need-constraints-fit-requires
-constraints-fit-requires c κs = search needs
 
 returns-3 : tie.Need-returns-3
 unfolding propagationTests
@@ -85,11 +76,11 @@ pub ready-spec : {M : Type 1} → statement M
 ready-spec =
     tie.close
     (tie.spec
-    few-variables-requires
+    (λ c κs. search needs)
     returns
-    start-fits-requires
+    (λ c κs. search needs)
     returns-2
-    constraints-fit-requires
+    (λ c κs. search needs)
     returns-3
     words-fit-requires
     returns-4

@@ -15,32 +15,8 @@ abbrev μ-loop : tie.MeasureT-loop
 loop-holds : tie.Need-loop-holds Inv-loop μ-loop
 loop-holds c = listing-start _ _ _ (c .before .before .pre .1)
 
-cast-u : tie.Need-cast-u Inv-loop μ-loop
-cast-u c = search needs
-
-add-u : tie.Need-add-u Inv-loop μ-loop
-add-u c = search needs
-
-mul-u : tie.Need-mul-u Inv-loop μ-loop
-mul-u c = search needs
-
 slice-write-u : tie.Need-slice-write-u Inv-loop μ-loop
 slice-write-u c = listing-room (c .before .loop .inv) (c .loop-test .taken)
-
-shared-slice-read-step : tie.Need-shared-slice-read-step Inv-loop μ-loop
-shared-slice-read-step c = search needs
-
-step-requires : tie.Need-step-requires Inv-loop μ-loop
-step-requires c κs = search needs
-
-add-count : tie.Need-add-count Inv-loop μ-loop
-add-count c = search needs
-
-add-j : tie.Need-add-j Inv-loop μ-loop
-add-j c = search needs
-
-loop-less : tie.Need-loop-less Inv-loop μ-loop
-loop-less c = search needs
 
 loop-again : tie.Need-loop-again Inv-loop μ-loop
 loop-again c = listing-turn (c .before .before .before .loop .inv) (c .before .before .loop-test .taken) (c .step .ensures .0) (c .step .ensures .1)
@@ -58,15 +34,15 @@ list-free-spec =
     Inv-loop
     μ-loop
     loop-holds
-    cast-u
-    add-u
-    mul-u
+    (λ c. search needs)
+    (λ c. search needs)
+    (λ c. search needs)
     slice-write-u
-    shared-slice-read-step
-    step-requires
-    add-count
-    add-j
-    loop-less
+    (λ c. search needs)
+    (λ c κs. search needs)
+    (λ c. search needs)
+    (λ c. search needs)
+    (λ c. search needs)
     loop-again
     same-length
     returns)

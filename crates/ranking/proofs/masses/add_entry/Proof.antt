@@ -5,24 +5,6 @@ use borrow.Author.Needs.{needs}
 use Rattle.ranking.proofs.masses.add_entry.Statement.{statement}
 use Rattle.ranking.proofs.masses.add_entry.Tie as tie
 
-mul-wide-short : tie.Need-mul-wide-short
-mul-wide-short c = search needs
-
-shared-slice-read-wide-short : tie.Need-shared-slice-read-wide-short
-shared-slice-read-wide-short c = search needs
-
-wide-short-requires : tie.Need-wide-short-requires
-wide-short-requires c κs = search needs
-
-mul-wide-short-2 : tie.Need-mul-wide-short-2
-mul-wide-short-2 c = search needs
-
-shared-slice-read-wide-short-2 : tie.Need-shared-slice-read-wide-short-2
-shared-slice-read-wide-short-2 c = search needs
-
-wide-short-requires-2 : tie.Need-wide-short-requires-2
-wide-short-requires-2 c κs = search needs
-
 shared-slice-read-if1 : tie.Need-shared-slice-read-if1
 shared-slice-read-if1 c =
     let at-wide-short = c .before .before .before in
@@ -45,15 +27,6 @@ returns-2 c =
     let at-wide-short = at-wide-short2 .before .before in
     column-fixed _ _ _ _ (at-wide-short .wide-short .ensures) (at-wide-short2 .wide-short2 .ensures) (at-if1 .if1 .left) (c .if2 .taken)
 
-mul-magnitude : tie.Need-mul-magnitude
-mul-magnitude c = search needs
-
-shared-slice-read-magnitude : tie.Need-shared-slice-read-magnitude
-shared-slice-read-magnitude c = search needs
-
-magnitude-requires : tie.Need-magnitude-requires
-magnitude-requires c κs = search needs
-
 add-at-requires : tie.Need-add-at-requires
 add-at-requires c κs =
     let at-wide-short = c .before .before .before .before .before .before .before .before .before in
@@ -66,9 +39,6 @@ add-at-requires-2 c κs =
     let at-wide-short2 = at-add-at .before .before .before .before .before .before .before .before in
     let start = at-wide-short2 .before .before .before .before .before .before .before .before .before .before in
     omega (arith, ends-in (start .pre .0) _ (start .pre .1), at-wide-short2 .wide-short2 .ensures, at-add-at .add-at .kept)
-
-same-length : tie.Need-same-length
-same-length c = search needs
 
 returns-3 : tie.Need-returns-3
 returns-3 c =
@@ -86,20 +56,20 @@ pub add-entry-spec : {M : Type 1} → statement M
 add-entry-spec =
     tie.close
     (tie.spec
-    mul-wide-short
-    shared-slice-read-wide-short
-    wide-short-requires
-    mul-wide-short-2
-    shared-slice-read-wide-short-2
-    wide-short-requires-2
+    (λ c. search needs)
+    (λ c. search needs)
+    (λ c κs. search needs)
+    (λ c. search needs)
+    (λ c. search needs)
+    (λ c κs. search needs)
     shared-slice-read-if1
     returns
     shared-slice-read-if2
     returns-2
-    mul-magnitude
-    shared-slice-read-magnitude
-    magnitude-requires
+    (λ c. search needs)
+    (λ c. search needs)
+    (λ c κs. search needs)
     add-at-requires
     add-at-requires-2
-    same-length
+    (λ c. search needs)
     returns-3)

@@ -8,9 +8,6 @@ use Rattle.reason.proofs.answers.answer.Tie as tie
 returns : tie.Need-returns
 returns c = none-told _ _ _ _ _ (c .if1 .taken)
 
-shared-slice-read-if2 : tie.Need-shared-slice-read-if2
-shared-slice-read-if2 c = search needs
-
 returns-2 : tie.Need-returns-2
 returns-2 c = given-told _ _ _ _ _ (c .before .before .if1 .left) (c .if2 .taken)
 
@@ -23,15 +20,6 @@ slice-aggregate-answer-free c = front-long _ 4096 (c .before .before .before .be
 answer-free-requires : tie.Need-answer-free-requires
 answer-free-requires c κs = (c .before .before .before .before .before .before .before .before .before .before .before .before .before .before .before .pre .0, (c .before .before .before .before .before .before .before .before .before .before .before .before .before .before .before .pre .1, (c .before .before .before .before .before .before .if1 .left, sym (front-long _ 4096 (c .before .before .before .before .before .before .before .before .before .before .before .before .before .before .before .pre .0 .sound .shaped .few-variables)))))
 
-same-length : tie.Need-same-length
-same-length c = search needs
-
-same-length-2 : tie.Need-same-length-2
-same-length-2 c = search needs
-
-same-length-3 : tie.Need-same-length-3
-same-length-3 c = search needs
-
 returns-3 : tie.Need-returns-3
 returns-3 c = some-told _ _ _ _ _ (c .before .before .before .before .before .before .before .before .before .before .before .before .before .before .if1 .left) (c .before .before .before .before .before .before .before .before .before .before .before .before .if2 .left) (c .before .before .before .before .before .before .before .answer-free .ensures)
 
@@ -40,12 +28,12 @@ answer-spec =
     tie.close
     (tie.spec
     returns
-    shared-slice-read-if2
+    (λ c. search needs)
     returns-2
     array-borrow-prefix-space
     slice-aggregate-answer-free
     answer-free-requires
-    same-length
-    same-length-2
-    same-length-3
+    (λ c. search needs)
+    (λ c. search needs)
+    (λ c. search needs)
     returns-3)

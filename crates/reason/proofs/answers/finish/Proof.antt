@@ -7,14 +7,8 @@ use Rattle.reason.proofs.answers.finish.Tie as tie
 enum-told : tie.Need-enum-told
 enum-told c = search needs
 
-enum-known-ground : tie.Need-enum-known-ground
-enum-known-ground c = search needs
-
 fit-requires : tie.Need-fit-requires
 fit-requires c κs = c .before .before .before .before .before .before .pre
-
-enum-known-ground-2 : tie.Need-enum-known-ground-2
-enum-known-ground-2 c = search needs
 
 fit-requires-2 : tie.Need-fit-requires-2
 fit-requires-2 c κs = c .before .before .before .before .before .before .pre
@@ -22,14 +16,8 @@ fit-requires-2 c κs = c .before .before .before .before .before .before .pre
 returns : tie.Need-returns
 returns c = finish-given _ _ (c .enum-told .given .1)
 
-same-length : tie.Need-same-length
-same-length c = search needs
-
 returns-2 : tie.Need-returns-2
 returns-2 c = finish-lower _ _ _ (c .before .before .before .before .before .ground .given .1) (c .before .before .fit .ensures)
-
-same-length-2 : tie.Need-same-length-2
-same-length-2 c = search needs
 
 returns-3 : tie.Need-returns-3
 returns-3 c = finish-upper _ _ _ (c .before .before .before .before .before .ground2 .given .1) (c .before .before .fit2 .ensures)
@@ -39,12 +27,12 @@ finish-spec =
     tie.close
     (tie.spec
     enum-told
-    enum-known-ground
+    (λ c. search needs)
     fit-requires
-    enum-known-ground-2
+    (λ c. search needs)
     fit-requires-2
     returns
-    same-length
+    (λ c. search needs)
     returns-2
-    same-length-2
+    (λ c. search needs)
     returns-3)

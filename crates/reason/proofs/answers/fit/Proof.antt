@@ -8,20 +8,11 @@ use Rattle.reason.proofs.answers.fit.Tie as tie
 count-marked-requires : tie.Need-count-marked-requires
 count-marked-requires c κs = c .before .before .pre
 
-clear-shorts-requires : tie.Need-clear-shorts-requires
-clear-shorts-requires c κs = search needs
-
-same-length : tie.Need-same-length
-same-length c = search needs
-
 returns : tie.Need-returns
 returns c = fit-full _ _ _ _ (c .before .before .before .before .before .count-marked .ensures) (c .before .before .before .before .if1 .taken) (c .before .before .clear-shorts .ensures)
 
 list-marked-requires : tie.Need-list-marked-requires
 list-marked-requires c κs = (c .before .before .before .before .before .pre, omega (arith, c .before .before .count-marked .ensures, c .before .if1 .left))
-
-same-length-2 : tie.Need-same-length-2
-same-length-2 c = search needs
 
 returns-2 : tie.Need-returns-2
 returns-2 c = fit-done _ _ _ _ (c .before .before .before .before .before .count-marked .ensures) (c .before .before .before .before .if1 .left) (c .before .before .list-marked .ensures)
@@ -31,9 +22,9 @@ fit-spec =
     tie.close
     (tie.spec
     count-marked-requires
-    clear-shorts-requires
-    same-length
+    (λ c κs. search needs)
+    (λ c. search needs)
     returns
     list-marked-requires
-    same-length-2
+    (λ c. search needs)
     returns-2)

@@ -16,15 +16,6 @@ Inv-loop c rows cols q values₀ f₀ u₀ tail i base last₀ head₀ values f 
 abbrev μ-loop : tie.MeasureT-loop
 μ-loop c rows cols q values₀ f₀ u₀ tail i base last₀ head₀ values f u last head = length c - head
 
-add-base : tie.Need-add-base Inv-loop μ-loop
-add-base c = search needs
-
-mul-base : tie.Need-mul-base Inv-loop μ-loop
-mul-base c = search needs
-
-add-base-2 : tie.Need-add-base-2 Inv-loop μ-loop
-add-base-2 c = search needs
-
 loop-holds : tie.Need-loop-holds Inv-loop μ-loop
 loop-holds c = halt-start (c .before .before .before .before .before .before .before .pre .0)
 
@@ -51,9 +42,6 @@ mul-wide-word c = omega (arith, halt-index (c .before .before .before .loop .inv
 
 slice-read-wide-word : tie.Need-slice-read-wide-word Inv-loop μ-loop
 slice-read-wide-word c = halt-index (c .before .before .before .before .loop .inv) (c .before .before .before .loop-test .taken)
-
-wide-word-requires : tie.Need-wide-word-requires Inv-loop μ-loop
-wide-word-requires c κs = search needs
 
 serve-requires : tie.Need-serve-requires Inv-loop μ-loop
 serve-requires c κs = (c .before .before .before .before .before .before .before .before .loop .inv .kept .placed, halt-below (c .before .before .before .before .before .before .before .before .loop .inv) (c .before .before .before .before .before .before .before .loop-test .taken) (c .before .before .before .wide-word .ensures))
@@ -85,9 +73,9 @@ serve-until-spec =
     (tie.spec
     Inv-loop
     μ-loop
-    add-base
-    mul-base
-    add-base-2
+    (λ c. search needs)
+    (λ c. search needs)
+    (λ c. search needs)
     loop-holds
     slice-read-if1
     same-length
@@ -97,7 +85,7 @@ serve-until-spec =
     add-wide-word
     mul-wide-word
     slice-read-wide-word
-    wide-word-requires
+    (λ c κs. search needs)
     serve-requires
     add-head
     loop-less

@@ -24,17 +24,8 @@ mul-wide-word c = omega (arith, back-index (c .before .loop .inv) (c .loop-test 
 shared-slice-read-wide-word : tie.Need-shared-slice-read-wide-word Inv-loop μ-loop
 shared-slice-read-wide-word c = back-index (c .before .before .loop .inv) (c .before .loop-test .taken)
 
-wide-word-requires : tie.Need-wide-word-requires Inv-loop μ-loop
-wide-word-requires c κs = search needs
-
 slice-write-values : tie.Need-slice-write-values Inv-loop μ-loop
 slice-write-values c = back-below (c .before .before .before .loop .inv) (c .before .before .loop-test .taken) (c .wide-word .ensures)
-
-add-p : tie.Need-add-p Inv-loop μ-loop
-add-p c = omega arith
-
-loop-less : tie.Need-loop-less Inv-loop μ-loop
-loop-less c = omega arith
 
 loop-again : tie.Need-loop-again Inv-loop μ-loop
 loop-again c = back-turn (c .before .before .before .loop .inv) (c .before .before .loop-test .taken) (c .wide-word .ensures)
@@ -55,10 +46,10 @@ take-back-spec =
     add-wide-word
     mul-wide-word
     shared-slice-read-wide-word
-    wide-word-requires
+    (λ c κs. search needs)
     slice-write-values
-    add-p
-    loop-less
+    (λ c. omega arith)
+    (λ c. omega arith)
     loop-again
     same-length
     returns)

@@ -16,17 +16,8 @@ abbrev μ-loop : tie.MeasureT-loop
 loop-holds : tie.Need-loop-holds Inv-loop μ-loop
 loop-holds c = count-start
 
-shared-slice-read-counted : tie.Need-shared-slice-read-counted Inv-loop μ-loop
-shared-slice-read-counted c = search needs
-
 counted-requires : tie.Need-counted-requires Inv-loop μ-loop
 counted-requires c κs = omega (arith, c .before .before .loop .inv .few, c .before .before .loop .inv .to, c .before .before .before .before .pre)
-
-add-j : tie.Need-add-j Inv-loop μ-loop
-add-j c = omega arith
-
-loop-less : tie.Need-loop-less Inv-loop μ-loop
-loop-less c = omega arith
 
 loop-again : tie.Need-loop-again Inv-loop μ-loop
 loop-again c = count-turn (c .before .before .before .loop .inv) (c .before .before .loop-test .taken) (c .counted .ensures)
@@ -41,9 +32,9 @@ count-marked-spec =
     Inv-loop
     μ-loop
     loop-holds
-    shared-slice-read-counted
+    (λ c. search needs)
     counted-requires
-    add-j
-    loop-less
+    (λ c. omega arith)
+    (λ c. omega arith)
     loop-again
     returns)

@@ -16,17 +16,8 @@ abbrev μ-loop : tie.MeasureT-loop
 loop-holds : tie.Need-loop-holds Inv-loop μ-loop
 loop-holds c = list-start (c .before .before .pre .1)
 
-shared-slice-read-push : tie.Need-shared-slice-read-push Inv-loop μ-loop
-shared-slice-read-push c = search needs
-
 push-requires : tie.Need-push-requires Inv-loop μ-loop
 push-requires c κs = (list-room (c .before .before .before .loop .inv) (c .before .before .loop-test .taken), omega (arith, c .before .before .loop-test .taken, c .before .before .before .before .before .before .pre .0))
-
-add-j : tie.Need-add-j Inv-loop μ-loop
-add-j c = omega arith
-
-loop-less : tie.Need-loop-less Inv-loop μ-loop
-loop-less c = omega arith
 
 loop-again : tie.Need-loop-again Inv-loop μ-loop
 loop-again c = list-turn (c .before .before .before .before .before .before .loop .inv) (c .before .before .before .before .before .loop-test .taken) (c .before .before .push .ensures)
@@ -44,10 +35,10 @@ list-marked-spec =
     Inv-loop
     μ-loop
     loop-holds
-    shared-slice-read-push
+    (λ c. search needs)
     push-requires
-    add-j
-    loop-less
+    (λ c. omega arith)
+    (λ c. omega arith)
     loop-again
     same-length
     returns)

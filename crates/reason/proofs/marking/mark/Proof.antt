@@ -19,9 +19,6 @@ mul-wide-word c = omega (arith, c .before .before .before .before .pre .1 .0 .ro
 shared-slice-read-wide-word : tie.Need-shared-slice-read-wide-word Inv-loop μ-loop
 shared-slice-read-wide-word c = omega (arith, c .before .before .before .before .before .pre .1 .0 .room, c .before .before .before .before .before .pre .1 .1)
 
-wide-word-requires : tie.Need-wide-word-requires Inv-loop μ-loop
-wide-word-requires c κs = search needs
-
 add-wide-word : tie.Need-add-wide-word Inv-loop μ-loop
 add-wide-word c = omega (arith, c .before .before .before .before .before .before .pre .1 .0 .room, c .before .before .before .before .before .before .pre .1 .1)
 
@@ -30,9 +27,6 @@ mul-wide-word-2 c = omega (arith, c .before .before .before .before .before .bef
 
 shared-slice-read-wide-word-2 : tie.Need-shared-slice-read-wide-word-2 Inv-loop μ-loop
 shared-slice-read-wide-word-2 c = omega (arith, c .before .before .before .before .before .before .before .pre .1 .0 .room, c .before .before .before .before .before .before .before .pre .1 .1)
-
-wide-word-requires-2 : tie.Need-wide-word-requires-2 Inv-loop μ-loop
-wide-word-requires-2 c κs = search needs
 
 loop-holds : tie.Need-loop-holds Inv-loop μ-loop
 loop-holds c = mark-start (c .before .before .before .before .before .before .before .before .pre .0) (c .before .before .before .before .before .before .before .before .pre .1 .0) (c .before .before .before .before .before .before .before .before .pre .1 .1) (c .before .before .wide-word .ensures) (c .wide-word2 .ensures)
@@ -49,23 +43,11 @@ mul-end-in c = omega (arith, mark-index (c .before .loop .inv) (c .loop-test .ta
 shared-slice-read-end-in : tie.Need-shared-slice-read-end-in Inv-loop μ-loop
 shared-slice-read-end-in c = mark-index (c .before .before .loop .inv) (c .before .loop-test .taken)
 
-end-in-requires : tie.Need-end-in-requires Inv-loop μ-loop
-end-in-requires c κs = search needs
-
 slice-read-marked : tie.Need-slice-read-marked Inv-loop μ-loop
 slice-read-marked c = mark-below (c .before .before .before .before .loop .inv) (c .before .before .before .loop-test .taken) (c .before .end-in .ensures)
 
-marked-requires : tie.Need-marked-requires Inv-loop μ-loop
-marked-requires c κs = search needs
-
 slice-write-values : tie.Need-slice-write-values Inv-loop μ-loop
 slice-write-values c = mark-below (c .before .before .before .before .before .loop .inv) (c .before .before .before .before .loop-test .taken) (c .before .before .end-in .ensures)
-
-add-p : tie.Need-add-p Inv-loop μ-loop
-add-p c = omega arith
-
-loop-less : tie.Need-loop-less Inv-loop μ-loop
-loop-less c = omega arith
 
 loop-again : tie.Need-loop-again Inv-loop μ-loop
 loop-again c = mark-turn (c .before .before .before .before .before .loop .inv) (c .before .before .before .before .loop-test .taken) (c .before .before .end-in .ensures) (c .marked .ensures)
@@ -84,22 +66,22 @@ mark-spec =
     μ-loop
     mul-wide-word
     shared-slice-read-wide-word
-    wide-word-requires
+    (λ c κs. search needs)
     add-wide-word
     mul-wide-word-2
     shared-slice-read-wide-word-2
-    wide-word-requires-2
+    (λ c κs. search needs)
     loop-holds
     add-end-in
     add-end-in-2
     mul-end-in
     shared-slice-read-end-in
-    end-in-requires
+    (λ c κs. search needs)
     slice-read-marked
-    marked-requires
+    (λ c κs. search needs)
     slice-write-values
-    add-p
-    loop-less
+    (λ c. omega arith)
+    (λ c. omega arith)
     loop-again
     same-length
     returns)

@@ -9,9 +9,6 @@ use Rattle.reason.proofs.marking.push.Tie as tie
 returns : tie.Need-returns
 returns c = push-none (c .if1 .taken)
 
-cast-list : tie.Need-cast-list
-cast-list c = search needs
-
 mul-list : tie.Need-mul-list
 mul-list c = omega (arith, c .before .pre .0 (eq-eqb _ _ (c .if1 .left)))
 
@@ -21,13 +18,10 @@ slice-write-list c = c .before .pre .0 (eq-eqb _ _ (c .if1 .left))
 add-result : tie.Need-add-result
 add-result c = omega (arith, c .before .pre .0 (eq-eqb _ _ (c .if1 .left)))
 
-same-length : tie.Need-same-length
-same-length c = search needs
-
 returns-2 : tie.Need-returns-2
 returns-2 c = push-one (c .if1 .left)
 
 pub push-spec : {M : Type 1} → statement M
 push-spec =
     tie.close
-    (tie.spec returns cast-list mul-list slice-write-list add-result same-length returns-2)
+    (tie.spec returns (λ c. search needs) mul-list slice-write-list add-result (λ c. search needs) returns-2)

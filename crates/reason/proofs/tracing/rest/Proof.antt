@@ -20,23 +20,8 @@ scan-requires c κs = placed-start (c .before .before .before .before .before .b
 serve-until-requires : tie.Need-serve-until-requires
 serve-until-requires c κs = (c .before .before .before .before .before .before .before .scan .ensures .kept .placed, c .before .before .before .before .before .before .before .before .before .before .before .before .before .before .before .before .before .before .before .before .before .before .before .before .before .before .before .pre .1 .1)
 
-add-base : tie.Need-add-base
-add-base c = search needs
-
-mul-base : tie.Need-mul-base
-mul-base c = search needs
-
-add-base-2 : tie.Need-add-base-2
-add-base-2 c = search needs
-
 take-back-requires : tie.Need-take-back-requires
 take-back-requires c κs = (c .before .before .before .before .before .before .before .before .serve-until .ensures .served, (omega (arith, c .before .before .before .before .before .before .before .before .serve-until .ensures .kept .placed .words-room, c .before .before .before .before .before .before .before .before .serve-until .ensures .kept .placed .queue-room), queue-below (c .before .before .before .before .before .before .before .before .serve-until .ensures .kept .placed) (sym (c .before .before .before .before .before .before .before .before .serve-until .ensures .kept .placed .values-long))))
-
-same-length : tie.Need-same-length
-same-length c = search needs
-
-same-length-2 : tie.Need-same-length-2
-same-length-2 c = search needs
 
 same-length-3 : tie.Need-same-length-3
 same-length-3 c = c .before .before .before .before .before .before .before .before .before .before .before .serve-until .ensures .kept .words-long ∙ c .before .before .before .before .before .before .before .before .before .before .before .before .before .before .before .before .before .before .before .scan .ensures .kept .words-long ∙ c .before .before .before .before .before .before .before .before .before .before .before .before .before .before .before .before .before .before .before .before .before .before .before .before .before .before .before .before .before .before .build .ensures .long
@@ -52,11 +37,11 @@ rest-spec =
     fill-requires
     scan-requires
     serve-until-requires
-    add-base
-    mul-base
-    add-base-2
+    (λ c. search needs)
+    (λ c. search needs)
+    (λ c. search needs)
     take-back-requires
-    same-length
-    same-length-2
+    (λ c. search needs)
+    (λ c. search needs)
     same-length-3
     returns)

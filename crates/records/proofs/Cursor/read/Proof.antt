@@ -7,18 +7,9 @@ use borrow.Author.Needs.{needs}
 use Rattle.records.proofs.Cursor.read.Statement.{statement}
 use Rattle.records.proofs.Cursor.read.Tie as tie
 
-left-requires : tie.Need-left-requires
-left-requires c κs = search needs
-
 returns : tie.Need-returns
 unfolding readAt
 returns c = cut 2 (now (c .before .before .before .args .bytes)) (c .before .before .before .args .self .at) _ (c .before .left .ensures) (c .if1 .taken)
-
-number-requires : tie.Need-number-requires
-number-requires c κs = search needs
-
-weight-record-requires : tie.Need-weight-record-requires
-weight-record-requires c κs = search needs
 
 returns-2 : tie.Need-returns-2
 returns-2 c =
@@ -27,9 +18,6 @@ returns-2 c =
     let entry = at-left .before .before in
     c .weight-record .ensures ∙ read-weight (now (entry .args .bytes)) (entry .args .self .at) (at-left .left .ensures) (at-if1 .if1 .left)
     (c .before .before .number .ensures) (c .before .if2 .taken)
-
-entry-record-requires : tie.Need-entry-record-requires
-entry-record-requires c κs = search needs
 
 returns-3 : tie.Need-returns-3
 returns-3 c =
@@ -40,9 +28,6 @@ returns-3 c =
     c .entry-record .ensures ∙ read-entry (now (entry .args .bytes)) (entry .args .self .at) (at-left .left .ensures) (at-if1 .if1 .left)
     (at-number .number .ensures) (c .before .before .if2 .left) (c .before .if3 .taken)
 
-given-record-requires : tie.Need-given-record-requires
-given-record-requires c κs = search needs
-
 returns-4 : tie.Need-returns-4
 returns-4 c =
     let at-if2 = c .before .before .before in
@@ -52,9 +37,6 @@ returns-4 c =
     let entry = at-left .before .before in
     c .given-record .ensures ∙ read-given (now (entry .args .bytes)) (entry .args .self .at) (at-left .left .ensures) (at-if1 .if1 .left)
     (at-number .number .ensures) (at-if2 .if2 .left) (c .before .before .if3 .left) (c .before .if4 .taken)
-
-add-t7 : tie.Need-add-t7
-add-t7 c = search needs
 
 returns-5 : tie.Need-returns-5
 returns-5 c =
@@ -80,15 +62,15 @@ pub read-spec : {M : Type 1} → statement M
 read-spec =
     tie.close
     (tie.spec
-    left-requires
+    (λ c κs. search needs)
     returns
-    number-requires
-    weight-record-requires
+    (λ c κs. search needs)
+    (λ c κs. search needs)
     returns-2
-    entry-record-requires
+    (λ c κs. search needs)
     returns-3
-    given-record-requires
+    (λ c κs. search needs)
     returns-4
-    add-t7
+    (λ c. search needs)
     returns-5
     returns-6)

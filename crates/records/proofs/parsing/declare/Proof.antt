@@ -7,24 +7,6 @@ use Rattle.records.proofs.parsing.declare.Tie as tie
 returns : tie.Need-returns
 returns c = let no = le-ltb _ _ (c .if1 .taken) in (simp no, (simp no, simp no))
 
-mul-c : tie.Need-mul-c
-mul-c c = search needs
-
-slice-write-c : tie.Need-slice-write-c
-slice-write-c c = search needs
-
-slice-write-start : tie.Need-slice-write-start
-slice-write-start c = search needs
-
-add-t9 : tie.Need-add-t9
-add-t9 c = search needs
-
-same-length : tie.Need-same-length
-same-length c = search needs
-
-same-length-2 : tie.Need-same-length-2
-same-length-2 c = search needs
-
 returns-2 : tie.Need-returns-2
 returns-2 c = let yes = lt-ltb _ _ (c .if1 .left) in (simp yes, (simp yes, simp yes))
 
@@ -33,10 +15,10 @@ declare-spec =
     tie.close
     (tie.spec
     returns
-    mul-c
-    slice-write-c
-    slice-write-start
-    add-t9
-    same-length
-    same-length-2
+    (λ c. search needs)
+    (λ c. search needs)
+    (λ c. search needs)
+    (λ c. search needs)
+    (λ c. search needs)
+    (λ c. search needs)
     returns-2)

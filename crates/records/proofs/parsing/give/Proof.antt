@@ -8,9 +8,6 @@ use Rattle.records.proofs.parsing.give.Tie as tie
 returns : tie.Need-returns
 returns c = let no = not-declared _ (c .before .args .value) _ (now (c .before .args .start)) (c .if1 .taken) in (simp no, simp no)
 
-slice-read-if2 : tie.Need-slice-read-if2
-slice-read-if2 c = search needs
-
 returns-2 : tie.Need-returns-2
 returns-2 c =
     let entry = c .before .before .before in
@@ -24,12 +21,6 @@ returns-3 c =
     let no = above-one _ _ _ (now (entry .args .start)) (at-if1 .if1 .left) (c .before .if2 .left) (c .if3 .taken) in
     (simp no, simp no)
 
-slice-write-start : tie.Need-slice-write-start
-slice-write-start c = search needs
-
-same-length : tie.Need-same-length
-same-length c = search needs
-
 returns-4 : tie.Need-returns-4
 returns-4 c =
     let at-if1 = c .before .before .before in
@@ -40,4 +31,4 @@ returns-4 c =
 pub give-spec : {M : Type 1} → statement M
 give-spec =
     tie.close
-    (tie.spec returns slice-read-if2 returns-2 returns-3 slice-write-start same-length returns-4)
+    (tie.spec returns (λ c. search needs) returns-2 returns-3 (λ c. search needs) (λ c. search needs) returns-4)

@@ -21,14 +21,8 @@ loop-holds c =
     let a = entry .args in
     reads-start _ (now (a .c)) (now (a .rows)) (now (a .cols)) (now (a .q)) (now (a .start)) (entry .pre)
 
-read-requires : tie.Need-read-requires Inv-loop μ-loop
-read-requires c κs = search needs
-
 note-requires : tie.Need-note-requires Inv-loop μ-loop
 note-requires c κs = (reads-room (c .before .before .before .before .before .before .loop .inv), reads-few (c .before .before .before .before .before .before .loop .inv))
-
-enum-known-turn : tie.Need-enum-known-turn Inv-loop μ-loop
-enum-known-turn c = search needs
 
 loop-less : tie.Need-loop-less Inv-loop μ-loop
 loop-less c =
@@ -43,9 +37,6 @@ loop-again c =
     let at-read = at-note .before .before .before .before .before .before in
     let at-loop = at-read .before in
     reads-turn (at-loop .loop .inv) (at-read .read .ensures) (at-note .note .ensures) (c .before .turn .given .1)
-
-enum-known-turn-2 : tie.Need-enum-known-turn-2 Inv-loop μ-loop
-enum-known-turn-2 c = search needs
 
 same-length : tie.Need-same-length Inv-loop μ-loop
 same-length c =
@@ -96,12 +87,12 @@ parse-spec =
     Inv-loop
     μ-loop
     loop-holds
-    read-requires
+    (λ c κs. search needs)
     note-requires
-    enum-known-turn
+    (λ c. search needs)
     loop-less
     loop-again
-    enum-known-turn-2
+    (λ c. search needs)
     same-length
     same-length-2
     same-length-3

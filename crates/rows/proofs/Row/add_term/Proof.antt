@@ -5,12 +5,6 @@ use borrow.Author.Needs.{needs}
 use Rattle.rows.proofs.Row.add_term.Statement.{statement}
 use Rattle.rows.proofs.Row.add_term.Tie as tie
 
-add-free-requires : tie.Need-add-free-requires
-add-free-requires c κs = search needs
-
-add-fixed-requires : tie.Need-add-fixed-requires
-add-fixed-requires c κs = search needs
-
 returns : tie.Need-returns
 unfolding addTerm
 returns c = simp (eq-eqb _ _ (c .before .if1 .taken)) (c .add-free .ensures)
@@ -20,4 +14,4 @@ unfolding addTerm
 returns-2 c = simp (ne-eqb _ _ (c .before .if1 .left)) (c .add-fixed .ensures)
 
 pub add-term-spec : {M : Type 1} → statement M
-add-term-spec = tie.close (tie.spec add-free-requires add-fixed-requires returns returns-2)
+add-term-spec = tie.close (tie.spec (λ c κs. search needs) (λ c κs. search needs) returns returns-2)

@@ -5,12 +5,6 @@ use borrow.Author.Needs.{needs}
 use Rattle.rows.proofs.Row.remove_term.Statement.{statement}
 use Rattle.rows.proofs.Row.remove_term.Tie as tie
 
-remove-free-requires : tie.Need-remove-free-requires
-remove-free-requires c κs = search needs
-
-remove-fixed-requires : tie.Need-remove-fixed-requires
-remove-fixed-requires c κs = search needs
-
 returns : tie.Need-returns
 unfolding removeTerm
 returns c = simp (eq-eqb _ _ (c .before .if1 .taken)) (c .remove-free .ensures)
@@ -20,4 +14,4 @@ unfolding removeTerm
 returns-2 c = simp (ne-eqb _ _ (c .before .if1 .left)) (c .remove-fixed .ensures)
 
 pub remove-term-spec : {M : Type 1} → statement M
-remove-term-spec = tie.close (tie.spec remove-free-requires remove-fixed-requires returns returns-2)
+remove-term-spec = tie.close (tie.spec (λ c κs. search needs) (λ c κs. search needs) returns returns-2)

@@ -5,22 +5,10 @@ use borrow.Author.Needs.{needs}
 use Rattle.rows.proofs.fill.add_at.Statement.{statement}
 use Rattle.rows.proofs.fill.add_at.Tie as tie
 
-row-at-requires : tie.Need-row-at-requires
-row-at-requires c κs = search needs
-
-add-term-requires : tie.Need-add-term-requires
-add-term-requires c κs = search needs
-
-put-row-requires : tie.Need-put-row-requires
-put-row-requires c κs = search needs
-
-same-length : tie.Need-same-length
-same-length c = search needs
-
 returns : tie.Need-returns
 unfolding addAt
 returns c = c .before .before .put-row .ensures ∙ rw (c .before .before .before .add-term .ensures, c .before .before .before .before .before .row-at .ensures)
 
 pub add-at-spec : {M : Type 1} → statement M
 add-at-spec =
-    tie.close (tie.spec row-at-requires add-term-requires put-row-requires same-length returns)
+    tie.close (tie.spec (λ c κs. search needs) (λ c κs. search needs) (λ c κs. search needs) (λ c. search needs) returns)

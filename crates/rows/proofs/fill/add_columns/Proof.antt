@@ -24,9 +24,6 @@ shared-slice-read-wide-short c =
     let start = c .before .before .before .before .before .before .before .before in
     omega (arith, start .pre .0 .shaped .cols-long, c .before .if1 .left)
 
-wide-short-requires : tie.Need-wide-short-requires Inv-loop μ-loop
-wide-short-requires c κs = search needs
-
 row-at-requires : tie.Need-row-at-requires Inv-loop μ-loop
 row-at-requires c κs =
     let ready = c .before .before .before .before .before .before .before .before .before .before .pre .0 in
@@ -41,22 +38,10 @@ loop-holds c =
 hold-entry-requires : tie.Need-hold-entry-requires Inv-loop μ-loop
 hold-entry-requires c κs = let inv = c .before .before .loop .inv in (hold-ready inv, (inv .here, c .before .loop-test .taken))
 
-mul-wide-short : tie.Need-mul-wide-short Inv-loop μ-loop
-mul-wide-short c = search needs
-
 shared-slice-read-wide-short-2 : tie.Need-shared-slice-read-wide-short-2 Inv-loop μ-loop
 shared-slice-read-wide-short-2 c =
     let at-test = c .before .before .before .before .before in
     omega (arith, at-test .before .loop .inv .passed .ready .shaped .cols-long, at-test .loop-test .taken)
-
-wide-short-requires-2 : tie.Need-wide-short-requires-2 Inv-loop μ-loop
-wide-short-requires-2 c κs = search needs
-
-add-k : tie.Need-add-k Inv-loop μ-loop
-add-k c = search needs
-
-loop-less : tie.Need-loop-less Inv-loop μ-loop
-loop-less c = search needs
 
 loop-again : tie.Need-loop-again Inv-loop μ-loop
 loop-again c =
@@ -82,15 +67,15 @@ add-columns-spec =
     μ-loop
     returns
     shared-slice-read-wide-short
-    wide-short-requires
+    (λ c κs. search needs)
     row-at-requires
     loop-holds
     hold-entry-requires
-    mul-wide-short
+    (λ c. search needs)
     shared-slice-read-wide-short-2
-    wide-short-requires-2
-    add-k
-    loop-less
+    (λ c κs. search needs)
+    (λ c. search needs)
+    (λ c. search needs)
     loop-again
     put-row-requires
     same-length

@@ -19,12 +19,6 @@ loop-holds c = let start = c .before .before .before .before .before .before in 
 add-entry-requires : tie.Need-add-entry-requires Inv-loop μ-loop
 add-entry-requires c κs = let inv = c .before .before .loop .inv in (ready-after (inv .ready) (inv .written), search needs)
 
-add-k : tie.Need-add-k Inv-loop μ-loop
-add-k c = search needs
-
-loop-less : tie.Need-loop-less Inv-loop μ-loop
-loop-less c = search needs
-
 loop-again : tie.Need-loop-again Inv-loop μ-loop
 loop-again c = pass-turn (c .before .before .before .before .before .loop .inv) (c .before .before .before .before .loop-test .taken) (c .before .before .add-entry .ensures)
 
@@ -42,8 +36,8 @@ add-entries-spec =
     μ-loop
     loop-holds
     add-entry-requires
-    add-k
-    loop-less
+    (λ c. search needs)
+    (λ c. search needs)
     loop-again
     same-length
     returns)

@@ -7,33 +7,6 @@ use borrow.Author.Needs.{needs}
 use Rattle.rows.proofs.fill.add_entry.Statement.{statement}
 use Rattle.rows.proofs.fill.add_entry.Tie as tie
 
-mul-half : tie.Need-mul-half
-mul-half c = search needs
-
-shared-slice-read-half : tie.Need-shared-slice-read-half
-shared-slice-read-half c = search needs
-
-half-requires : tie.Need-half-requires
-half-requires c κs = search needs
-
-mul-wide-short : tie.Need-mul-wide-short
-mul-wide-short c = search needs
-
-shared-slice-read-wide-short : tie.Need-shared-slice-read-wide-short
-shared-slice-read-wide-short c = search needs
-
-wide-short-requires : tie.Need-wide-short-requires
-wide-short-requires c κs = search needs
-
-mul-wide-short-2 : tie.Need-mul-wide-short-2
-mul-wide-short-2 c = search needs
-
-shared-slice-read-wide-short-2 : tie.Need-shared-slice-read-wide-short-2
-shared-slice-read-wide-short-2 c = search needs
-
-wide-short-requires-2 : tie.Need-wide-short-requires-2
-wide-short-requires-2 c κs = search needs
-
 shared-slice-read-add-at : tie.Need-shared-slice-read-add-at
 shared-slice-read-add-at c =
     let column = c .before .before in
@@ -63,9 +36,6 @@ add-at-requires-2 c κs =
     let start = row .before .before .before .before .before .before .before .before .before .before in
     omega (arith, ends-in (start .pre .0) _ (start .pre .1), row .wide-short .ensures, column .wide-short2 .ensures, added .add-at .kept)
 
-same-length : tie.Need-same-length
-same-length c = search needs
-
 returns : tie.Need-returns
 unfolding addEntry
 returns c =
@@ -79,18 +49,18 @@ pub add-entry-spec : {M : Type 1} → statement M
 add-entry-spec =
     tie.close
     (tie.spec
-    mul-half
-    shared-slice-read-half
-    half-requires
-    mul-wide-short
-    shared-slice-read-wide-short
-    wide-short-requires
-    mul-wide-short-2
-    shared-slice-read-wide-short-2
-    wide-short-requires-2
+    (λ c. search needs)
+    (λ c. search needs)
+    (λ c κs. search needs)
+    (λ c. search needs)
+    (λ c. search needs)
+    (λ c κs. search needs)
+    (λ c. search needs)
+    (λ c. search needs)
+    (λ c κs. search needs)
     shared-slice-read-add-at
     add-at-requires
     shared-slice-read-add-at-2
     add-at-requires-2
-    same-length
+    (λ c. search needs)
     returns)

@@ -7,36 +7,6 @@ use borrow.Author.Needs.{needs}
 use Rattle.rows.proofs.fill.hold_entry.Statement.{statement}
 use Rattle.rows.proofs.fill.hold_entry.Tie as tie
 
-mul-half : tie.Need-mul-half
-mul-half c = search needs
-
-shared-slice-read-half : tie.Need-shared-slice-read-half
-shared-slice-read-half c = search needs
-
-half-requires : tie.Need-half-requires
-half-requires c κs = search needs
-
-mul-wide-short : tie.Need-mul-wide-short
-mul-wide-short c = search needs
-
-shared-slice-read-wide-short : tie.Need-shared-slice-read-wide-short
-shared-slice-read-wide-short c = search needs
-
-wide-short-requires : tie.Need-wide-short-requires
-wide-short-requires c κs = search needs
-
-mul-wide-short-2 : tie.Need-mul-wide-short-2
-mul-wide-short-2 c = search needs
-
-shared-slice-read-wide-short-2 : tie.Need-shared-slice-read-wide-short-2
-shared-slice-read-wide-short-2 c = search needs
-
-wide-short-requires-2 : tie.Need-wide-short-requires-2
-wide-short-requires-2 c κs = search needs
-
-shared-slice-read-add-at : tie.Need-shared-slice-read-add-at
-shared-slice-read-add-at c = search needs
-
 add-at-requires : tie.Need-add-at-requires
 add-at-requires c κs =
     let at-column = c .before .before .before .before in
@@ -49,12 +19,6 @@ shared-slice-read-add-term c =
     let start = at-column .before .before .before .before .before .before .before .before .before .before .before .before in
     omega (arith, ends-in (start .pre .0) _ (start .pre .1 .1), at-column .before .before .wide-short .ensures, at-column .wide-short2 .ensures)
 
-add-term-requires : tie.Need-add-term-requires
-add-term-requires c κs = search needs
-
-same-length : tie.Need-same-length
-same-length c = search needs
-
 returns : tie.Need-returns
 returns c =
     let at-add = c .before .before .before .before in
@@ -66,9 +30,6 @@ returns c =
     (at-column .before .before .wide-short .ensures) (at-column .wide-short2 .ensures) (at-column .before .before .before .before .half .ensures)
     (start .pre .0) (start .pre .1 .1) (at-if2 .before .if1 .taken) (eqb-false _ _ (not-true _ (at-if2 .if2 .taken)))
     (at-add .add-at .ensures) (c .add-term .ensures)
-
-put-row-requires : tie.Need-put-row-requires
-put-row-requires c κs = search needs
 
 shared-slice-read-add-at-2 : tie.Need-shared-slice-read-add-at-2
 shared-slice-read-add-at-2 c =
@@ -98,12 +59,6 @@ shared-slice-read-add-term-2 c =
     let start = at-column .before .before .before .before .before .before .before .before .before .before .before .before in
     omega (arith, ends-in (start .pre .0) _ (start .pre .1 .1), at-column .before .before .wide-short .ensures, at-column .wide-short2 .ensures)
 
-add-term-requires-2 : tie.Need-add-term-requires-2
-add-term-requires-2 c κs = search needs
-
-same-length-2 : tie.Need-same-length-2
-same-length-2 c = search needs
-
 returns-2 : tie.Need-returns-2
 returns-2 c =
     let at-row = c .before .before in
@@ -119,26 +74,26 @@ pub hold-entry-spec : {M : Type 1} → statement M
 hold-entry-spec =
     tie.close
     (tie.spec
-    mul-half
-    shared-slice-read-half
-    half-requires
-    mul-wide-short
-    shared-slice-read-wide-short
-    wide-short-requires
-    mul-wide-short-2
-    shared-slice-read-wide-short-2
-    wide-short-requires-2
-    shared-slice-read-add-at
+    (λ c. search needs)
+    (λ c. search needs)
+    (λ c κs. search needs)
+    (λ c. search needs)
+    (λ c. search needs)
+    (λ c κs. search needs)
+    (λ c. search needs)
+    (λ c. search needs)
+    (λ c κs. search needs)
+    (λ c. search needs)
     add-at-requires
     shared-slice-read-add-term
-    add-term-requires
-    same-length
+    (λ c κs. search needs)
+    (λ c. search needs)
     returns
-    put-row-requires
+    (λ c κs. search needs)
     shared-slice-read-add-at-2
     add-at-requires-2
     row-at-requires
     shared-slice-read-add-term-2
-    add-term-requires-2
-    same-length-2
+    (λ c κs. search needs)
+    (λ c. search needs)
     returns-2)

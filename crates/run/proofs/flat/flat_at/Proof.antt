@@ -5,20 +5,8 @@ use borrow.Author.Needs.{needs}
 use Rattle.run.proofs.flat.flat_at.Statement.{statement}
 use Rattle.run.proofs.flat.flat_at.Tie as tie
 
-shared-slice-read-if1 : tie.Need-shared-slice-read-if1
-shared-slice-read-if1 c = search needs
-
 returns : tie.Need-returns
 returns c = simp (ne-eqb _ _ (c .if1 .taken))
-
-row-at-requires : tie.Need-row-at-requires
-row-at-requires c κs = search needs
-
-judge-requires : tie.Need-judge-requires
-judge-requires c κs = search needs
-
-is-flat-requires : tie.Need-is-flat-requires
-is-flat-requires c κs = search needs
 
 returns-2 : tie.Need-returns-2
 returns-2 c =
@@ -36,10 +24,10 @@ pub flat-at-spec : {M : Type 1} → statement M
 flat-at-spec =
     tie.close
     (tie.spec
-    shared-slice-read-if1
+    (λ c. search needs)
     returns
-    row-at-requires
-    judge-requires
-    is-flat-requires
+    (λ c κs. search needs)
+    (λ c κs. search needs)
+    (λ c κs. search needs)
     returns-2
     returns-3)

@@ -20,12 +20,6 @@ flat-at-requires c κs = (c .loop-test .taken, omega (arith, c .before .before .
 add-flat : tie.Need-add-flat Inv-loop μ-loop
 add-flat c = omega (arith, count-few (c .before .before .loop .inv) (c .flat-at .ensures))
 
-add-i : tie.Need-add-i Inv-loop μ-loop
-add-i c = omega arith
-
-loop-less : tie.Need-loop-less Inv-loop μ-loop
-loop-less c = omega arith
-
 loop-again : tie.Need-loop-again Inv-loop μ-loop
 loop-again c = count-turn (c .before .before .loop .inv) (c .flat-at .ensures) (c .before .loop-test .taken)
 
@@ -41,7 +35,7 @@ flat-rows-spec =
     loop-holds
     flat-at-requires
     add-flat
-    add-i
-    loop-less
+    (λ c. omega arith)
+    (λ c. omega arith)
     loop-again
     returns)

@@ -20,9 +20,6 @@ abbrev μ-loop : tie.MeasureT-loop
 loop-holds : tie.Need-loop-holds Inv-loop μ-loop
 loop-holds c = all-start _ _
 
-passes-at-requires : tie.Need-passes-at-requires Inv-loop μ-loop
-passes-at-requires c κs = search needs
-
 returns : tie.Need-returns Inv-loop μ-loop
 returns c = first-stop _ (c .before .before .before .loop .inv) (search needs) (sym (c .before .passes-at .ensures) ∙ not-true _ (c .if1 .taken))
 
@@ -39,7 +36,7 @@ first-spec =
     Inv-loop
     μ-loop
     loop-holds
-    passes-at-requires
+    (λ c κs. search needs)
     returns
     (λ c. search needs)
     (λ c. search needs)

@@ -21,12 +21,6 @@ loop-holds c = let start = c .before .before .before .before .before .before .be
 scan-at-requires : tie.Need-scan-at-requires Inv-loop μ-loop
 scan-at-requires c κs = (c .before .before .before .loop .inv .does .kept .placed, c .before .before .loop-test .taken)
 
-add-i : tie.Need-add-i Inv-loop μ-loop
-add-i c = omega arith
-
-loop-less : tie.Need-loop-less Inv-loop μ-loop
-loop-less c = omega arith
-
 loop-again : tie.Need-loop-again Inv-loop μ-loop
 loop-again c =
     scan-turn (c .before .before .before .before .before .before .before .before .loop .inv) (c .before .before .before .before .before .before .before .loop-test .taken)
@@ -52,8 +46,8 @@ scan-from-spec =
     μ-loop
     loop-holds
     scan-at-requires
-    add-i
-    loop-less
+    (λ c. omega arith)
+    (λ c. omega arith)
     loop-again
     same-length
     same-length-2

@@ -16,15 +16,6 @@ Inv-loop c rows cols q values₀ f₀ u₀ tail base last₀ head₀ values f u 
 abbrev μ-loop : tie.MeasureT-loop
 μ-loop c rows cols q values₀ f₀ u₀ tail base last₀ head₀ values f u last head = length c - head
 
-add-base : tie.Need-add-base Inv-loop μ-loop
-add-base c = search needs
-
-mul-base : tie.Need-mul-base Inv-loop μ-loop
-mul-base c = search needs
-
-add-base-2 : tie.Need-add-base-2 Inv-loop μ-loop
-add-base-2 c = search needs
-
 loop-holds : tie.Need-loop-holds Inv-loop μ-loop
 loop-holds c = work-start (c .before .before .before .before .before .before .before .pre)
 
@@ -36,9 +27,6 @@ mul-wide-word c = omega (arith, next-index (c .before .loop .inv) (c .loop-test 
 
 slice-read-wide-word : tie.Need-slice-read-wide-word Inv-loop μ-loop
 slice-read-wide-word c = next-index (c .before .before .loop .inv) (c .before .loop-test .taken)
-
-wide-word-requires : tie.Need-wide-word-requires Inv-loop μ-loop
-wide-word-requires c κs = search needs
 
 serve-requires : tie.Need-serve-requires Inv-loop μ-loop
 serve-requires c κs =
@@ -86,14 +74,14 @@ work-spec =
     (tie.spec
     Inv-loop
     μ-loop
-    add-base
-    mul-base
-    add-base-2
+    (λ c. search needs)
+    (λ c. search needs)
+    (λ c. search needs)
     loop-holds
     add-wide-word
     mul-wide-word
     slice-read-wide-word
-    wide-word-requires
+    (λ c κs. search needs)
     serve-requires
     add-head
     loop-less

@@ -4,18 +4,6 @@ use borrow.Author.Needs.{needs}
 use Rattle.run.proofs.steps.forced.Statement.{statement}
 use Rattle.run.proofs.steps.forced.Tie as tie
 
-enum-told : tie.Need-enum-told
-enum-told c = search needs
-
-enum-told-2 : tie.Need-enum-told-2
-enum-told-2 c = search needs
-
-enum-told-3 : tie.Need-enum-told-3
-enum-told-3 c = search needs
-
-enum-told-4 : tie.Need-enum-told-4
-enum-told-4 c = search needs
-
 returns : tie.Need-returns
 unfolding valueOf
 returns c = search needs
@@ -33,4 +21,4 @@ unfolding valueOf
 returns-4 c = search needs
 
 pub forced-spec : {M : Type 1} → statement M
-forced-spec = tie.close (tie.spec enum-told enum-told-2 enum-told-3 enum-told-4 returns returns-2 returns-3 returns-4)
+forced-spec = tie.close (tie.spec (λ c. search needs) (λ c. search needs) (λ c. search needs) (λ c. search needs) returns returns-2 returns-3 returns-4)

@@ -6,31 +6,10 @@ use borrow.Author.Needs.{needs}
 use Rattle.run.proofs.steps.scan_at.Statement.{statement}
 use Rattle.run.proofs.steps.scan_at.Tie as tie
 
-slice-read-if1 : tie.Need-slice-read-if1
-slice-read-if1 c = search needs
-
 returns : tie.Need-returns
 returns c =
     let start = c .before .before .before .before .before .before .before .before .before in
     scan-fixed (start .pre .0) (start .pre .1) (c .if1 .taken)
-
-add-base : tie.Need-add-base
-add-base c = search needs
-
-mul-base : tie.Need-mul-base
-mul-base c = search needs
-
-add-base-2 : tie.Need-add-base-2
-add-base-2 c = search needs
-
-row-at-requires : tie.Need-row-at-requires
-row-at-requires c κs = search needs
-
-cast-conclude : tie.Need-cast-conclude
-cast-conclude c = search needs
-
-conclude-requires : tie.Need-conclude-requires
-conclude-requires c κs = search needs
 
 enum-told : tie.Need-enum-told
 enum-told c = search needs
@@ -42,9 +21,6 @@ returns-2 c =
     let at-if1 = at-row-at .before in
     let start = at-if1 .before .before .before .before .before .before .before .before .before in
     scan-unforced (start .pre .0) (start .pre .1) (at-if1 .if1 .left) (at-row-at .row-at .ensures) (at-conclude .conclude .ensures) (ap isForced (c .enum-told .given .1))
-
-enum-told-2 : tie.Need-enum-told-2
-enum-told-2 c = search needs
 
 returns-3 : tie.Need-returns-3
 returns-3 c =
@@ -60,12 +36,6 @@ settle-requires c κs =
     let at-if1 = at-conclude .before .before in
     let start = at-if1 .before .before .before .before .before .before .before .before .before in
     settle-room (start .pre .0) (start .pre .1) (at-if1 .if1 .left) (at-conclude .conclude .ensures)
-
-same-length : tie.Need-same-length
-same-length c = search needs
-
-same-length-2 : tie.Need-same-length-2
-same-length-2 c = search needs
 
 returns-4 : tie.Need-returns-4
 returns-4 c =
@@ -83,19 +53,19 @@ pub scan-at-spec : {M : Type 1} → statement M
 scan-at-spec =
     tie.close
     (tie.spec
-    slice-read-if1
+    (λ c. search needs)
     returns
-    add-base
-    mul-base
-    add-base-2
-    row-at-requires
-    cast-conclude
-    conclude-requires
+    (λ c. search needs)
+    (λ c. search needs)
+    (λ c. search needs)
+    (λ c κs. search needs)
+    (λ c. search needs)
+    (λ c κs. search needs)
     enum-told
     returns-2
-    enum-told-2
+    (λ c. search needs)
     returns-3
     settle-requires
-    same-length
-    same-length-2
+    (λ c. search needs)
+    (λ c. search needs)
     returns-4)

@@ -18,24 +18,6 @@ returns c =
     let start = c .before .before .before .before .before .before .before .before .before in
     serve-fixed (start .pre .0) _ (start .pre .1 .0) (start .pre .1 .1) _ (c .if1 .taken)
 
-add-base : tie.Need-add-base
-add-base c = search needs
-
-mul-base : tie.Need-mul-base
-mul-base c = search needs
-
-add-base-2 : tie.Need-add-base-2
-add-base-2 c = search needs
-
-mul-weight : tie.Need-mul-weight
-mul-weight c = search needs
-
-shared-slice-read-weight : tie.Need-shared-slice-read-weight
-shared-slice-read-weight c = search needs
-
-half-requires : tie.Need-half-requires
-half-requires c κs = search needs
-
 move-row-requires : tie.Need-move-row-requires
 move-row-requires c κs =
     let start = c .before .before .before .before .before .before .before .before .before .before .before .before in
@@ -46,26 +28,14 @@ cast-conclude c =
     let start = c .before .before .before .before .before .before .before .before .before .before .before .before .before .before .before in
     omega (arith, other-end-below (start .pre .0 .shaped) _ (start .pre .1 .0) (start .pre .1 .1), start .pre .0 .shaped .few-variables)
 
-conclude-requires : tie.Need-conclude-requires
-conclude-requires c κs = search needs
-
 enum-told : tie.Need-enum-told
 enum-told c = search needs
-
-same-length : tie.Need-same-length
-same-length c = search needs
 
 returns-2 : tie.Need-returns-2
 returns-2 c =
     let start = c .before .before .before .before .before .before .before .before .before .before .before .before .before .before .before .before .before .before in
     serve-unforced (start .pre .0) _ (start .pre .1 .0) (start .pre .1 .1) _ (c .before .before .before .before .before .before .before .before .before .if1 .left) (c .before .before .before .before .before .before .before .half .ensures) (c .before .before .before .before .before .move-row .ensures .0)
     (c .before .before .before .before .before .move-row .ensures .1) (c .before .before .conclude .ensures) (ap isForced (c .enum-told .given .1))
-
-enum-told-2 : tie.Need-enum-told-2
-enum-told-2 c = search needs
-
-same-length-2 : tie.Need-same-length-2
-same-length-2 c = search needs
 
 returns-3 : tie.Need-returns-3
 returns-3 c =
@@ -77,15 +47,6 @@ settle-requires : tie.Need-settle-requires
 settle-requires c κs =
     let start = c .before .before .before .before .before .before .before .before .before .before .before .before .before .before .before .before .before .before .before .before in
     settle-room (start .pre .0) (other-end-below (start .pre .0 .shaped) _ (start .pre .1 .0) (start .pre .1 .1)) (c .before .before .before .before .before .before .before .before .before .before .before .if1 .left) (c .before .before .before .before .conclude .ensures)
-
-same-length-3 : tie.Need-same-length-3
-same-length-3 c = search needs
-
-same-length-4 : tie.Need-same-length-4
-same-length-4 c = search needs
-
-same-length-5 : tie.Need-same-length-5
-same-length-5 c = search needs
 
 returns-4 : tie.Need-returns-4
 returns-4 c =
@@ -100,23 +61,23 @@ serve-at-spec =
     (tie.spec
     slice-read-if1
     returns
-    add-base
-    mul-base
-    add-base-2
-    mul-weight
-    shared-slice-read-weight
-    half-requires
+    (λ c. search needs)
+    (λ c. search needs)
+    (λ c. search needs)
+    (λ c. search needs)
+    (λ c. search needs)
+    (λ c κs. search needs)
     move-row-requires
     cast-conclude
-    conclude-requires
+    (λ c κs. search needs)
     enum-told
-    same-length
+    (λ c. search needs)
     returns-2
-    enum-told-2
-    same-length-2
+    (λ c. search needs)
+    (λ c. search needs)
     returns-3
     settle-requires
-    same-length-3
-    same-length-4
-    same-length-5
+    (λ c. search needs)
+    (λ c. search needs)
+    (λ c. search needs)
     returns-4)

@@ -25,9 +25,6 @@ mul-entry-in c = omega (arith, c .before .before .before .before .before .pre .r
 shared-slice-read-entry-in : tie.Need-shared-slice-read-entry-in Inv-loop μ-loop
 shared-slice-read-entry-in c = omega (arith, c .before .before .before .before .before .before .pre .room, c .before .loop-test .taken)
 
-entry-in-requires : tie.Need-entry-in-requires Inv-loop μ-loop
-entry-in-requires c κs = search needs
-
 picks-requires : tie.Need-picks-requires Inv-loop μ-loop
 picks-requires c κs =
     let h = c .before .before .before .before .before .before .before .pre .entry _ (c .before .before .before .loop .inv .from) (c .before .before .loop-test .taken) in
@@ -51,9 +48,6 @@ shared-slice-read-wide-short c =
     let h = start .pre .entry _ (at-loop .loop .inv .from) (at-loop-test .loop-test .taken) in
     omega (arith, h, at-entry-in .entry-in .ensures, start .pre .same)
 
-wide-short-requires : tie.Need-wide-short-requires Inv-loop μ-loop
-wide-short-requires c κs = search needs
-
 returns : tie.Need-returns Inv-loop μ-loop
 returns c =
     let at-if1 = c .before .before in
@@ -65,12 +59,6 @@ returns c =
     let a = at-args .args in
     place-hit (a .near .now) (a .far .now) (a .u .now) (a .from) (a .i) (at-loop .loop .inv) (at-loop-test .loop-test .taken) _ (at-entry-in .entry-in .ensures) (at-picks .picks .ensures)
     (at-if1 .if1 .taken) (c .wide-short .ensures)
-
-add-p : tie.Need-add-p Inv-loop μ-loop
-add-p c = search needs
-
-loop-less : tie.Need-loop-less Inv-loop μ-loop
-loop-less c = search needs
 
 loop-again : tie.Need-loop-again Inv-loop μ-loop
 loop-again c =
@@ -96,13 +84,13 @@ next-place-spec =
     add-entry-in
     mul-entry-in
     shared-slice-read-entry-in
-    entry-in-requires
+    (λ c κs. search needs)
     picks-requires
     mul-wide-short
     shared-slice-read-wide-short
-    wide-short-requires
+    (λ c κs. search needs)
     returns
-    add-p
-    loop-less
+    (λ c. search needs)
+    (λ c. search needs)
     loop-again
     returns-2)

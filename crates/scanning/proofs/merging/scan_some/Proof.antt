@@ -15,42 +15,15 @@ Inv-loop c rows cols q values₀ f u₀ i many n list first last tail₀ b₀ h�
 abbrev μ-loop : tie.MeasureT-loop
 μ-loop c rows cols q values₀ f u₀ i many n list first last tail₀ b₀ h₀ x₀ y₀ values u tail b h x y = n - b
 
-add-list : tie.Need-add-list Inv-loop μ-loop
-add-list c = search needs
-
-mul-list : tie.Need-mul-list Inv-loop μ-loop
-mul-list c = search needs
-
-add-list-2 : tie.Need-add-list-2 Inv-loop μ-loop
-add-list-2 c = search needs
-
-add-list-3 : tie.Need-add-list-3 Inv-loop μ-loop
-add-list-3 c = search needs
-
-mul-wide-word : tie.Need-mul-wide-word Inv-loop μ-loop
-mul-wide-word c = search needs
-
 slice-read-wide-word : tie.Need-slice-read-wide-word Inv-loop μ-loop
 slice-read-wide-word c =
     let start = c .before .before .before .before .before .before .before .before in
     omega (arith, start .pre .placed .words-room, start .pre .here)
 
-wide-word-requires : tie.Need-wide-word-requires Inv-loop μ-loop
-wide-word-requires c κs = search needs
-
-add-wide-word : tie.Need-add-wide-word Inv-loop μ-loop
-add-wide-word c = search needs
-
-mul-wide-word-2 : tie.Need-mul-wide-word-2 Inv-loop μ-loop
-mul-wide-word-2 c = search needs
-
 slice-read-wide-word-2 : tie.Need-slice-read-wide-word-2 Inv-loop μ-loop
 slice-read-wide-word-2 c =
     let start = c .before .before .before .before .before .before .before .before .before .before in
     omega (arith, start .pre .placed .words-room, start .pre .here)
-
-wide-word-requires-2 : tie.Need-wide-word-requires-2 Inv-loop μ-loop
-wide-word-requires-2 c κs = search needs
 
 loop-holds : tie.Need-loop-holds Inv-loop μ-loop
 loop-holds c =
@@ -61,23 +34,11 @@ loop-holds c =
 next-candidate-requires : tie.Need-next-candidate-requires Inv-loop μ-loop
 next-candidate-requires c κs = list-reads (c .before .before .loop .inv)
 
-add-next-place : tie.Need-add-next-place Inv-loop μ-loop
-add-next-place c = search needs
-
 next-place-requires : tie.Need-next-place-requires Inv-loop μ-loop
 next-place-requires c κs = above-reads (c .before .before .before .before .loop .inv)
 
-add-next-place-2 : tie.Need-add-next-place-2 Inv-loop μ-loop
-add-next-place-2 c = search needs
-
 next-place-requires-2 : tie.Need-next-place-requires-2 Inv-loop μ-loop
 next-place-requires-2 c κs = beside-reads (c .before .before .before .before .before .before .loop .inv)
-
-lesser-requires : tie.Need-lesser-requires Inv-loop μ-loop
-lesser-requires c κs = search needs
-
-lesser-requires-2 : tie.Need-lesser-requires-2 Inv-loop μ-loop
-lesser-requires-2 c κs = search needs
 
 same-length : tie.Need-same-length Inv-loop μ-loop
 same-length c =
@@ -105,9 +66,6 @@ scan-at-requires c κs =
     let at-if1 = c .before .before in
     let at-loop = at-if1 .before .before .before .before .before .before .before .before .before .before in
     (at-loop .loop .inv .does .kept .placed, at-if1 .if1 .left)
-
-add-b : tie.Need-add-b Inv-loop μ-loop
-add-b c = search needs
 
 loop-less : tie.Need-loop-less Inv-loop μ-loop
 loop-less c =
@@ -157,30 +115,30 @@ scan-some-spec =
     (tie.spec
     Inv-loop
     μ-loop
-    add-list
-    mul-list
-    add-list-2
-    add-list-3
-    mul-wide-word
+    (λ c. search needs)
+    (λ c. search needs)
+    (λ c. search needs)
+    (λ c. search needs)
+    (λ c. search needs)
     slice-read-wide-word
-    wide-word-requires
-    add-wide-word
-    mul-wide-word-2
+    (λ c κs. search needs)
+    (λ c. search needs)
+    (λ c. search needs)
     slice-read-wide-word-2
-    wide-word-requires-2
+    (λ c κs. search needs)
     loop-holds
     next-candidate-requires
-    add-next-place
+    (λ c. search needs)
     next-place-requires
-    add-next-place-2
+    (λ c. search needs)
     next-place-requires-2
-    lesser-requires
-    lesser-requires-2
+    (λ c κs. search needs)
+    (λ c κs. search needs)
     same-length
     same-length-2
     returns
     scan-at-requires
-    add-b
+    (λ c. search needs)
     loop-less
     loop-again
     same-length-3

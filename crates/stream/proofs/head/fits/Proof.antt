@@ -8,14 +8,8 @@ use borrow.Author.Needs.{needs}
 use Rattle.stream.proofs.head.fits.Statement.{statement}
 use Rattle.stream.proofs.head.fits.Tie as tie
 
-lists-fit-requires : tie.Need-lists-fit-requires
-lists-fit-requires c κs = search needs
-
 returns : tie.Need-returns
 returns c = ((λ e. absurd (false≢true e)), λ f. absurd (false≢true (sym (not-true _ (c .if1 .taken)) ∙ c .before .lists-fit .ensures .1 (f .lists))))
-
-lent-fits-requires : tie.Need-lent-fits-requires
-lent-fits-requires c κs = search needs
 
 returns-2 : tie.Need-returns-2
 returns-2 c = ((λ e. absurd (false≢true e)), λ f. absurd (false≢true (sym (not-true _ (c .if2 .taken)) ∙ c .before .lent-fits .ensures .1 (f .lent))))
@@ -37,4 +31,4 @@ returns-3 c =
 pub fits-spec : {M : Type 1} → statement M
 fits-spec =
     tie.close
-    (tie.spec lists-fit-requires returns lent-fits-requires returns-2 contents-requires returns-3)
+    (tie.spec (λ c κs. search needs) returns (λ c κs. search needs) returns-2 contents-requires returns-3)

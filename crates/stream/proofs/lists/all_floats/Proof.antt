@@ -19,23 +19,8 @@ abbrev μ-loop : tie.MeasureT-loop
 loop-holds : tie.Need-loop-holds Inv-loop μ-loop
 loop-holds c = all-start _ _
 
-mul-equal : tie.Need-mul-equal Inv-loop μ-loop
-mul-equal c = search needs
-
-shared-slice-read-equal : tie.Need-shared-slice-read-equal Inv-loop μ-loop
-shared-slice-read-equal c = search needs
-
-equal-requires : tie.Need-equal-requires Inv-loop μ-loop
-equal-requires c κs = search needs
-
 returns : tie.Need-returns Inv-loop μ-loop
 returns c = all-stop _ _ (search needs) (sym (c .before .equal .ensures) ∙ not-true _ (c .if1 .taken))
-
-add-i : tie.Need-add-i Inv-loop μ-loop
-add-i c = search needs
-
-loop-less : tie.Need-loop-less Inv-loop μ-loop
-loop-less c = search needs
 
 loop-again : tie.Need-loop-again Inv-loop μ-loop
 loop-again c = all-turn _ (c .before .before .before .before .loop .inv) (search needs) (sym (c .before .equal .ensures) ∙ not-false _ (c .if1 .left))
@@ -50,11 +35,11 @@ all-floats-spec =
     Inv-loop
     μ-loop
     loop-holds
-    mul-equal
-    shared-slice-read-equal
-    equal-requires
+    (λ c. search needs)
+    (λ c. search needs)
+    (λ c κs. search needs)
     returns
-    add-i
-    loop-less
+    (λ c. search needs)
+    (λ c. search needs)
     loop-again
     returns-2)

@@ -16,23 +16,8 @@ abbrev μ-loop : tie.MeasureT-loop
 loop-holds : tie.Need-loop-holds Inv-loop μ-loop
 loop-holds c = clear-start _ _
 
-mul-shorts : tie.Need-mul-shorts Inv-loop μ-loop
-mul-shorts c = search needs
-
-slice-write-shorts : tie.Need-slice-write-shorts Inv-loop μ-loop
-slice-write-shorts c = search needs
-
-add-i : tie.Need-add-i Inv-loop μ-loop
-add-i c = search needs
-
-loop-less : tie.Need-loop-less Inv-loop μ-loop
-loop-less c = search needs
-
 loop-again : tie.Need-loop-again Inv-loop μ-loop
 loop-again c = clear-turn _ _ (c .before .loop .inv) (omega arith)
-
-same-length : tie.Need-same-length Inv-loop μ-loop
-same-length c = omega arith
 
 returns : tie.Need-returns Inv-loop μ-loop
 returns c = clear-done _ _ (c .before .loop .inv) (omega arith)
@@ -44,10 +29,10 @@ fill-shorts-spec =
     Inv-loop
     μ-loop
     loop-holds
-    mul-shorts
-    slice-write-shorts
-    add-i
-    loop-less
+    (λ c. search needs)
+    (λ c. search needs)
+    (λ c. search needs)
+    (λ c. search needs)
     loop-again
-    same-length
+    (λ c. omega arith)
     returns)

@@ -23,32 +23,8 @@ abbrev μ-loop : tie.MeasureT-loop
 loop-holds : tie.Need-loop-holds Inv-loop μ-loop
 loop-holds c = all-start _ _
 
-mul-same-weight : tie.Need-mul-same-weight Inv-loop μ-loop
-mul-same-weight c = search needs
-
-shared-slice-read-same-weight : tie.Need-shared-slice-read-same-weight Inv-loop μ-loop
-shared-slice-read-same-weight c = search needs
-
-mul-float : tie.Need-mul-float Inv-loop μ-loop
-mul-float c = omega arith
-
-add-float : tie.Need-add-float Inv-loop μ-loop
-add-float c = omega arith
-
-float-requires : tie.Need-float-requires Inv-loop μ-loop
-float-requires c κs = omega arith
-
-same-weight-requires : tie.Need-same-weight-requires Inv-loop μ-loop
-same-weight-requires c κs = search needs
-
 returns : tie.Need-returns Inv-loop μ-loop
 returns c = all-stop _ _ (search needs) (sym (c .before .same-weight .ensures ∙ ap (sameWeight _) (c .before .before .float .ensures)) ∙ not-true _ (c .if1 .taken))
-
-add-i : tie.Need-add-i Inv-loop μ-loop
-add-i c = search needs
-
-loop-less : tie.Need-loop-less Inv-loop μ-loop
-loop-less c = search needs
 
 loop-again : tie.Need-loop-again Inv-loop μ-loop
 loop-again c =
@@ -65,14 +41,14 @@ same-floats-spec =
     Inv-loop
     μ-loop
     loop-holds
-    mul-same-weight
-    shared-slice-read-same-weight
-    mul-float
-    add-float
-    float-requires
-    same-weight-requires
+    (λ c. search needs)
+    (λ c. search needs)
+    (λ c. omega arith)
+    (λ c. omega arith)
+    (λ c κs. omega arith)
+    (λ c κs. search needs)
     returns
-    add-i
-    loop-less
+    (λ c. search needs)
+    (λ c. search needs)
     loop-again
     returns-2)

@@ -21,29 +21,8 @@ abbrev μ-loop : tie.MeasureT-loop
 loop-holds : tie.Need-loop-holds Inv-loop μ-loop
 loop-holds c = all-start _ _
 
-mul-if1 : tie.Need-mul-if1 Inv-loop μ-loop
-mul-if1 c = search needs
-
-shared-slice-read-if1 : tie.Need-shared-slice-read-if1 Inv-loop μ-loop
-shared-slice-read-if1 c = search needs
-
-mul-short : tie.Need-mul-short Inv-loop μ-loop
-mul-short c = omega arith
-
-add-short : tie.Need-add-short Inv-loop μ-loop
-add-short c = omega arith
-
-short-requires : tie.Need-short-requires Inv-loop μ-loop
-short-requires c κs = omega arith
-
 returns : tie.Need-returns Inv-loop μ-loop
 returns c = all-stop _ _ (search needs) (ne-eqb _ _ (λ e. c .if1 .taken (e ∙ sym (c .before .short .ensures))))
-
-add-i : tie.Need-add-i Inv-loop μ-loop
-add-i c = search needs
-
-loop-less : tie.Need-loop-less Inv-loop μ-loop
-loop-less c = search needs
 
 loop-again : tie.Need-loop-again Inv-loop μ-loop
 loop-again c = all-turn _ (c .before .before .before .before .loop .inv) (search needs) (eq-eqb _ _ (c .if1 .left ∙ c .before .short .ensures))
@@ -58,13 +37,13 @@ same-shorts-spec =
     Inv-loop
     μ-loop
     loop-holds
-    mul-if1
-    shared-slice-read-if1
-    mul-short
-    add-short
-    short-requires
+    (λ c. search needs)
+    (λ c. search needs)
+    (λ c. omega arith)
+    (λ c. omega arith)
+    (λ c κs. omega arith)
     returns
-    add-i
-    loop-less
+    (λ c. search needs)
+    (λ c. search needs)
     loop-again
     returns-2)

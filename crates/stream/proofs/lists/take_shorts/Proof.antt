@@ -16,32 +16,8 @@ abbrev μ-loop : tie.MeasureT-loop
 loop-holds : tie.Need-loop-holds Inv-loop μ-loop
 loop-holds c = take-start _ _ _
 
-mul-short : tie.Need-mul-short Inv-loop μ-loop
-mul-short c = omega arith
-
-add-short : tie.Need-add-short Inv-loop μ-loop
-add-short c = omega arith
-
-short-requires : tie.Need-short-requires Inv-loop μ-loop
-short-requires c κs = omega arith
-
-mul-list : tie.Need-mul-list Inv-loop μ-loop
-mul-list c = search needs
-
-slice-write-list : tie.Need-slice-write-list Inv-loop μ-loop
-slice-write-list c = omega arith
-
-add-i : tie.Need-add-i Inv-loop μ-loop
-add-i c = omega arith
-
-loop-less : tie.Need-loop-less Inv-loop μ-loop
-loop-less c = omega arith
-
 loop-again : tie.Need-loop-again Inv-loop μ-loop
 loop-again c = take-turn _ _ _ (c .before .before .loop .inv) (omega arith) _ (c .short .ensures)
-
-same-length : tie.Need-same-length Inv-loop μ-loop
-same-length c = omega arith
 
 returns : tie.Need-returns Inv-loop μ-loop
 returns c = take-done _ _ _ (c .before .loop .inv) (omega arith)
@@ -53,13 +29,13 @@ take-shorts-spec =
     Inv-loop
     μ-loop
     loop-holds
-    mul-short
-    add-short
-    short-requires
-    mul-list
-    slice-write-list
-    add-i
-    loop-less
+    (λ c. omega arith)
+    (λ c. omega arith)
+    (λ c κs. omega arith)
+    (λ c. search needs)
+    (λ c. omega arith)
+    (λ c. omega arith)
+    (λ c. omega arith)
     loop-again
-    same-length
+    (λ c. omega arith)
     returns)

@@ -4,9 +4,6 @@ use borrow.Author.Needs.{needs}
 use Rattle.stream.proofs.output.digit.Statement.{statement}
 use Rattle.stream.proofs.output.digit.Tie as tie
 
-add-result : tie.Need-add-result
-add-result c = search needs
-
 returns : tie.Need-returns
 returns c = rw (lt-ltb (c .before .args .value) 10 (c .if1 .taken))
 
@@ -14,4 +11,4 @@ returns-2 : tie.Need-returns-2
 returns-2 c = rw (le-ltb (c .before .args .value) 10 (c .if1 .left))
 
 pub digit-spec : {M : Type 1} → statement M
-digit-spec = tie.close (tie.spec add-result returns returns-2)
+digit-spec = tie.close (tie.spec (λ c. search needs) returns returns-2)

@@ -6,18 +6,9 @@ use borrow.Author.Needs.{needs}
 use Rattle.stream.proofs.output.flush.Statement.{statement}
 use Rattle.stream.proofs.output.flush.Tie as tie
 
-least-requires : tie.Need-least-requires
-least-requires c κs = search needs
-
 slice-aggregate-write-all : tie.Need-slice-aggregate-write-all
 slice-aggregate-write-all c = sym (length-take-le (c .before .least .result) (c .before .before .before .args .out .now) (omega arith))
 
-write-all-requires : tie.Need-write-all-requires
-write-all-requires c κs = search needs
-
-returns : tie.Need-returns
-returns c = search needs
-
 pub flush-spec : {M : Type 1} → statement M
 flush-spec =
-    tie.close (tie.spec least-requires slice-aggregate-write-all write-all-requires returns)
+    tie.close (tie.spec (λ c κs. search needs) slice-aggregate-write-all (λ c κs. search needs) (λ c. search needs))

@@ -12,49 +12,19 @@ Inv-loop out₀ used list in-triples at₀ i₀ out at i = (i ≤ length list) �
 abbrev μ-loop : tie.MeasureT-loop
 μ-loop out₀ used list in-triples at₀ i₀ out at i = length list - i
 
-least-requires : tie.Need-least-requires Inv-loop μ-loop
-least-requires c κs = search needs
-
-loop-holds : tie.Need-loop-holds Inv-loop μ-loop
-loop-holds c = search needs
-
-mul-put-element : tie.Need-mul-put-element Inv-loop μ-loop
-mul-put-element c = search needs
-
-shared-slice-read-put-element : tie.Need-shared-slice-read-put-element Inv-loop μ-loop
-shared-slice-read-put-element c = search needs
-
-put-element-requires : tie.Need-put-element-requires Inv-loop μ-loop
-put-element-requires c κs = search needs
-
-add-i : tie.Need-add-i Inv-loop μ-loop
-add-i c = search needs
-
-loop-less : tie.Need-loop-less Inv-loop μ-loop
-loop-less c = search needs
-
-loop-again : tie.Need-loop-again Inv-loop μ-loop
-loop-again c = search needs
-
-same-length : tie.Need-same-length Inv-loop μ-loop
-same-length c = search needs
-
-returns : tie.Need-returns Inv-loop μ-loop
-returns c = search needs
-
 pub put-elements-spec : {M : Type 1} → statement M
 put-elements-spec =
     tie.close
     (tie.spec
     Inv-loop
     μ-loop
-    least-requires
-    loop-holds
-    mul-put-element
-    shared-slice-read-put-element
-    put-element-requires
-    add-i
-    loop-less
-    loop-again
-    same-length
-    returns)
+    (λ c κs. search needs)
+    (λ c. search needs)
+    (λ c. search needs)
+    (λ c. search needs)
+    (λ c κs. search needs)
+    (λ c. search needs)
+    (λ c. search needs)
+    (λ c. search needs)
+    (λ c. search needs)
+    (λ c. search needs))

@@ -15,30 +15,6 @@ abbrev μ-loop : tie.MeasureT-loop
 loop-holds : tie.Need-loop-holds Inv-loop μ-loop
 loop-holds c = shift-start nan _ _ (c .pre)
 
-add-f : tie.Need-add-f Inv-loop μ-loop
-add-f c = search needs
-
-mul-f : tie.Need-mul-f Inv-loop μ-loop
-mul-f c = search needs
-
-slice-read-f : tie.Need-slice-read-f Inv-loop μ-loop
-slice-read-f c = search needs
-
-add-f-2 : tie.Need-add-f-2 Inv-loop μ-loop
-add-f-2 c = search needs
-
-mul-f-2 : tie.Need-mul-f-2 Inv-loop μ-loop
-mul-f-2 c = search needs
-
-slice-write-f : tie.Need-slice-write-f Inv-loop μ-loop
-slice-write-f c = search needs
-
-add-t : tie.Need-add-t Inv-loop μ-loop
-add-t c = search needs
-
-loop-less : tie.Need-loop-less Inv-loop μ-loop
-loop-less c = search needs
-
 loop-again : tie.Need-loop-again Inv-loop μ-loop
 loop-again c = shift-turn nan _ _ (c .before .before .loop .inv) (c .before .loop-test .taken)
 
@@ -55,14 +31,14 @@ copy-floats-spec =
     Inv-loop
     μ-loop
     loop-holds
-    add-f
-    mul-f
-    slice-read-f
-    add-f-2
-    mul-f-2
-    slice-write-f
-    add-t
-    loop-less
+    (λ c. search needs)
+    (λ c. search needs)
+    (λ c. search needs)
+    (λ c. search needs)
+    (λ c. search needs)
+    (λ c. search needs)
+    (λ c. search needs)
+    (λ c. search needs)
     loop-again
     same-length
     returns)

@@ -14,30 +14,6 @@ abbrev μ-loop : tie.MeasureT-loop
 loop-holds : tie.Need-loop-holds Inv-loop μ-loop
 loop-holds c = shift-start 0 _ _ (c .pre)
 
-add-u : tie.Need-add-u Inv-loop μ-loop
-add-u c = search needs
-
-mul-u : tie.Need-mul-u Inv-loop μ-loop
-mul-u c = search needs
-
-slice-read-u : tie.Need-slice-read-u Inv-loop μ-loop
-slice-read-u c = search needs
-
-add-u-2 : tie.Need-add-u-2 Inv-loop μ-loop
-add-u-2 c = search needs
-
-mul-u-2 : tie.Need-mul-u-2 Inv-loop μ-loop
-mul-u-2 c = search needs
-
-slice-write-u : tie.Need-slice-write-u Inv-loop μ-loop
-slice-write-u c = search needs
-
-add-t : tie.Need-add-t Inv-loop μ-loop
-add-t c = search needs
-
-loop-less : tie.Need-loop-less Inv-loop μ-loop
-loop-less c = search needs
-
 loop-again : tie.Need-loop-again Inv-loop μ-loop
 loop-again c = shift-turn 0 _ _ (c .before .before .loop .inv) (c .before .loop-test .taken)
 
@@ -54,14 +30,14 @@ copy-words-spec =
     Inv-loop
     μ-loop
     loop-holds
-    add-u
-    mul-u
-    slice-read-u
-    add-u-2
-    mul-u-2
-    slice-write-u
-    add-t
-    loop-less
+    (λ c. search needs)
+    (λ c. search needs)
+    (λ c. search needs)
+    (λ c. search needs)
+    (λ c. search needs)
+    (λ c. search needs)
+    (λ c. search needs)
+    (λ c. search needs)
     loop-again
     same-length
     returns)

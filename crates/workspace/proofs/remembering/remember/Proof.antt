@@ -7,25 +7,10 @@ use borrow.Author.Needs.{needs}
 use Rattle.workspace.proofs.remembering.remember.Statement.{statement}
 use Rattle.workspace.proofs.remembering.remember.Tie as tie
 
-add-from : tie.Need-add-from
-add-from c = search needs
-
-mul-from : tie.Need-mul-from
-mul-from c = search needs
-
-add-from-2 : tie.Need-add-from-2
-add-from-2 c = search needs
-
 fill-requires : tie.Need-fill-requires
 fill-requires c κs =
     let at-start = c .before .before .before .before .before .before .before .before .before .before in
     let a = at-start .args in begin-rows (a .f .now) (a .u .now) (at-start .pre .0) (at-start .pre .1 .0)
-
-add-copy-floats : tie.Need-add-copy-floats
-add-copy-floats c = search needs
-
-add-copy-floats-2 : tie.Need-add-copy-floats-2
-add-copy-floats-2 c = search needs
 
 copy-floats-requires : tie.Need-copy-floats-requires
 copy-floats-requires c κs =
@@ -52,9 +37,6 @@ undo-requires c κs =
     let a = at-start .args in
     begin-undo (a .f .now) (a .u .now) (at-start .pre .0) (at-start .pre .1 .0) (at-start .pre .1 .1 .1) (at-fill .fill .ensures) (at-copy-floats .copy-floats .ensures) (at-scan .scan .ensures)
 
-add-copy-words : tie.Need-add-copy-words
-add-copy-words c = search needs
-
 copy-words-requires : tie.Need-copy-words-requires
 copy-words-requires c κs =
     let at-scan = c .before .before .before .before .before .before .before .before .before .before in
@@ -63,15 +45,6 @@ copy-words-requires c κs =
     let at-start = at-fill .before .before .before .before .before .before .before .before .before .before .before in
     let a = at-start .args in
     begin-list (a .f .now) (a .u .now) (at-start .pre .0) (at-start .pre .1 .0) (at-start .pre .1 .1 .1) (at-fill .fill .ensures) (at-copy-floats .copy-floats .ensures) (at-scan .scan .ensures)
-
-same-length : tie.Need-same-length
-same-length c = search needs
-
-same-length-2 : tie.Need-same-length-2
-same-length-2 c = search needs
-
-same-length-3 : tie.Need-same-length-3
-same-length-3 c = search needs
 
 returns : tie.Need-returns
 returns c =
@@ -91,18 +64,18 @@ pub remember-spec : {M : Type 1} → statement M
 remember-spec =
     tie.close
     (tie.spec
-    add-from
-    mul-from
-    add-from-2
+    (λ c. search needs)
+    (λ c. search needs)
+    (λ c. search needs)
     fill-requires
-    add-copy-floats
-    add-copy-floats-2
+    (λ c. search needs)
+    (λ c. search needs)
     copy-floats-requires
     scan-requires
     undo-requires
-    add-copy-words
+    (λ c. search needs)
     copy-words-requires
-    same-length
-    same-length-2
-    same-length-3
+    (λ c. search needs)
+    (λ c. search needs)
+    (λ c. search needs)
     returns)

@@ -13,28 +13,13 @@ Inv-loop rows cols f₀ u n x start end p₀ f p = Backing n rows cols u x end p
 abbrev μ-loop : tie.MeasureT-loop
 μ-loop rows cols f₀ u n x start end p₀ f p = end - p
 
-mul-wide-word : tie.Need-mul-wide-word Inv-loop μ-loop
-mul-wide-word c = search needs
-
 shared-slice-read-wide-word : tie.Need-shared-slice-read-wide-word Inv-loop μ-loop
 shared-slice-read-wide-word c = omega (arith, c .before .before .before .before .before .pre .0 .adjacent .room, c .before .before .before .before .before .pre .1)
-
-wide-word-requires : tie.Need-wide-word-requires Inv-loop μ-loop
-wide-word-requires c κs = search needs
-
-add-wide-word : tie.Need-add-wide-word Inv-loop μ-loop
-add-wide-word c = search needs
-
-mul-wide-word-2 : tie.Need-mul-wide-word-2 Inv-loop μ-loop
-mul-wide-word-2 c = search needs
 
 shared-slice-read-wide-word-2 : tie.Need-shared-slice-read-wide-word-2 Inv-loop μ-loop
 shared-slice-read-wide-word-2 c =
     let start = c .before .before .before .before .before .before .before in
     omega (arith, start .pre .0 .adjacent .room, start .pre .1)
-
-wide-word-requires-2 : tie.Need-wide-word-requires-2 Inv-loop μ-loop
-wide-word-requires-2 c κs = search needs
 
 loop-holds : tie.Need-loop-holds Inv-loop μ-loop
 loop-holds c =
@@ -54,14 +39,8 @@ mul-end-in c = omega (arith, walk-turn (c .before .loop .inv .along .walk) (c .l
 shared-slice-read-end-in : tie.Need-shared-slice-read-end-in Inv-loop μ-loop
 shared-slice-read-end-in c = walk-turn (c .before .before .loop .inv .along .walk) (c .before .loop-test .taken) .index
 
-end-in-requires : tie.Need-end-in-requires Inv-loop μ-loop
-end-in-requires c κs = search needs
-
 back-at-requires : tie.Need-back-at-requires Inv-loop μ-loop
 back-at-requires c κs = back-asks (c .before .before .before .before .loop .inv) (c .before .before .before .loop-test .taken) (c .before .end-in .ensures)
-
-add-p : tie.Need-add-p Inv-loop μ-loop
-add-p c = omega arith
 
 loop-less : tie.Need-loop-less Inv-loop μ-loop
 loop-less c = omega (arith, c .before .before .before .before .before .before .loop-test .taken)
@@ -81,21 +60,21 @@ back-spec =
     (tie.spec
     Inv-loop
     μ-loop
-    mul-wide-word
+    (λ c. search needs)
     shared-slice-read-wide-word
-    wide-word-requires
-    add-wide-word
-    mul-wide-word-2
+    (λ c κs. search needs)
+    (λ c. search needs)
+    (λ c. search needs)
     shared-slice-read-wide-word-2
-    wide-word-requires-2
+    (λ c κs. search needs)
     loop-holds
     add-end-in
     add-end-in-2
     mul-end-in
     shared-slice-read-end-in
-    end-in-requires
+    (λ c κs. search needs)
     back-at-requires
-    add-p
+    (λ c. omega arith)
     loop-less
     loop-again
     same-length

@@ -15,26 +15,8 @@ abbrev μ-loop : tie.MeasureT-loop
 loop-holds : tie.Need-loop-holds Inv-loop μ-loop
 loop-holds c = backs-start (c .before .before .before .before .before .before .before .pre)
 
-add-wide-word : tie.Need-add-wide-word Inv-loop μ-loop
-add-wide-word c = search needs
-
-mul-wide-word : tie.Need-mul-wide-word Inv-loop μ-loop
-mul-wide-word c = search needs
-
-shared-slice-read-wide-word : tie.Need-shared-slice-read-wide-word Inv-loop μ-loop
-shared-slice-read-wide-word c = search needs
-
-wide-word-requires : tie.Need-wide-word-requires Inv-loop μ-loop
-wide-word-requires c κs = search needs
-
 back-requires : tie.Need-back-requires Inv-loop μ-loop
 back-requires c κs = backs-asks (c .before .before .before .before .loop .inv) (c .before .before .before .loop-test .taken) (c .before .wide-word .ensures)
-
-add-h : tie.Need-add-h Inv-loop μ-loop
-add-h c = search needs
-
-loop-less : tie.Need-loop-less Inv-loop μ-loop
-loop-less c = search needs
 
 loop-again : tie.Need-loop-again Inv-loop μ-loop
 loop-again c =
@@ -57,13 +39,13 @@ back-list-spec =
     Inv-loop
     μ-loop
     loop-holds
-    add-wide-word
-    mul-wide-word
-    shared-slice-read-wide-word
-    wide-word-requires
+    (λ c. search needs)
+    (λ c. search needs)
+    (λ c. search needs)
+    (λ c κs. search needs)
     back-requires
-    add-h
-    loop-less
+    (λ c. search needs)
+    (λ c. search needs)
     loop-again
     same-length
     returns)

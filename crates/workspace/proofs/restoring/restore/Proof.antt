@@ -8,31 +8,10 @@ use borrow.Author.Needs.{needs}
 use Rattle.workspace.proofs.restoring.restore.Statement.{statement}
 use Rattle.workspace.proofs.restoring.restore.Tie as tie
 
-add-from : tie.Need-add-from
-add-from c = search needs
-
-mul-from : tie.Need-mul-from
-mul-from c = search needs
-
-add-from-2 : tie.Need-add-from-2
-add-from-2 c = search needs
-
-shared-slice-read-values : tie.Need-shared-slice-read-values
-shared-slice-read-values c = search needs
-
-slice-write-values : tie.Need-slice-write-values
-slice-write-values c = search needs
-
 undo-requires : tie.Need-undo-requires
 undo-requires c κs =
     let start = c .before .before .before .before .before .before .before .before .before .before in
     touched-values (start .pre)
-
-add-copy-floats : tie.Need-add-copy-floats
-add-copy-floats c = search needs
-
-add-copy-floats-2 : tie.Need-add-copy-floats-2
-add-copy-floats-2 c = search needs
 
 copy-floats-requires : tie.Need-copy-floats-requires
 copy-floats-requires c κs =
@@ -44,9 +23,6 @@ same-length c =
     let at-undo = c .before .before .before .before .before .before .before in
     let start = at-undo .before .before .before .before .before .before .before .before .before .before .before in
     ap length (at-undo .undo .ensures) ∙ start .pre .start-long ∙ sym (start .pre .placed .values-long)
-
-same-length-2 : tie.Need-same-length-2
-same-length-2 c = search needs
 
 returns : tie.Need-returns
 returns c =
@@ -72,9 +48,6 @@ same-length-3 c =
     let start = at-undo .before .before .before .before .before .before .before .before .before .before .before in
     ap length (at-undo .undo .ensures) ∙ start .pre .start-long ∙ sym (start .pre .placed .values-long)
 
-same-length-4 : tie.Need-same-length-4
-same-length-4 c = search needs
-
 returns-2 : tie.Need-returns-2
 returns-2 c =
     let at-back-list = c .before .before in
@@ -87,20 +60,20 @@ pub restore-spec : {M : Type 1} → statement M
 restore-spec =
     tie.close
     (tie.spec
-    add-from
-    mul-from
-    add-from-2
-    shared-slice-read-values
-    slice-write-values
+    (λ c. search needs)
+    (λ c. search needs)
+    (λ c. search needs)
+    (λ c. search needs)
+    (λ c. search needs)
     undo-requires
-    add-copy-floats
-    add-copy-floats-2
+    (λ c. search needs)
+    (λ c. search needs)
     copy-floats-requires
     same-length
-    same-length-2
+    (λ c. search needs)
     returns
     back-requires
     back-list-requires
     same-length-3
-    same-length-4
+    (λ c. search needs)
     returns-2)

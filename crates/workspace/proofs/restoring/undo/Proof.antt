@@ -14,35 +14,14 @@ abbrev μ-loop : tie.MeasureT-loop
 loop-holds : tie.Need-loop-holds Inv-loop μ-loop
 loop-holds c = undo-start (c .before .before .before .pre)
 
-add-wide-word : tie.Need-add-wide-word Inv-loop μ-loop
-add-wide-word c = search needs
-
-mul-wide-word : tie.Need-mul-wide-word Inv-loop μ-loop
-mul-wide-word c = search needs
-
-shared-slice-read-wide-word : tie.Need-shared-slice-read-wide-word Inv-loop μ-loop
-shared-slice-read-wide-word c = search needs
-
-wide-word-requires : tie.Need-wide-word-requires Inv-loop μ-loop
-wide-word-requires c κs = search needs
-
 shared-slice-read-values : tie.Need-shared-slice-read-values Inv-loop μ-loop
 shared-slice-read-values c = undo-below (c .before .before .before .before .loop .inv) (c .before .before .before .loop-test .taken) (c .before .wide-word .ensures) .0
 
 slice-write-values : tie.Need-slice-write-values Inv-loop μ-loop
 slice-write-values c = undo-below (c .before .before .before .before .loop .inv) (c .before .before .before .loop-test .taken) (c .before .wide-word .ensures) .1
 
-add-h : tie.Need-add-h Inv-loop μ-loop
-add-h c = search needs
-
-loop-less : tie.Need-loop-less Inv-loop μ-loop
-loop-less c = search needs
-
 loop-again : tie.Need-loop-again Inv-loop μ-loop
 loop-again c = undo-turn (c .before .before .before .before .loop .inv) (c .before .before .before .loop-test .taken) (c .before .wide-word .ensures)
-
-same-length : tie.Need-same-length Inv-loop μ-loop
-same-length c = search needs
 
 returns : tie.Need-returns Inv-loop μ-loop
 returns c = undo-done (c .before .loop .inv) (c .loop-test .left)
@@ -54,14 +33,14 @@ undo-spec =
     Inv-loop
     μ-loop
     loop-holds
-    add-wide-word
-    mul-wide-word
-    shared-slice-read-wide-word
-    wide-word-requires
+    (λ c. search needs)
+    (λ c. search needs)
+    (λ c. search needs)
+    (λ c κs. search needs)
     shared-slice-read-values
     slice-write-values
-    add-h
-    loop-less
+    (λ c. search needs)
+    (λ c. search needs)
     loop-again
-    same-length
+    (λ c. search needs)
     returns)

@@ -4,18 +4,6 @@ use borrow.Author.Needs.{needs}
 use Rattle.margins.proofs.bounds.Bounds.widened.Statement.{statement}
 use Rattle.margins.proofs.bounds.Bounds.widened.Tie as tie
 
-below-zero-requires : tie.Need-below-zero-requires
-below-zero-requires c κs = search needs
-
-above-zero-requires : tie.Need-above-zero-requires
-above-zero-requires c κs = search needs
-
-below-zero-requires-2 : tie.Need-below-zero-requires-2
-below-zero-requires-2 c κs = search needs
-
-above-zero-requires-2 : tie.Need-above-zero-requires-2
-above-zero-requires-2 c κs = search needs
-
 returns : tie.Need-returns
 returns c =
     let at-below-zero2 = c .before .before .before in
@@ -27,8 +15,8 @@ pub widened-spec : {M : Type 1} → statement M
 widened-spec =
     tie.close
     (tie.spec
-    below-zero-requires
-    above-zero-requires
-    below-zero-requires-2
-    above-zero-requires-2
+    (λ c κs. search needs)
+    (λ c κs. search needs)
+    (λ c κs. search needs)
+    (λ c κs. search needs)
     returns)
