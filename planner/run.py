@@ -1,4 +1,4 @@
-"""The closure's run in f64, step by step as document 01 has it: in which order values are forced, and what each bound counts as fixed.
+"""The closure's run in f64, step by step as the requirements have it: in which order values are forced, and what each bound counts as fixed.
 
 The calls say neither for an inexact field; what is worked out here is held to the values that the closure's call leaves.
 """

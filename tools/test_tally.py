@@ -62,7 +62,7 @@ def answer_parts(parts):
     return got
 
 
-# ---- the tally, from document 02's words
+# ---- the tally, from the requests' words
 
 def fields_of(data):
     """The fields of an input, each with its number of variables and of given ones, and whether a malformed record ends it."""

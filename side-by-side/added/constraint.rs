@@ -1,5 +1,5 @@
 
-// What document 01 adds: the two functions that the text calls and does not hold, and a way to read a constraint.
+// What the requirements add: the two functions that the text calls and does not hold, and a way to read a constraint.
 impl Constraint {
     /// Ends keep the order in which they are passed.
     pub const fn new(x_i: usize, x_j: usize, constr_type: ConstraintType) -> Self {

@@ -1,4 +1,4 @@
-//! Whether constraints allow any assignment, from document 02's words, which the text has no function for: each question is answered in two ways or three, and they must agree.
+//! Whether constraints allow any assignment, from the requests' words, which the text has no function for: each question is answered in two ways or three, and they must agree.
 
 use crate::propagation;
 use hercules::FixedVarMap;

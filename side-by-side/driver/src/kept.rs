@@ -1,4 +1,4 @@
-//! Document 02's C-19 once more, from its words: the record is made anew after each operation.
+//! The requests' C-19 once more, from its words: the record is made anew after each operation.
 
 use stream::line::Kept;
 use stream::{table, Case};

@@ -24,7 +24,7 @@ fn main() -> io::Result<()> {
     output.flush()
 }
 
-/// The refusals are worked out here from document 01's table, the flat rows by the run once more, and reasons, records, mended lists and what constraints allow from document 02's words; all else is the text's.
+/// The refusals are worked out here from the requirements' table, the flat rows by the run once more, and reasons, records, mended lists and what constraints allow from the requests' words; all else is the text's.
 fn answer(case: &Case) -> Answer {
     if let Some(refusal) = table::refusal(case) {
         return Answer::Refused(refusal);

@@ -1,4 +1,4 @@
-//! A mended entry list, worked out from document 02's words under C-18; the text has no such function.
+//! A mended entry list, worked out from the requests' words under C-18; the text has no such function.
 
 use std::collections::BTreeMap;
 use stream::Case;

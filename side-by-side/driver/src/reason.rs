@@ -1,4 +1,4 @@
-//! Why a value is forced, worked out from document 02's words over whole numbers; the text has no such function.
+//! Why a value is forced, worked out from the requests' words over whole numbers; the text has no such function.
 
 use std::collections::{BTreeSet, VecDeque};
 use stream::line::{Ground, Reason};

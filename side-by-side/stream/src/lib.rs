@@ -1,4 +1,4 @@
-//! The case stream of docs/CASES.md, the refusals of document 01's table, and the words of an answer line.
+//! The case stream of docs/CASES.md, the refusals of the requirements' table, and the words of an answer line.
 
 use std::collections::BTreeMap;
 

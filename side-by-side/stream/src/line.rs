@@ -8,7 +8,7 @@ use std::fmt::Display;
 pub enum Answer {
     /// The refusals that change nothing lent.
     Refused(Refusal),
-    /// Document 02's 12 and 13, which leave the answer list.
+    /// The requests' 12 and 13, which leave the answer list.
     NoReason(u8),
     /// An answer list does not fit.
     NoRoom,

@@ -1,4 +1,4 @@
-//! Document 01's table of answers and its grade, worked out from the case alone.
+//! The requirements' table of answers and its grade, worked out from the case alone.
 
 use crate::{Call, Case};
 use std::cmp::Ordering;
@@ -20,7 +20,7 @@ pub struct Refusal {
 /// Says whether a test fails on the case.
 type Fails = fn(&Case) -> bool;
 
-/// The first test that fails, in the table's order: 1, 2, 14 to 17 as one, 4, 5, document 02's 18, and 6 to 8.
+/// The first test that fails, in the table's order: 1, 2, 14 to 17 as one, 4, 5, the requests' 18, and 6 to 8.
 pub fn refusal(case: &Case) -> Option<Refusal> {
     let call = case.call;
     let before: [(u8, bool, Fails); 2] = [
@@ -67,7 +67,7 @@ fn lists_broken(case: &Case) -> bool {
     m != case.columns.len() || m != case.weights.len() || m > MOST_ENTRIES
 }
 
-/// Document 02, C-12: what is wrong with the first entry at fault, the row before the column and both before order.
+/// The requests, C-12: what is wrong with the first entry at fault, the row before the column and both before order.
 fn fault(case: &Case) -> Option<Refusal> {
     let n = case.n();
     let places: Vec<_> = case.entries().map(|(i, j, _)| (j, i)).collect();
@@ -102,7 +102,7 @@ fn not_finite(case: &Case) -> bool {
         .all(|x| x.is_finite())
 }
 
-/// Document 02, C-18: the weights at a place of the field, added in the order of the list, have a sum that is not finite.
+/// The requests, C-18: the weights at a place of the field, added in the order of the list, have a sum that is not finite.
 fn sum_not_finite(case: &Case) -> bool {
     let mut sums = BTreeMap::new();
     for (i, j, q) in case.entries().filter(|&(i, j, _)| i.max(j) < case.n()) {

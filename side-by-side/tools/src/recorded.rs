@@ -1,4 +1,4 @@
-//! The recorded set: document 01's worked values, every refusal alone and in pairs, sizes at the limits, small random cases, and lists with one or more entries at fault.
+//! The recorded set: the requirements' worked values, every refusal alone and in pairs, sizes at the limits, small random cases, and lists with one or more entries at fault.
 
 use crate::breaks;
 use crate::make;
@@ -15,7 +15,7 @@ pub type Worked = (
     &'static [u8],
 );
 
-/// Document 01's values a to n, its two run and compared, and document 02's examples under C-14 and C-17.
+/// The requirements' values a to n, its two run and compared, and the requests' examples under C-14 and C-17.
 pub const WORKED: [Worked; 18] = [
     ("a", &[], &[], &[]),
     ("b", &[0.0], &[], &[2]),
@@ -42,7 +42,7 @@ pub const WORKED: [Worked; 18] = [
     ("both", &[-1.0, 2.0], &[(1, 0, 4.0), (0, 1, -4.0)], &[2, 2]),
 ];
 
-/// Document 02's rows under C-13: flat by a stored zero, after a neighbour was forced, of a given variable, and in the run's rows alone.
+/// The requests' rows under C-13: flat by a stored zero, after a neighbour was forced, of a given variable, and in the run's rows alone.
 pub const FLAT: [Worked; 4] = [
     ("stored zero", &[0.0, 0.0], &[(0, 1, 0.0)], &[2, 2]),
     ("neighbour", &[-5.0, -1.0], &[(0, 1, 2.0)], &[2, 2]),
@@ -55,7 +55,7 @@ pub const FLAT: [Worked; 4] = [
     ),
 ];
 
-/// Document 02's reasons under C-11: both entries counted, a neighbour that waits left out, a stored zero listed, and a coarse unit.
+/// The requests' reasons under C-11: both entries counted, a neighbour that waits left out, a stored zero listed, and a coarse unit.
 pub const REASONS: [Worked; 4] = [
     (
         "both ways",
@@ -73,7 +73,7 @@ pub const REASONS: [Worked; 4] = [
     ("coarse", &[-1_099_511_627_776.0], &[], &[2]),
 ];
 
-/// Values of the smaller problem, document 02's C-21: one entry of each kind, diagonals, all given, and weights that leave -0.0 or the exact ones.
+/// Values of the smaller problem, the requests' C-21: one entry of each kind, diagonals, all given, and weights that leave -0.0 or the exact ones.
 pub const SMALLER: [Worked; 7] = [
     ("g, given", &[-5.0, -1.0], &[(0, 1, 4.0)], &[1, 2]),
     (
@@ -108,7 +108,7 @@ pub fn worked_case(call: Call, worked: &Worked) -> Case {
         case.columns = worked.2.iter().map(|e| e.1).collect();
         case.weights = worked.2.iter().map(|e| e.2).collect();
     }
-    // Document 01 orders entries by column, so a list given by rows is put in order.
+    // The requirements order entries by column, so a list given by rows is put in order.
     let mut entries: Vec<_> = case
         .entries()
         .map(|(i, j, q)| (j as u16, i as u16, q))
@@ -124,7 +124,7 @@ pub fn worked_case(call: Call, worked: &Worked) -> Case {
     case
 }
 
-/// What constraints allow, document 02's C-20: a name, the number of variables and the records.
+/// What constraints allow, the requests' C-20: a name, the number of variables and the records.
 pub const ALLOWED: [(&str, u64, &[u16]); 9] = [
     ("both kinds", 2, &[0, 1, 6, 0, 1, 9]),
     ("all four", 2, &[0, 1, 15]),
@@ -235,7 +235,7 @@ const SHARP_LIMITED: [u64; 8] = [3, 4, 7, 42, 90, 12208, 14388, 25893];
 /// The least number of recorded cases, however few the calls.
 const LEAST: usize = 2_100;
 
-/// Every recorded case of the given calls, in the order of the codes; what came with document 02 stands last, so that the others keep their places.
+/// Every recorded case of the given calls, in the order of the codes; what came with the requests stands last, so that the others keep their places.
 pub fn recorded(calls: &[Call]) -> Vec<Case> {
     let mut cases = Vec::new();
     let last = [Call::SubProblem, Call::Keep, Call::Mend, Call::Allow, Call::ColdFull, Call::ColdLimited];
@@ -277,7 +277,7 @@ pub fn recorded(calls: &[Call]) -> Vec<Case> {
     cases
 }
 
-/// Records, document 02's C-19: the worked one before and after each operation, an operation refused, no -0.0, and both entries of a pair.
+/// Records, the requests' C-19: the worked one before and after each operation, an operation refused, no -0.0, and both entries of a pair.
 pub const KEPT: [(&str, &[f64], &[(u16, u16, f64)], &[u8], &[u16]); 9] = [
     ("made", &ROWS, &PAIRED, &[2, 2, 2], &[]),
     ("pinned", &ROWS, &PAIRED, &[2, 2, 2], &[0, 1, 0]),
@@ -350,7 +350,7 @@ pub type Listed = (&'static str, usize, &'static [(u16, u16, f64)]);
 /// 2^53.
 const TWO_53: f64 = 9_007_199_254_740_992.0;
 
-/// Document 02's C-18: out of order, a repeat, an entry outside, all of them with a sum that rounds at each step, a sum that is
+/// The requests' C-18: out of order, a repeat, an entry outside, all of them with a sum that rounds at each step, a sum that is
 /// not finite, one only outside, and lists that are good, on the diagonal, empty or without variables.
 pub const LISTED: [Listed; 11] = [
     ("out of order", 2, &[(0, 1, 1.0), (1, 0, 2.0)]),
@@ -416,7 +416,7 @@ fn allowing(cases: &mut Vec<Case>) {
     small(call, 250, cases);
 }
 
-/// Document 02's C-14: a rounding that stays on both routes, since the term of a variable that the probe forces is taken out of a row.
+/// The requests' C-14: a rounding that stays on both routes, since the term of a variable that the probe forces is taken out of a row.
 pub const STAYS: Worked = (
     "stays",
     &[1.0, TWO_61, 0.0],

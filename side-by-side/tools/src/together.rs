@@ -1,4 +1,4 @@
-//! All anchors at once (document 02, C-23): the cases of one field, and every choice at its anchors held to what the other calls find from the same start values.
+//! All anchors at once (the requests, C-23): the cases of one field, and every choice at its anchors held to what the other calls find from the same start values.
 
 use crate::fields::{self, Field, EXACT};
 use crate::make;

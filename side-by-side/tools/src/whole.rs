@@ -1,4 +1,4 @@
-//! Document 01's whole-number definitions, counted in the smallest unit that serves, for exact fields.
+//! The requirements' whole-number definitions, counted in the smallest unit that serves, for exact fields.
 
 use stream::{table, Case};
 

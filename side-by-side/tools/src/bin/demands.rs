@@ -1,4 +1,4 @@
-//! Checks answers on exact fields against document 01's whole-number definitions and, up to 12 variables, against all completions.
+//! Checks answers on exact fields against the requirements' whole-number definitions and, up to 12 variables, against all completions.
 //! Usage: `demands CASES ANSWERS`. It prints how many cases of each call were checked and fails at the first that breaks a demand.
 
 use std::collections::BTreeMap;

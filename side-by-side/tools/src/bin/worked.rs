@@ -1,4 +1,4 @@
-//! Document 01's values worked by hand, its two that were run, and document 02's examples under C-11, C-13, C-14, C-17, C-18, C-19, C-20 and C-21.
+//! The requirements' values worked by hand, its two that were run, and the requests' examples under C-11, C-13, C-14, C-17, C-18, C-19, C-20 and C-21.
 //! Usage: `worked` writes them as a stream of cases, `worked ANSWERS` checks the answers to it.
 
 use std::io::{self, BufWriter, Write};
