@@ -1,8 +1,9 @@
 // The public call: whether constraints allow any assignment, the least one, and how many literals each literal reaches.
+#![tactic(auto)]
+
 mod reading;
 
 ghost use Rattle.std.specs.Prelude.{◌≡◌, ◌*◌, ◌≤◌, length, replicate};
-ghost use Rattle.scratch.specs.Lent.{before, after};
 ghost use Rattle.scratch.specs.Over.{over};
 ghost use Rattle.field.specs.Table.{tested};
 ghost use Rattle.literals.specs.Listed.{Listed};
@@ -14,7 +15,7 @@ ghost use Rattle.allow.specs.Call.{left, fits as fits_in, allow_tests, allow_cal
 use field::{Checked, Refusal};
 
 // An assignment meets every record; none does, by this variable; or the refusal.
-#[derive(Drop)]
+#[derive(Clone, Copy)]
 pub enum Allowed {
     Yes,
     No(usize),
@@ -23,7 +24,7 @@ pub enum Allowed {
 
 // 1, 7 and 8
 fn tests(n: usize, list: &[u16], longs: usize, words: usize) -> Checked
-    ensures { result ≡ tested (allow_tests n (before list) longs words) }
+    ensures { result ≡ tested (allow_tests n list.now longs words) }
 {
     if n > 1024 {
         return Checked::Failed(Refusal::Variables);
@@ -54,7 +55,7 @@ fn fits(n: usize, places: usize, numbers: usize) -> bool
 // Writes 2 for each of n variables.
 fn twos(assignment: &mut [u8], n: usize)
     requires { n ≤ length assignment.old }
-    ensures { after assignment ≡ over (replicate n 2) (before assignment) }
+    ensures { assignment.new ≡ over (replicate n 2) assignment.old }
 {
     for i in 0..n {
         assignment[i] = 2;
@@ -73,7 +74,7 @@ fn decide(
     requires wide { Wide n w.old }
     requires n_in_bounds { n ≤ length assignment.old }
     requires n_in_bounds_2 { 2 * n ≤ length counts.old }
-    ensures { Answered (rules (before list)) n (before assignment) (before counts) result (after assignment) (after counts) }
+    ensures { Answered (rules list.now) n assignment.old counts.old result assignment.new counts.new }
 {
     arrows::fill(list, n, w);
     reading::count_all(w, 2 * n, counts);
@@ -95,7 +96,7 @@ pub fn allow(
     w: &mut [u64],
     u: &mut [u32],
 ) -> Allowed
-    ensures { left result (after assignment) (after counts) (after w) (after u) ≡ allow_call variables (before constraints) (before assignment) (before counts) (before w) (before u) }
+    ensures { left result assignment.new counts.new w.new u.new ≡ allow_call variables constraints.now assignment.old counts.old w.old u.old }
 {
     let checked = tests(variables, constraints, w.len(), u.len());
     if let Checked::Failed(refusal) = checked {

@@ -1,6 +1,5 @@
 // What is read off the rows of what each literal reaches.
 ghost use Rattle.std.specs.Prelude.{◌≡◌, ◌+◌, ◌*◌, ◌<◌, ◌≤◌, length};
-ghost use Rattle.scratch.specs.Lent.{before, after};
 ghost use Rattle.scratch.specs.Over.{over};
 ghost use Rattle.reaching.specs.Via.{bit, picked, contradicts as contradicts_by, first_contradictory as first_contradictory_of};
 ghost use Rattle.bit_rows.specs.Rows.{bit_in};
@@ -12,7 +11,7 @@ ghost use Rattle.allow.specs.Choice.{Blank, wants};
 fn contradicts(w: &[u64], i: usize) -> bool
     requires i_bound { i < 1024 }
     requires i_in_bounds { i * 64 + 64 ≤ length w.now }
-    ensures { result ≡ contradicts_by (bit_in (before w)) i }
+    ensures { result ≡ contradicts_by (bit_in w.now) i }
 {
     if bit_rows::has(w, 2 * i + 0, 2 * i + 1) {
         return bit_rows::has(w, 2 * i + 1, 2 * i + 0);
@@ -23,7 +22,7 @@ fn contradicts(w: &[u64], i: usize) -> bool
 // The lowest variable each of whose literals leads to the other, or n.
 pub fn first_contradictory(w: &[u64], n: usize) -> usize
     requires { Wide n w.now }
-    ensures { result ≡ first_contradictory_of (bit_in (before w)) n }
+    ensures { result ≡ first_contradictory_of (bit_in w.now) n }
 {
     for i in 0..n {
         if contradicts(w, i) {
@@ -37,7 +36,7 @@ pub fn first_contradictory(w: &[u64], n: usize) -> usize
 fn choice(w: &[u64], n: usize, i: usize) -> usize
     requires wide { Wide n w.now }
     requires i_lt_n { i < n }
-    ensures { result ≡ bit (wants (before w) n i) }
+    ensures { result ≡ bit (wants w.now n i) }
 {
     if bit_rows::has(w, 2 * i + 0, 2 * i + 1) {
         return 1;
@@ -53,7 +52,7 @@ pub fn choose(w: &mut [u64], n: usize, assignment: &mut [u8])
     requires wide { Wide n w.old }
     requires blank { Blank n w.old }
     requires n_in_bounds { n ≤ length assignment.old }
-    ensures { after assignment ≡ over (picked (bit_in (before w)) n) (before assignment) }
+    ensures { assignment.new ≡ over (picked (bit_in w.old) n) assignment.old }
 {
     for i in 0..n {
         let v = choice(w, n, i);
@@ -67,7 +66,7 @@ pub fn count_all(w: &[u64], m: usize, counts: &mut [u16])
     requires m_bound { m ≤ 2048 }
     requires m_in_bounds { m * 32 ≤ length w.now }
     requires m_in_bounds_2 { m ≤ length counts.old }
-    ensures { after counts ≡ over (counts_to (bit_in (before w)) 2048 m) (before counts) }
+    ensures { counts.new ≡ over (counts_to (bit_in w.now) 2048 m) counts.old }
 {
     for a in 0..m {
         counts[a] = bit_rows::ones(w, a) as u16;

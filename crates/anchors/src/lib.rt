@@ -1,10 +1,11 @@
 // The public call: one variable of each component whose objective is the same for opposite values.
+#![tactic(auto)]
+
 mod members;
 mod search;
 mod sums;
 
 ghost use Rattle.std.specs.Prelude.{◌≡◌, length};
-ghost use Rattle.scratch.specs.Lent.{before, after};
 ghost use Rattle.field.specs.Field.{given, lent};
 ghost use Rattle.field.specs.Tests.{Admitted};
 ghost use Rattle.field.specs.Grade.{grade_of};
@@ -16,7 +17,7 @@ use field::tests::admitted;
 use field::{Checked, Counted, Grade, Refusal};
 
 // The variable that leads so far, and its weight.
-#[derive(Drop)]
+#[derive(Clone, Copy)]
 struct Leader {
     variable: usize,
     weight: f64,
@@ -54,7 +55,7 @@ fn work(
 ) -> usize
     requires admitted { Admitted (lent c rows cols q) start.now (length f.old) (length u.old) }
     requires grade_value { grade ≡ grade_of (lent c rows cols q) }
-    ensures { Lists (given c rows cols q) (before start) least (before list) (after list) result }
+    ensures { Lists (given c rows cols q) start.now least list.old list.new result }
 {
     places::build(u, rows, cols, c.len());
     parts::begin(c, rows, cols, q, start, true, u);
@@ -73,7 +74,7 @@ pub fn anchors(
     f: &mut [f64],
     u: &mut [u32],
 ) -> Counted
-    ensures { left result (after list) (after f) (after u) ≡ anchors_call (given c rows cols q) (before start) least (before list) (before f) (before u) }
+    ensures { left result list.new f.new u.new ≡ anchors_call (given c rows cols q) start.now least list.old f.old u.old }
 {
     let checked = admitted(c, rows, cols, q, start, f.len(), u.len());
     if let Checked::Failed(refusal) = checked {

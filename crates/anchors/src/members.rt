@@ -1,6 +1,5 @@
 // What one component comes to: whether all its members may turn, and which one leads.
 ghost use Rattle.std.specs.Prelude.{◌≡◌, ◌<◌, length};
-ghost use Rattle.scratch.specs.Lent.{before};
 ghost use Rattle.field.specs.Field.{given, lent, variables, entries};
 ghost use Rattle.field.specs.Grade.{grade_of};
 ghost use Rattle.anchors.specs.Model as model;
@@ -27,7 +26,7 @@ pub fn all_turnable(
     requires start_len { length start.now ≡ variables (lent c rows cols q) }
     requires q_in_bounds { entries (lent c rows cols q) < length f.old }
     requires grade_value { grade ≡ grade_of (lent c rows cols q) }
-    ensures { result ≡ model.all_turnable (given c rows cols q) (before start) (members_in (given c rows cols q) count (before u)) }
+    ensures { result ≡ model.all_turnable (given c rows cols q) start.now (members_in (given c rows cols q) count u.now) }
 {
     let n = c.len();
     let members = n + 1 + 2 * rows.len() + n + n;
@@ -55,7 +54,7 @@ pub fn find_leader(
 ) -> usize
     requires members { Members (lent c rows cols q) count u.now }
     requires first_bound { first < variables (lent c rows cols q) }
-    ensures { result ≡ model.leads (given c rows cols q) first (members_in (given c rows cols q) count (before u)) }
+    ensures { result ≡ model.leads (given c rows cols q) first (members_in (given c rows cols q) count u.now) }
 {
     let n = c.len();
     let members = n + 1 + 2 * rows.len() + n + n;

@@ -1,6 +1,5 @@
 // From start to start: each component's anchor goes into the list.
 ghost use Rattle.std.specs.Prelude.{◌≡◌, true, ◌<◌, ◌≤◌, set};
-ghost use Rattle.scratch.specs.Lent.{before, after};
 ghost use Rattle.field.specs.Field.{given, lent, variables};
 ghost use Rattle.field.specs.Grade.{grade_of};
 ghost use Rattle.parts.specs.Walk.{opened};
@@ -12,7 +11,7 @@ use field::Grade;
 
 // Sets the element at `place`, if the list reaches so far.
 fn store(list: &mut [u16], place: usize, value: u16)
-    ensures { after list ≡ set (before list) place value }
+    ensures { list.new ≡ set list.old place value }
 {
     if place < list.len() {
         list[place] = value;
@@ -38,7 +37,7 @@ fn visit(
     requires i_bound { i < variables (lent c rows cols q) }
     requires found_le_i { found ≤ i }
     requires grade_value { grade ≡ grade_of (lent c rows cols q) }
-    ensures { Visits (given c rows cols q) (before start) least i (before u) (before list) found (after u) (after list) result }
+    ensures { Visits (given c rows cols q) start.now least i u.old list.old found u.new list.new result }
 {
     let n = c.len();
     if u[n + 1 + 2 * rows.len() + i] != 2 {
@@ -72,7 +71,7 @@ pub fn search(
     requires standing { Standing (lent c rows cols q) start.now f.old u.old }
     requires u_value { marks_in (lent c rows cols q) u.old ≡ opened true start.now }
     requires grade_value { grade ≡ grade_of (lent c rows cols q) }
-    ensures { Lists (given c rows cols q) (before start) least (before list) (after list) result }
+    ensures { Lists (given c rows cols q) start.now least list.old list.new result }
 {
     let n = c.len();
     let mut found = 0;

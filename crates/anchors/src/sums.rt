@@ -1,6 +1,5 @@
 // What one variable comes to: whether its sum is 0, and how much weight its entries have.
 ghost use Rattle.std.specs.Prelude.{◌≡◌, ◌<◌, length};
-ghost use Rattle.scratch.specs.Lent.{before, after};
 ghost use Rattle.expansion.specs.Sum.{count_of};
 ghost use Rattle.field.specs.Field.{given, lent, entries, Shaped};
 ghost use Rattle.field.specs.Grade.{grade_of};
@@ -24,7 +23,7 @@ fn balance_at(
     requires shaped { Shaped (lent c rows cols q) }
     requires k_bound { k < entries (lent c rows cols q) }
     requires sum_in_bounds { count_of sum < length f.old }
-    ensures { AddsAt (given c rows cols q) k sum (before f) (after f) result }
+    ensures { AddsAt (given c rows cols q) k sum f.old f.new result }
 {
     let entry = q[k];
     if rows[k] == cols[k] {

@@ -1,6 +1,7 @@
 // The whole answer: the field that an input tells, its closure, and their text.
+#![tactic(auto)]
+
 ghost use Rattle.std.specs.Prelude.{◌≤◌, ◌<◌, length, take};
-ghost use Rattle.scratch.specs.Lent.{before, after};
 ghost use Rattle.field.specs.Field.{lent, given};
 ghost use Rattle.text.specs.Text.{Written};
 ghost use Rattle.records.specs.Parsing.{lists_of, Room};
@@ -25,7 +26,7 @@ fn answer_field(
 ) -> usize
     requires fits { Fits (lent c rows cols q) start.now (length values.old) }
     requires enough { Enough (length f.old) (length u.old) (length out.old) }
-    ensures { Written (field_text (given c rows cols q) (before start)) (before out) (after out) result }
+    ensures { Written (field_text (given c rows cols q) start.now) out.old out.new result }
 {
     put_bytes(values, 0, start);
     let answer = closure::closure(c, rows, cols, q, values, f, u);
@@ -51,7 +52,7 @@ fn answer_in(
     requires room { Room (lists_of c.old rows.old cols.old q.old start.old) }
     requires in_bounds { 256 ≤ length values.old }
     requires enough { Enough (length f.old) (length u.old) (length out.old) }
-    ensures { Written (answer_bytes_of (before bytes)) (before out) (after out) result }
+    ensures { Written (answer_bytes_of bytes.now) out.old out.new result }
 {
     let parsed = parse(bytes, c, rows, cols, q, start);
     match parsed {
@@ -81,7 +82,7 @@ fn answer_in(
 
 // The text for an input, at the front of `out`, which has room for any: 22 bytes for the grade and the end, and 10 for each of 256 x lines.
 fn answer_bytes(bytes: &[u8], out: &mut [u8; 2582]) -> usize
-    ensures { Written (answer_bytes_of (before bytes)) (before out) (after out) result }
+    ensures { Written (answer_bytes_of bytes.now) out.old out.new result }
 {
     let mut c = [0.0; 256];
     let mut rows = [0u16; 1024];
@@ -107,7 +108,7 @@ fn answer_bytes(bytes: &[u8], out: &mut [u8; 2582]) -> usize
 
 // The text for the first n bytes, or for all where there are fewer.
 fn answer_front(bytes: &[u8], n: usize, out: &mut [u8; 2582]) -> usize
-    ensures { Written (answer_bytes_of (take n (before bytes))) (before out) (after out) result }
+    ensures { Written (answer_bytes_of (take n bytes.now)) out.old out.new result }
 {
     if n > bytes.len() {
         return answer_bytes(bytes, out);
@@ -117,8 +118,8 @@ fn answer_front(bytes: &[u8], n: usize, out: &mut [u8; 2582]) -> usize
 
 // The text for the n bytes that were read into `input`, which has room for one more than the longest well-formed input has: what follows changes no answer.
 pub fn answer(input: &[u8; 18179], n: usize, out: &mut [u8; 2582]) -> usize
-    ensures written { Written (answer_bytes_of (take n (before input))) (before out) (after out) result }
-    ensures longest_input_in_bounds { longest_input < length (before input) }
+    ensures written { Written (answer_bytes_of (take n input.now)) out.old out.new result }
+    ensures longest_input_in_bounds { longest_input < length input.now }
 {
     answer_front(input, n, out)
 }

@@ -1,9 +1,10 @@
 // What each literal reaches by the arrows of a list of records: the arrows marked in rows of bits, and the rows closed.
+#![tactic(auto)]
+
 ghost use Rattle.std.specs.Prelude.{[], ◌∷◌, ◌*◌, ◌/◌, ◌%◌, ◌^◌, ◌<◌, ◌≤◌, length};
 ghost use Rattle.meaning.specs.Kinds.{pair};
 ghost use Rattle.meaning.specs.Literal.{bars};
 ghost use Rattle.meaning.specs.Records.{chosen, pairs_in};
-ghost use Rattle.scratch.specs.Lent.{before, after};
 ghost use Rattle.literals.specs.Listed.{Listed};
 ghost use Rattle.literals.specs.Ends.{rules};
 ghost use Rattle.bit_rows.specs.Rows.{bit_in, Holding};
@@ -16,7 +17,7 @@ fn bar(w: &mut [u64], i: usize, j: usize, a: usize, b: usize)
     requires between { Between i j w.old }
     requires a_bound { a < 2 }
     requires b_bound { b < 2 }
-    ensures { Marked (bars i j (pair a b ∷ [])) (before w) (after w) }
+    ensures { Marked (bars i j (pair a b ∷ [])) w.old w.new }
 {
     bit_rows::mark(w, 2 * i + a, 2 * j + (1 - b));
     bit_rows::mark(w, 2 * j + b, 2 * i + (1 - a));
@@ -28,7 +29,7 @@ fn bar_if(w: &mut [u64], i: usize, j: usize, set: usize, at: usize, a: usize, b:
     requires at_bound { at < 4 }
     requires a_bound { a < 2 }
     requires b_bound { b < 2 }
-    ensures { Marked (bars i j (chosen (set / 2 ^ at % 2) (pair a b))) (before w) (after w) }
+    ensures { Marked (bars i j (chosen (set / 2 ^ at % 2) (pair a b))) w.old w.new }
 {
     if (set >> at) & 1 == 1 {
         bar(w, i, j, a, b);
@@ -38,7 +39,7 @@ fn bar_if(w: &mut [u64], i: usize, j: usize, set: usize, at: usize, a: usize, b:
 // The arrows of one record.
 fn bar_set(w: &mut [u64], i: usize, j: usize, set: usize)
     requires { Between i j w.old }
-    ensures { Marked (bars i j (pairs_in set)) (before w) (after w) }
+    ensures { Marked (bars i j (pairs_in set)) w.old w.new }
 {
     bar_if(w, i, j, set, 0, 0, 0);
     bar_if(w, i, j, set, 1, 0, 1);
@@ -50,7 +51,7 @@ fn bar_set(w: &mut [u64], i: usize, j: usize, set: usize)
 fn bar_all(list: &[u16], n: usize, w: &mut [u64])
     requires listed { Listed n list.now }
     requires wide { Wide n w.old }
-    ensures { Marked (rules (before list)) (before w) (after w) }
+    ensures { Marked (rules list.now) w.old w.new }
 {
     let count = list.len() / 3;
     for t in 0..count {
@@ -65,7 +66,7 @@ fn bar_all(list: &[u16], n: usize, w: &mut [u64])
 fn selves(w: &mut [u64], m: usize)
     requires m_bound { m ≤ 2048 }
     requires m_in_bounds { m * 32 ≤ length w.old }
-    ensures { Holding (selves_of m (bit_in (before w))) (before w) (after w) }
+    ensures { Holding (selves_of m (bit_in w.old)) w.old w.new }
 {
     for a in 0..m {
         bit_rows::mark(w, a, a);
@@ -76,7 +77,7 @@ fn selves(w: &mut [u64], m: usize)
 pub fn fill(list: &[u16], n: usize, w: &mut [u64])
     requires listed { Listed n list.now }
     requires wide { Wide n w.old }
-    ensures { Filled (rules (before list)) n (before w) (after w) }
+    ensures { Filled (rules list.now) n w.old w.new }
 {
     bit_rows::clear(w);
     selves(w, 2 * n);

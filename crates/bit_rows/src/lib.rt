@@ -1,14 +1,15 @@
 // Rows of 32 words of 64 bits, in which bit b of row a says that literal a leads to literal b: set, read, closed and counted.
+#![tactic(auto)]
+
 ghost use Rattle.std.specs.Prelude.{◌≡◌, ◌+◌, ◌*◌, ◌<◌, ◌≤◌, length};
 ghost use Rattle.std.specs.Int.Count.{ones as ones_of};
-ghost use Rattle.scratch.specs.Lent.{before, after};
 ghost use Rattle.scratch.specs.Cleared.{cleared};
 ghost use Rattle.reaching.specs.Via.{count_below};
 ghost use Rattle.bit_rows.specs.Rows.{bit_in, Rows, Holding, marked, joined, stepped, stage, closed};
 
 // Sets every word of the rows to 0, so that no number leads to another.
 pub fn clear(w: &mut [u64])
-    ensures { after w ≡ cleared 0 (before w) }
+    ensures { w.new ≡ cleared 0 w.old }
 {
     for i in 0..w.len() {
         w[i] = 0;
@@ -19,7 +20,7 @@ pub fn clear(w: &mut [u64])
 pub fn mark(w: &mut [u64], a: usize, b: usize)
     requires b_bound { b < 2048 }
     requires a_in_bounds { a * 32 + 32 ≤ length w.old }
-    ensures { Holding (marked (bit_in (before w)) a b) (before w) (after w) }
+    ensures { Holding (marked (bit_in w.old) a b) w.old w.new }
 {
     let at = a * 32 + b / 64;
     w[at] = w[at] | (1u64 << (b % 64));
@@ -29,7 +30,7 @@ pub fn mark(w: &mut [u64], a: usize, b: usize)
 pub fn has(w: &[u64], a: usize, b: usize) -> bool
     requires b_bound { b < 2048 }
     requires a_in_bounds { a * 32 + 32 ≤ length w.now }
-    ensures { result ≡ bit_in (before w) a b }
+    ensures { result ≡ bit_in w.now a b }
 {
     (w[a * 32 + b / 64] >> (b % 64)) & 1 == 1
 }
@@ -38,7 +39,7 @@ pub fn has(w: &[u64], a: usize, b: usize) -> bool
 pub fn join(w: &mut [u64], a: usize, k: usize)
     requires a_in_bounds { a * 32 + 32 ≤ length w.old }
     requires k_in_bounds { k * 32 + 32 ≤ length w.old }
-    ensures { Holding (joined (bit_in (before w)) a k) (before w) (after w) }
+    ensures { Holding (joined (bit_in w.old) a k) w.old w.new }
 {
     let own = a * 32;
     let its = k * 32;
@@ -52,7 +53,7 @@ fn step(w: &mut [u64], a: usize, k: usize)
     requires k_bound { k < 2048 }
     requires a_in_bounds { a * 32 + 32 ≤ length w.old }
     requires k_in_bounds { k * 32 + 32 ≤ length w.old }
-    ensures { Holding (stepped (bit_in (before w)) k a) (before w) (after w) }
+    ensures { Holding (stepped (bit_in w.old) k a) w.old w.new }
 {
     if has(w, a, k) {
         join(w, a, k);
@@ -63,7 +64,7 @@ fn step(w: &mut [u64], a: usize, k: usize)
 fn pass(w: &mut [u64], n: usize, k: usize)
     requires rows { Rows n w.old }
     requires k_lt_n { k < n }
-    ensures { Holding (stage (bit_in (before w)) k n) (before w) (after w) }
+    ensures { Holding (stage (bit_in w.old) k n) w.old w.new }
 {
     for a in 0..n {
         step(w, a, k);
@@ -73,7 +74,7 @@ fn pass(w: &mut [u64], n: usize, k: usize)
 // All stages: the rows below n are Warshall's closure.
 pub fn close(w: &mut [u64], n: usize)
     requires { Rows n w.old }
-    ensures { Holding (closed (bit_in (before w)) n n) (before w) (after w) }
+    ensures { Holding (closed (bit_in w.old) n n) w.old w.new }
 {
     for k in 0..n {
         pass(w, n, k);
@@ -90,7 +91,7 @@ fn in_word(x: u64) -> usize
 // How many bits of row a are set, over all of its 32 words.
 pub fn ones(w: &[u64], a: usize) -> usize
     requires { a * 32 + 32 ≤ length w.now }
-    ensures { result ≡ count_below (bit_in (before w) a) 2048 }
+    ensures { result ≡ count_below (bit_in w.now a) 2048 }
 {
     let own = a * 32;
     let mut sum = 0;

@@ -1,6 +1,5 @@
 // A case of the call that asks what constraints allow.
 ghost use Rattle.std.specs.Prelude.{◌≤◌, length};
-ghost use Rattle.scratch.specs.Lent.{after};
 ghost use Rattle.stream.specs.Heads.{Fits};
 
 use allow::Allowed;
@@ -51,7 +50,7 @@ fn allow_in(
     out: &mut [u8],
     used: usize,
 ) -> usize
-    ensures { result ≤ length (after out) }
+    ensures { result ≤ length out.new }
 {
     let answer = allow::allow(variables, constraints, assignment, counts, w, u);
     let number = number_of(answer);
@@ -73,7 +72,7 @@ fn answer_taken(
 ) -> usize
     requires fits { Fits head (length contents.now) }
     requires constraints_len_bound { length constraints.old ≤ head.constraints }
-    ensures { result ≤ length (after out) }
+    ensures { result ≤ length out.new }
 {
     take_shorts(contents, constraints_at(head), constraints);
     fill_words(u, WORD);
@@ -107,7 +106,7 @@ pub fn answer_allow(
     requires fits { Fits head (length contents.now) }
     requires constraints_in_bounds { head.constraints ≤ length list.old }
     requires words_in_bounds { head.words ≤ length u.old }
-    ensures { result ≤ length (after out) }
+    ensures { result ≤ length out.new }
 {
     let count = head.constraints;
     let words = head.words;

@@ -1,6 +1,5 @@
 // A case of an entry list to be mended, which is done in the field's own lists.
 ghost use Rattle.std.specs.Prelude.{◌≤◌, length};
-ghost use Rattle.scratch.specs.Lent.{after};
 ghost use Rattle.stream.specs.Heads.{standing};
 
 use lines::Outcome;
@@ -40,7 +39,7 @@ pub fn mend_field(
     used: usize,
 ) -> usize
     requires { standing (length c.now) (length rows.old) (length cols.old) (length q.old) ≤ length contents.now }
-    ensures { result ≤ length (after out) }
+    ensures { result ≤ length out.new }
 {
     let outcome = outcome_of(mend::mend(c, rows, cols, q, list, f, u));
     put_mended(out, used, outcome, contents, c, rows, cols, q, list, f, u)

@@ -1,6 +1,5 @@
 // The next case of the stream, read whole.
 ghost use Rattle.std.specs.Prelude.{◌≤◌, length};
-ghost use Rattle.scratch.specs.Lent.{after};
 ghost use Rattle.stream.specs.Heads.{Fits};
 ghost use Rattle.cases.specs.Next.{Ready};
 
@@ -15,7 +14,7 @@ fn read(bytes: &mut [u8], n: usize) -> bool
 }
 
 // A case whose contents are read, or that there is no further one.
-#[derive(Drop)]
+#[derive(Clone, Copy)]
 pub enum Next {
     Case(Head),
     Stop,
@@ -52,7 +51,7 @@ fn next_head(out: &mut [u8], used: usize, size: usize) -> Next
 // Reads the contents of a case.
 fn read_case(head: Head, contents: &mut [u8], out: &mut [u8], used: usize) -> Next
     requires { Fits head (length contents.old) }
-    ensures { Ready result (length (after contents)) }
+    ensures { Ready result (length contents.new) }
 {
     if read(contents, stream::head::contents(head)) {
         return Next::Case(head);
@@ -63,7 +62,7 @@ fn read_case(head: Head, contents: &mut [u8], out: &mut [u8], used: usize) -> Ne
 
 // Reads the next case of the stream, its head and its contents; stops where there is none that fits.
 pub fn next_case(contents: &mut [u8], out: &mut [u8], used: usize) -> Next
-    ensures { Ready result (length (after contents)) }
+    ensures { Ready result (length contents.new) }
 {
     let next = next_head(out, used, contents.len());
     if let Next::Case(head) = next {

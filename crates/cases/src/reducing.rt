@@ -1,6 +1,5 @@
 // A case of the smaller problem, which closes up in the field's own lists.
 ghost use Rattle.std.specs.Prelude.{◌≤◌, length};
-ghost use Rattle.scratch.specs.Lent.{after};
 ghost use Rattle.stream.specs.Heads.{standing};
 
 use lines::Outcome;
@@ -49,7 +48,7 @@ pub fn reduce_field(
     used: usize,
 ) -> usize
     requires { standing (length c.old) (length rows.old) (length cols.old) (length q.old) ≤ length contents.now }
-    ensures { result ≤ length (after out) }
+    ensures { result ≤ length out.new }
 {
     let answer = sub_problem::sub_problem(c, rows, cols, q, start, list, f, u);
     let outcome = reduced(answer);

@@ -1,6 +1,5 @@
 // A case of the shift, which takes no start values, answer list or scratch.
 ghost use Rattle.std.specs.Prelude.{◌≤◌, length};
-ghost use Rattle.scratch.specs.Lent.{after};
 ghost use Rattle.stream.specs.Heads.{Fits, standing};
 
 use crate::contents::{take_columns, take_linear, take_rows, take_weights};
@@ -21,7 +20,7 @@ fn shift_field(
     used: usize,
 ) -> usize
     requires { standing (length c.old) (length rows.old) (length cols.old) (length q.old) ≤ length contents.now }
-    ensures { result ≤ length (after out) }
+    ensures { result ≤ length out.new }
 {
     let outcome = counted(shift::shift(c, rows, cols, q));
     let begun = put_outcome(out, used, SHIFT, outcome);
@@ -32,7 +31,7 @@ fn shift_field(
 // Makes the call `shift` on the field of a case, in lists of its own, and writes the line of its answer.
 pub fn answer_shift(head: Head, contents: &[u8], out: &mut [u8], used: usize) -> usize
     requires { Fits head (length contents.now) }
-    ensures { result ≤ length (after out) }
+    ensures { result ≤ length out.new }
 {
     let mut c = [0.0f64; VARIABLES];
     let mut rows = [0u16; ENTRIES];

@@ -1,6 +1,7 @@
 // The public call: the gradient closure of a field.
+#![tactic(auto)]
+
 ghost use Rattle.std.specs.Prelude.{◌≡◌, length};
-ghost use Rattle.scratch.specs.Lent.{before, after};
 ghost use Rattle.field.specs.Field.{lent, given};
 ghost use Rattle.field.specs.Tests.{Ready};
 ghost use Rattle.run.specs.Run as model;
@@ -19,8 +20,8 @@ fn work(
     u: &mut [u32],
 ) -> usize
     requires { Ready (lent c rows cols q) values.old (length f.old) (length u.old) }
-    ensures values_value { after values ≡ model.closure (given c rows cols q) (before values) }
-    ensures value { result ≡ flat (given c rows cols q) (before values) }
+    ensures values_value { values.new ≡ model.closure (given c rows cols q) values.old }
+    ensures value { result ≡ flat (given c rows cols q) values.old }
 {
     run::close(c, rows, cols, q, values, f, u);
     run::flat::flat_rows(values, f)
@@ -36,7 +37,7 @@ pub fn closure(
     f: &mut [f64],
     u: &mut [u32],
 ) -> Counted
-    ensures { left result (after start) (after f) (after u) ≡ closure_call (given c rows cols q) (before start) (before f) (before u) }
+    ensures { left result start.new f.new u.new ≡ closure_call (given c rows cols q) start.old f.old u.old }
 {
     let checked = field::tests::ready(c, rows, cols, q, start, f.len(), u.len());
     if let Checked::Failed(refusal) = checked {

@@ -1,9 +1,10 @@
 // The public calls over all candidates with rows made afresh for every probe: the full probe and the limited one.
+#![tactic(auto)]
+
 mod settling;
 mod twice;
 
 ghost use Rattle.std.specs.Prelude.{◌≡◌, length, take};
-ghost use Rattle.scratch.specs.Lent.{before, after};
 ghost use Rattle.meaning.specs.Free.{free_to};
 ghost use Rattle.field.specs.Field.{lent, given, variables};
 ghost use Rattle.field.specs.Tests.{Ready};
@@ -32,7 +33,7 @@ fn probe_all(
 ) -> Counted
     requires ready { Ready (lent c rows cols q) start.now (length f.old) (length u.old) }
     requires values_len { length values.old ≡ variables (lent c rows cols q) }
-    ensures { left result (after values) (after constraints) (after f) (after u) ≡ settled (given c rows cols q) (before start) (free_to (before start) (variables (given c rows cols q))) (before values) (before constraints) (before f) (before u) }
+    ensures { left result values.new constraints.new f.new u.new ≡ settled (given c rows cols q) start.now (free_to start.now (variables (given c rows cols q))) values.old constraints.old f.old u.old }
 {
     let n = c.len();
     places::build(u, rows, cols, n);
@@ -55,7 +56,7 @@ fn probe_some(
 ) -> Counted
     requires ready { Ready (lent c rows cols q) start.now (length f.old) (length u.old) }
     requires values_len { length values.old ≡ variables (lent c rows cols q) }
-    ensures { left result (after values) (after constraints) (after f) (after u) ≡ settled (given c rows cols q) (before start) (take candidates (ranks (given c rows cols q) (before start))) (before values) (before constraints) (before f) (before u) }
+    ensures { left result values.new constraints.new f.new u.new ≡ settled (given c rows cols q) start.now (take candidates (ranks (given c rows cols q) start.now)) values.old constraints.old f.old u.old }
 {
     places::build(u, rows, cols, c.len());
     let count = choose(c, rows, cols, q, start, candidates, f, u);
@@ -74,7 +75,7 @@ pub fn cold_probe(
     f: &mut [f64],
     u: &mut [u32],
 ) -> Counted
-    ensures { left result (after values) (after constraints) (after f) (after u) ≡ probe_by cold (given c rows cols q) (before start) (before values) (before constraints) (before f) (before u) }
+    ensures { left result values.new constraints.new f.new u.new ≡ probe_by cold (given c rows cols q) start.now values.old constraints.old f.old u.old }
 {
     let checked = field::tests::ready(c, rows, cols, q, start, f.len(), u.len());
     if let Checked::Failed(refusal) = checked {
@@ -99,7 +100,7 @@ pub fn cold_probe_limited(
     f: &mut [f64],
     u: &mut [u32],
 ) -> Counted
-    ensures { left result (after values) (after constraints) (after f) (after u) ≡ probe_limited_by cold (given c rows cols q) (before start) candidates (before values) (before constraints) (before f) (before u) }
+    ensures { left result values.new constraints.new f.new u.new ≡ probe_limited_by cold (given c rows cols q) start.now candidates values.old constraints.old f.old u.old }
 {
     let n = c.len();
     let checked = field::tests::ready(c, rows, cols, q, start, f.len(), u.len());

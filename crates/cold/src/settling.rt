@@ -1,6 +1,5 @@
 // From the candidates to the answer: each candidate's probes afresh, found constraints gathered and flushed, and the probe values.
 ghost use Rattle.std.specs.Prelude.{length, ◌≡◌};
-ghost use Rattle.scratch.specs.Lent.{before, after};
 ghost use Rattle.scratch.specs.Region.{region};
 ghost use Rattle.field.specs.Field.{lent, given};
 ghost use Rattle.walking.specs.Walk.{candidates_at, Begins, Walked};
@@ -31,7 +30,7 @@ fn walk(
 ) -> Merged
     requires afresh { Afresh (lent c rows cols q) start.now (length values.old) (length f.old) u.old }
     requires begins { Begins (lent c rows cols q) start.now (Places (lent c rows cols q)) u.old count }
-    ensures { Walked (given c rows cols q) (before start) (region (candidates_at (given c rows cols q)) count (before u)) (before list) result (after list) (after u) }
+    ensures { Walked (given c rows cols q) start.now (region (candidates_at (given c rows cols q)) count u.old) list.old result list.new u.new }
 {
     let n = c.len();
     let at = n + 1 + 2 * rows.len() + n + n + n + n;
@@ -65,7 +64,7 @@ fn gather(
     count: usize,
 ) -> Merged
     requires { Lined (lent c rows cols q) start.now (length values.old) (length f.old) u.old count }
-    ensures { Walked (given c rows cols q) (before start) (region (candidates_at (given c rows cols q)) count (before u)) (before constraints) result (after constraints) (after u) }
+    ensures { Walked (given c rows cols q) start.now (region (candidates_at (given c rows cols q)) count u.old) constraints.old result constraints.new u.new }
 {
     let n = c.len();
     set_none(u, n + 1 + 2 * rows.len() + n + n + n, n);
@@ -86,7 +85,7 @@ pub fn settle(
     count: usize,
 ) -> Counted
     requires { Lined (lent c rows cols q) start.now (length values.old) (length f.old) u.old count }
-    ensures { left result (after values) (after constraints) (after f) (after u) ≡ settled (given c rows cols q) (before start) (region (candidates_at (given c rows cols q)) count (before u)) (before values) (before constraints) (before f) (before u) }
+    ensures { left result values.new constraints.new f.new u.new ≡ settled (given c rows cols q) start.now (region (candidates_at (given c rows cols q)) count u.old) values.old constraints.old f.old u.old }
 {
     let n = c.len();
     let at = n + 1 + 2 * rows.len() + n + n + n;

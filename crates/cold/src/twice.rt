@@ -1,6 +1,5 @@
 // Both probes of one candidate, each with rows made afresh, and what they find by a pass over all variables.
 ghost use Rattle.std.specs.Prelude.{◌≡◌, ◌+◌, ◌<◌, ◌≤◌, length};
-ghost use Rattle.scratch.specs.Lent.{before, after};
 ghost use Rattle.field.specs.Field.{lent, given, variables};
 ghost use Rattle.probe.specs.Call.{cold};
 ghost use Rattle.finding.specs.Emit.{bench};
@@ -28,8 +27,8 @@ fn probe_afresh(
 )
     requires afresh { Afresh (lent c rows cols q) start.now (length values.old) (length f.old) u.old }
     requires variable_bound { variable < variables (lent c rows cols q) }
-    ensures values_value { after values ≡ cold (given c rows cols q) (before start) variable value }
-    ensures behind { Behind (given c rows cols q) (before u) (after u) }
+    ensures values_value { values.new ≡ cold (given c rows cols q) start.now variable value }
+    ensures behind { Behind (given c rows cols q) u.old u.new }
 {
     assume(start, variable, value, values);
     rows::fill::fill(c, rows, cols, q, values, f);
@@ -39,7 +38,7 @@ fn probe_afresh(
 // The values go into the words from `first` on.
 fn lay(values: &[u8], u: &mut [u32], first: usize)
     requires { first + length values.now ≤ length u.old }
-    ensures { Laid first (length (before values)) (before values) (before u) (after u) }
+    ensures { Laid first (length values.now) values.now u.old u.new }
 {
     for j in 0..values.len() {
         u[first + j] = word(values[j]);
@@ -57,7 +56,7 @@ fn pass(
     end: usize,
 ) -> usize
     requires { Passable start.now values.now u.old i first at end }
-    ensures { bench (after u) result ≡ pass_to (before start) (before values) i first at (bench (before u) end) (length (before start)) }
+    ensures { bench u.new result ≡ pass_to start.now values.now i first at (bench u.old end) (length start.now) }
 {
     let mut last = end;
     for j in 0..start.len() {
@@ -82,8 +81,8 @@ pub fn both(
     requires afresh { Afresh (lent c rows cols q) start.now (length values.old) (length f.old) u.old }
     requires variable_bound { variable < variables (lent c rows cols q) }
     requires end_for { EndFor (lent c rows cols q) u.old end }
-    ensures adds { Adds (given c rows cols q) (before start) variable (before u) end (after u) result }
-    ensures adjacent { Adjacent (variables (given c rows cols q)) (before rows) (before cols) (after u) }
+    ensures adds { Adds (given c rows cols q) start.now variable u.old end u.new result }
+    ensures adjacent { Adjacent (variables (given c rows cols q)) rows.now cols.now u.new }
 {
     let n = c.len();
     let first = n + 1 + 2 * rows.len() + n + n;

@@ -1,6 +1,7 @@
 // The public call: components of at most 10 free variables are completed by enumeration.
+#![tactic(auto)]
+
 ghost use Rattle.std.specs.Prelude.{◌≡◌, ◌<◌, length};
-ghost use Rattle.scratch.specs.Lent.{before, after};
 ghost use Rattle.field.specs.Field.{lent, given, variables};
 ghost use Rattle.field.specs.Tests.{Ready};
 ghost use Rattle.calls.specs.Values.{left};
@@ -22,7 +23,7 @@ fn solve_start(
 )
     requires standing { Standing (lent c rows cols q) values.old u.old }
     requires start_bound { start < variables (lent c rows cols q) }
-    ensures { Staged (given c rows cols q) (λ g. stage_at (given c rows cols q) g start) (before values) (before u) (after values) (after u) }
+    ensures { Staged (given c rows cols q) (λ g. stage_at (given c rows cols q) g start) values.old u.old values.new u.new }
 {
     let n = c.len();
     let base = n + 1 + 2 * rows.len();
@@ -39,7 +40,7 @@ fn solve_start(
 // Every start, rising.
 fn solve_all(c: &[f64], rows: &[u16], cols: &[u16], q: &[f64], values: &mut [u8], u: &mut [u32])
     requires { Standing (lent c rows cols q) values.old u.old }
-    ensures { Staged (given c rows cols q) (λ g. stage_to (given c rows cols q) g (variables (given c rows cols q))) (before values) (before u) (after values) (after u) }
+    ensures { Staged (given c rows cols q) (λ g. stage_to (given c rows cols q) g (variables (given c rows cols q))) values.old u.old values.new u.new }
 {
     let n = c.len();
     for start in 0..n {
@@ -50,7 +51,7 @@ fn solve_all(c: &[f64], rows: &[u16], cols: &[u16], q: &[f64], values: &mut [u8]
 // All small components, where the adjacency stands at the front of u.
 pub fn solve(c: &[f64], rows: &[u16], cols: &[u16], q: &[f64], values: &mut [u8], u: &mut [u32])
     requires { Solvable (lent c rows cols q) values.old u.old }
-    ensures { Solved (given c rows cols q) (before values) (before u) (after values) (after u) }
+    ensures { Solved (given c rows cols q) values.old u.old values.new u.new }
 {
     parts::begin(c, rows, cols, q, values, false, u);
     solve_all(c, rows, cols, q, values, u);
@@ -67,7 +68,7 @@ fn work(
     u: &mut [u32],
 )
     requires { Ready (lent c rows cols q) values.old (length f.now) (length u.old) }
-    ensures { after values ≡ small_parts (given c rows cols q) (before values) }
+    ensures { values.new ≡ small_parts (given c rows cols q) values.old }
 {
     places::build(u, rows, cols, c.len());
     solve(c, rows, cols, q, values, u);
@@ -83,7 +84,7 @@ pub fn components(
     f: &mut [f64],
     u: &mut [u32],
 ) -> Answer
-    ensures { left result (after start) (after f) (after u) ≡ components_call (given c rows cols q) (before start) (before f) (before u) }
+    ensures { left result start.new f.new u.new ≡ components_call (given c rows cols q) start.old f.old u.old }
 {
     let checked = field::tests::ready(c, rows, cols, q, start, f.len(), u.len());
     if let Checked::Failed(refusal) = checked {

@@ -2,7 +2,6 @@
 ghost use Rattle.std.specs.Prelude.{◌≡◌, ◌+◌, ◌*◌, ◌<◌, length};
 ghost use Rattle.meaning.specs.Kinds.{joining};
 ghost use Rattle.meaning.specs.Records.{record_on, record_of};
-ghost use Rattle.scratch.specs.Lent.{before, after};
 ghost use Rattle.constraints.specs.Codes.{meant};
 ghost use Rattle.constraints.specs.Record.{stored};
 ghost use Rattle.constraints.specs.Keys.{key_of, unkey};
@@ -59,7 +58,7 @@ fn set_of(key: u32) -> u16
 pub fn put_key(list: &mut [u16], at: usize, key: u32)
     requires at_in_bounds { 3 * at + 2 < length list.old }
     requires key_bound { key < 268435456 }
-    ensures { after list ≡ stored (before list) at (unkey key) }
+    ensures { list.new ≡ stored list.old at (unkey key) }
 {
     store(list, at, lower_of(key), higher_of(key), set_of(key));
 }

@@ -1,15 +1,16 @@
 // Constraints: the kinds with their codes and sets, the records of a flat list, and one number for a record.
+#![tactic(auto)]
+
 pub mod keys;
 
 ghost use Rattle.std.specs.Prelude.{◌≡◌, ◌+◌, ◌*◌, ◌<◌, length};
 ghost use Rattle.std.specs.Int.Count.{ones};
 ghost use Rattle.meaning.specs.Records.{record_on, set_of, turned};
-ghost use Rattle.scratch.specs.Lent.{before, after};
 ghost use Rattle.constraints.specs.Codes.{code_of, kind_of, meant};
 ghost use Rattle.constraints.specs.Record.{stored};
 
 // What a constraint says of its two ends.
-#[derive(Drop)]
+#[derive(Clone, Copy)]
 pub enum Kind {
     AtLeastOne,
     ExactlyOne,
@@ -20,7 +21,7 @@ pub enum Kind {
 }
 
 // What a code says: a kind, or nothing.
-#[derive(Drop)]
+#[derive(Clone, Copy)]
 pub enum Coded {
     Known(Kind),
     Unknown,
@@ -113,7 +114,7 @@ pub fn forbidden_pairs(set: u16) -> u32
 // Writes three numbers as record number `at` of the list.
 fn store(list: &mut [u16], at: usize, lower: u16, higher: u16, set: u16)
     requires { 3 * at + 2 < length list.old }
-    ensures { after list ≡ stored (before list) at (record_on lower higher set) }
+    ensures { list.new ≡ stored list.old at (record_on lower higher set) }
 {
     let i = 3 * at;
     list[i] = lower;

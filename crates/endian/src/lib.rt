@@ -1,6 +1,7 @@
 // Little-endian numbers among bytes.
+#![tactic(auto)]
+
 ghost use Rattle.std.specs.Prelude.{◌≡◌, ◌+◌, ◌≤◌, length};
-ghost use Rattle.scratch.specs.Lent.{before};
 ghost use Rattle.endian.specs.Bytes.{number_at, float_at};
 
 // 2^63, the weight of a float's sign.
@@ -19,7 +20,7 @@ fn wide(x: u8) -> u64
 pub fn number(bytes: &[u8], at: usize, width: usize) -> u64
     requires width_in_bounds { at + width ≤ length bytes.now }
     requires width_bound { width ≤ 8 }
-    ensures { result ≡ number_at width (before bytes) at }
+    ensures { result ≡ number_at width bytes.now at }
 {
     let mut value: u64 = 0;
     let mut i = width;
@@ -33,7 +34,7 @@ pub fn number(bytes: &[u8], at: usize, width: usize) -> u64
 // The u16 in the two bytes from index `at` on, the lowest byte first.
 pub fn short(bytes: &[u8], at: usize) -> u16
     requires { at + 2 ≤ length bytes.now }
-    ensures { result ≡ number_at 2 (before bytes) at }
+    ensures { result ≡ number_at 2 bytes.now at }
 {
     number(bytes, at, 2) as u16
 }
@@ -41,7 +42,7 @@ pub fn short(bytes: &[u8], at: usize) -> u16
 // The u32 in the four bytes from index `at` on, the lowest byte first.
 pub fn word(bytes: &[u8], at: usize) -> u32
     requires { at + 4 ≤ length bytes.now }
-    ensures { result ≡ number_at 4 (before bytes) at }
+    ensures { result ≡ number_at 4 bytes.now at }
 {
     number(bytes, at, 4) as u32
 }
@@ -49,7 +50,7 @@ pub fn word(bytes: &[u8], at: usize) -> u32
 // A NaN's pattern cannot be read as it stands; an infinity less itself is the same NaN.
 pub fn float(bytes: &[u8], at: usize) -> f64
     requires { at + 8 ≤ length bytes.now }
-    ensures { result ≡ float_at (before bytes) at }
+    ensures { result ≡ float_at bytes.now at }
 {
     let bits = number(bytes, at, 8);
     if bits % SIGN > TOP {

@@ -1,9 +1,10 @@
 // A small part of the free variables, completed by enumeration: of all masks of its members the lowest of least objective.
+#![tactic(auto)]
+
 mod linear;
 mod pairs;
 
 ghost use Rattle.std.specs.Prelude.{◌≡◌, length};
-ghost use Rattle.scratch.specs.Lent.{before, after};
 ghost use Rattle.scratch.specs.Region.{region};
 ghost use Rattle.field.specs.Field.{given, lent};
 ghost use Rattle.masks.specs.Listed.{Room};
@@ -26,7 +27,7 @@ fn choose(
     requires held { Held (lent c rows cols q) values.now u.now }
     requires small { Small (length c.now) u.now at count }
     requires room { Room 110 terms.old required.old }
-    ensures { result ≡ mask_of (given c rows cols q) (before values) (region at count (before u)) }
+    ensures { result ≡ mask_of (given c rows cols q) values.now (region at count u.now) }
 {
     let linear = linear::list_linear(c, rows, cols, q, values, u, at, count, terms, required);
     let end = pairs::list_pairs(c, rows, cols, q, u, at, count, linear, terms, required);
@@ -47,7 +48,7 @@ fn enumerate(
 ) -> usize
     requires held { Held (lent c rows cols q) values.now u.now }
     requires small { Small (length c.now) u.now at count }
-    ensures { result ≡ mask_of (given c rows cols q) (before values) (region at count (before u)) }
+    ensures { result ≡ mask_of (given c rows cols q) values.now (region at count u.now) }
 {
     let mut terms = [0.0; 110];
     let mut required = [0u16; 110];
@@ -68,7 +69,7 @@ fn enumerate(
 // Bit b of the mask becomes the value of member b.
 fn put(values: &mut [u8], u: &[u32], at: usize, count: usize, mask: usize)
     requires { Small (length values.old) u.now at count }
-    ensures { after values ≡ put_to (before values) (region at count (before u)) mask count }
+    ensures { values.new ≡ put_to values.old (region at count u.now) mask count }
 {
     for b in 0..count {
         values[scratch::wide_word(u[at + b])] = masks::bit_of(mask, b);
@@ -88,7 +89,7 @@ pub fn solve(
 )
     requires held { Held (lent c rows cols q) values.old u.now }
     requires small { Small (length c.now) u.now at count }
-    ensures { after values ≡ solved (given c rows cols q) (before values) (region at count (before u)) }
+    ensures { values.new ≡ solved (given c rows cols q) values.old (region at count u.now) }
 {
     let mask = enumerate(c, rows, cols, q, values, u, at, count);
     put(values, u, at, count, mask);

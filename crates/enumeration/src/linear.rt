@@ -1,6 +1,5 @@
 // The linear terms of a part: c of a member, and what its entries to fixed variables add.
 ghost use Rattle.std.specs.Prelude.{◌≡◌, ◌<◌, length};
-ghost use Rattle.scratch.specs.Lent.{before, after};
 ghost use Rattle.scratch.specs.Region.{region};
 ghost use Rattle.field.specs.Field.{given, lent, variables, entries};
 ghost use Rattle.places.specs.Places.{other_end};
@@ -25,7 +24,7 @@ fn add_end(
     requires valued { Valued (lent c rows cols q) values.now }
     requires k_bound { k < entries (lent c rows cols q) }
     requires t_value { t ≡ other_end rows.now cols.now i k }
-    ensures { result ≡ linear_at (given c rows cols q) (before values) i sum k }
+    ensures { result ≡ linear_at (given c rows cols q) values.now i sum k }
 {
     let v = values[t];
     if v == 2 {
@@ -47,7 +46,7 @@ fn linear_of(
 ) -> f64
     requires held { Held (lent c rows cols q) values.now u.now }
     requires i_bound { i < variables (lent c rows cols q) }
-    ensures { result ≡ linear_part (given c rows cols q) (before values) i }
+    ensures { result ≡ linear_part (given c rows cols q) values.now i }
 {
     let n = c.len();
     let start = wide_word(u[i]);
@@ -78,7 +77,7 @@ pub fn list_linear(
     requires held { Held (lent c rows cols q) values.now u.now }
     requires small { Small (length c.now) u.now at count }
     requires room { Room 10 terms.old required.old }
-    ensures { Listed (linear_terms (given c rows cols q) (before values) (region at count (before u)) count) (lists 0 (before terms) (before required)) (lists result (after terms) (after required)) }
+    ensures { Listed (linear_terms (given c rows cols q) values.now (region at count u.now) count) (lists 0 terms.old required.old) (lists result terms.new required.new) }
 {
     let mut end = 0;
     for b in 0..count {

@@ -1,6 +1,5 @@
 // The terms of the entries between members of a part.
 ghost use Rattle.std.specs.Prelude.{◌≡◌, ◌+◌, ◌<◌, length};
-ghost use Rattle.scratch.specs.Lent.{before, after};
 ghost use Rattle.scratch.specs.Region.{region};
 ghost use Rattle.field.specs.Field.{given, lent, variables, entries};
 ghost use Rattle.masks.specs.Listed.{lists, Room, Listed};
@@ -13,7 +12,7 @@ use scratch::{wide_short, wide_word};
 fn stands_at(rows: &[u16], cols: &[u16], k: usize, i: usize, j: usize) -> bool
     requires k_in_bounds { k < length rows.now }
     requires k_in_bounds_2 { k < length cols.now }
-    ensures { result ≡ stands (before rows) (before cols) i j k }
+    ensures { result ≡ stands rows.now cols.now i j k }
 {
     wide_short(rows[k]) == i && wide_short(cols[k]) == j
 }
@@ -64,7 +63,7 @@ fn list_pair(
     requires room { Room (end + 1) terms.old required.old }
     requires a_lt_count { a < count }
     requires b_lt_count { b < count }
-    ensures { Listed (pair_term (given c rows cols q) (region at count (before u)) b a) (lists end (before terms) (before required)) (lists result (after terms) (after required)) }
+    ensures { Listed (pair_term (given c rows cols q) (region at count u.now) b a) (lists end terms.old required.old) (lists result terms.new required.new) }
 {
     let i = wide_word(u[at + a]);
     let j = wide_word(u[at + b]);
@@ -100,7 +99,7 @@ fn list_column(
     requires small { Small (length c.now) u.now at count }
     requires room { Room (from + 10) terms.old required.old }
     requires b_lt_count { b < count }
-    ensures { Listed (column_terms (given c rows cols q) (region at count (before u)) b count) (lists from (before terms) (before required)) (lists result (after terms) (after required)) }
+    ensures { Listed (column_terms (given c rows cols q) (region at count u.now) b count) (lists from terms.old required.old) (lists result terms.new required.new) }
 {
     let mut end = from;
     for a in 0..count {
@@ -125,7 +124,7 @@ pub fn list_pairs(
     requires placed { Placed (lent c rows cols q) u.now }
     requires small { Small (length c.now) u.now at count }
     requires room { Room (from + 100) terms.old required.old }
-    ensures { Listed (pair_terms (given c rows cols q) (region at count (before u)) count) (lists from (before terms) (before required)) (lists result (after terms) (after required)) }
+    ensures { Listed (pair_terms (given c rows cols q) (region at count u.now) count) (lists from terms.old required.old) (lists result terms.new required.new) }
 {
     let mut end = from;
     for b in 0..count {

@@ -1,17 +1,18 @@
 // The error-free sum of f64 numbers, whose parts stand at the front of a lent slice.
+#![tactic(auto)]
+
 ghost use Rattle.std.specs.Prelude.{◌≡◌, ◌<◌, length};
-ghost use Rattle.scratch.specs.Lent.{before, after};
 ghost use Rattle.expansion.specs.Sum.{split_of, is_zero, count_of, Keeps, Carried, Adds};
 
 // How many parts there are, or that a sum overflowed.
-#[derive(Drop)]
+#[derive(Clone, Copy)]
 pub enum ExactSum {
     Parts(usize),
     Invalid,
 }
 
 // A rounded sum, and what rounding left over.
-#[derive(Drop)]
+#[derive(Clone, Copy)]
 struct Split {
     high: f64,
     low: f64,
@@ -37,7 +38,7 @@ fn two_sum(x: f64, y: f64) -> Split
 // Puts x behind the parts that are kept, unless it is 0.
 fn keep(parts: &mut [f64], kept: usize, x: f64) -> usize
     requires { kept < length parts.old }
-    ensures { Keeps x kept (before parts) (after parts) result }
+    ensures { Keeps x kept parts.old parts.new result }
 {
     if x != 0.0 {
         parts[kept] = x;
@@ -49,7 +50,7 @@ fn keep(parts: &mut [f64], kept: usize, x: f64) -> usize
 // Carries x through the first `count` parts.
 fn carry(parts: &mut [f64], count: usize, x: f64) -> ExactSum
     requires { count < length parts.old }
-    ensures { Carried x count (before parts) (after parts) result }
+    ensures { Carried x count parts.old parts.new result }
 {
     let mut kept = 0;
     let mut high = x;
@@ -68,7 +69,7 @@ impl ExactSum {
     // Adds x without error; the sum has then at most one part more than before.
     pub fn add(self, parts: &mut [f64], x: f64) -> ExactSum
         requires { count_of self < length parts.old }
-        ensures { Adds x self (before parts) (after parts) result }
+        ensures { Adds x self parts.old parts.new result }
     {
         if let ExactSum::Parts(count) = self {
             if !weights::is_finite(x) {

@@ -3,7 +3,6 @@ use Rattle.std.specs.Prelude.{ℕ, ◌+◌, ◌<◌, ◌≤◌, ◌≡◌, ◌�
 use Rattle.std.specs.Float.{nan}
 use Rattle.std.specs.Borrow.{Bor}
 use denote.Triple.Both.{Both}
-use Rattle.scratch.specs.Lent.{before}
 
 -- The four lists of a field: the linear weights, and of each entry the row, the column and the pair weight.
 pub record Field : Type 0 where
@@ -42,7 +41,7 @@ quad_of F k = get_or F.quad k nan
 
 -- The field behind four lent slices as a call is given it, for its contract.
 abbrev pub given : {W X Y Z : Type 0} → Both (Bor (List Float)) W → Both (Bor (List ℕ)) X → Both (Bor (List ℕ)) Y → Both (Bor (List Float)) Z → Field
-given c rows cols q = field_of (before c) (before rows) (before cols) (before q)
+given c rows cols q = field_of c.entry.now rows.entry.now cols.entry.now q.entry.now
 
 -- The field behind four lent slices as they stand now, for what is said inside a call.
 abbrev pub lent : Bor (List Float) → Bor (List ℕ) → Bor (List ℕ) → Bor (List Float) → Field

@@ -1,6 +1,5 @@
 // Tests at every position of a list, each of which covers the whole list; and the first entry at fault.
 ghost use Rattle.std.specs.Prelude.{◌≡◌, false, ◌<◌, length};
-ghost use Rattle.scratch.specs.Lent.{before};
 ghost use Rattle.field.specs.Tests.{ends_below as ends_below_of, is_before, all_rise as all_rise_of, in_order, is_fine as is_fine_of, first_from, wrong_at as wrong_at_of, fault_of, off_diagonal as off_diagonal_of, bytes_small as bytes_small_of};
 
 use crate::Refusal;
@@ -8,7 +7,7 @@ use scratch::wide_short;
 
 // Whether every end is below top.
 fn shorts_below(top: u16, ends: &[u16]) -> bool
-    ensures { result ≡ ends_below_of top (before ends) }
+    ensures { result ≡ ends_below_of top ends.now }
 {
     let mut below = true;
     for k in 0..ends.len() {
@@ -19,7 +18,7 @@ fn shorts_below(top: u16, ends: &[u16]) -> bool
 
 // Whether every end is below n.
 pub fn ends_below(n: usize, ends: &[u16]) -> bool
-    ensures { result ≡ ends_below_of n (before ends) }
+    ensures { result ≡ ends_below_of n ends.now }
 {
     if n > 65535 {
         return true;
@@ -37,7 +36,7 @@ pub fn stands_before(row: u16, col: u16, row2: u16, col2: u16) -> bool
 // Whether each entry stands before the next.
 pub fn all_rise(rows: &[u16], cols: &[u16]) -> bool
     requires { length rows.now ≡ length cols.now }
-    ensures { result ≡ all_rise_of (before rows) (before cols) }
+    ensures { result ≡ all_rise_of rows.now cols.now }
 {
     let mut rise = true;
     let mut k: usize = 0;
@@ -53,7 +52,7 @@ pub fn all_rise(rows: &[u16], cols: &[u16]) -> bool
 fn is_fine(n: usize, rows: &[u16], cols: &[u16], k: usize) -> bool
     requires rows_len { length rows.now ≡ length cols.now }
     requires k_in_bounds { k < length rows.now }
-    ensures { result ≡ is_fine_of n (before rows) (before cols) k }
+    ensures { result ≡ is_fine_of n rows.now cols.now k }
 {
     if wide_short(rows[k]) >= n {
         return false;
@@ -71,7 +70,7 @@ fn is_fine(n: usize, rows: &[u16], cols: &[u16], k: usize) -> bool
 // The first entry that is not fine; as many as there are entries where all are.
 fn first_fault(n: usize, rows: &[u16], cols: &[u16]) -> usize
     requires { length rows.now ≡ length cols.now }
-    ensures { result ≡ first_from (is_fine_of n (before rows) (before cols)) 0 (length (before rows)) }
+    ensures { result ≡ first_from (is_fine_of n rows.now cols.now) 0 (length rows.now) }
 {
     let mut k: usize = 0;
     while k < rows.len() {
@@ -88,7 +87,7 @@ fn wrong_at(n: usize, rows: &[u16], cols: &[u16], k: usize) -> Refusal
     requires rows_len { length rows.now ≡ length cols.now }
     requires k_in_bounds { k < length rows.now }
     requires k_value { is_fine_of n rows.now cols.now k ≡ false }
-    ensures { result ≡ wrong_at_of n (before rows) (before cols) k }
+    ensures { result ≡ wrong_at_of n rows.now cols.now k }
 {
     if wide_short(rows[k]) >= n {
         return Refusal::Row(k);
@@ -110,7 +109,7 @@ fn wrong_at(n: usize, rows: &[u16], cols: &[u16], k: usize) -> Refusal
 pub fn fault(n: usize, rows: &[u16], cols: &[u16]) -> Refusal
     requires rows_len { length rows.now ≡ length cols.now }
     requires cols_value { in_order n rows.now cols.now ≡ false }
-    ensures { result ≡ fault_of n (before rows) (before cols) }
+    ensures { result ≡ fault_of n rows.now cols.now }
 {
     wrong_at(n, rows, cols, first_fault(n, rows, cols))
 }
@@ -118,7 +117,7 @@ pub fn fault(n: usize, rows: &[u16], cols: &[u16]) -> Refusal
 // Whether no entry has its row equal to its column.
 pub fn off_diagonal(rows: &[u16], cols: &[u16]) -> bool
     requires { length rows.now ≡ length cols.now }
-    ensures { result ≡ off_diagonal_of (before rows) (before cols) }
+    ensures { result ≡ off_diagonal_of rows.now cols.now }
 {
     let mut off = true;
     for k in 0..rows.len() {
@@ -129,7 +128,7 @@ pub fn off_diagonal(rows: &[u16], cols: &[u16]) -> bool
 
 // Whether every byte is 0, 1 or 2.
 pub fn bytes_small(s: &[u8]) -> bool
-    ensures { result ≡ bytes_small_of (before s) }
+    ensures { result ≡ bytes_small_of s.now }
 {
     let mut small = true;
     for i in 0..s.len() {

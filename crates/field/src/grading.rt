@@ -1,6 +1,5 @@
 // The grade of a field, and the smallest unit that serves.
 ghost use Rattle.std.specs.Prelude.{◌≡◌, [], ◌+◌, ◌<◌, ◌^◌};
-ghost use Rattle.scratch.specs.Lent.{before};
 ghost use Rattle.field.specs.Field.{given, lent, field_of};
 ghost use Rattle.field.specs.Tests.{Finite, Loose};
 ghost use Rattle.field.specs.Grade.{grade_of, unit_of};
@@ -46,7 +45,7 @@ fn first_unit(linear: Measure, quad: Measure) -> u64
 
 fn half_unit(c: &[f64], q: &[f64]) -> u64
     requires { Finite (field_of c.now [] [] q.now) }
-    ensures { result ≡ unit_of (field_of (before c) [] [] (before q)) }
+    ensures { result ≡ unit_of (field_of c.now [] [] q.now) }
 {
     let linear = measured(c);
     let quad = measured(q);
@@ -56,7 +55,7 @@ fn half_unit(c: &[f64], q: &[f64]) -> u64
 // The smallest unit that serves is 2^(k - 20); k is 41 where none does.
 pub fn least_unit(c: &[f64], q: &[f64]) -> u8
     requires { Finite (field_of c.now [] [] q.now) }
-    ensures { result + 1053 ≡ unit_of (field_of (before c) [] [] (before q)) }
+    ensures { result + 1053 ≡ unit_of (field_of c.now [] [] q.now) }
 {
     (half_unit(c, q) - FINEST) as u8
 }

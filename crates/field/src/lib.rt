@@ -1,4 +1,6 @@
 // A field's tests, grade and answers: what every call on a field asks first, and how it says what it found.
+#![tactic(auto)]
+
 mod entries;
 pub mod grading;
 pub mod tests;
@@ -8,14 +10,14 @@ ghost use Rattle.std.specs.Prelude.{◌≡◌};
 ghost use Rattle.field.specs.Answers.{number_of, position_of, answer_number};
 
 // Whether all sums of a field's weights are exact in f64, counted in some unit of 2^-20 to 2^20.
-#[derive(Drop)]
+#[derive(Clone, Copy)]
 pub enum Grade {
     Exact,
     Inexact,
 }
 
 // The table's refusals; four name the position of the first entry at fault.
-#[derive(Drop)]
+#[derive(Clone, Copy)]
 pub enum Refusal {
     Variables,
     Lists,
@@ -86,14 +88,14 @@ impl Refusal {
 }
 
 // What a call's tests find: all passed, or the first that failed.
-#[derive(Drop)]
+#[derive(Clone, Copy)]
 pub enum Checked {
     Passed,
     Failed(Refusal),
 }
 
 // What a call on a field answers: done, with the field's grade, or a refusal.
-#[derive(Drop)]
+#[derive(Clone, Copy)]
 pub enum Answer {
     Done(Grade),
     Refused(Refusal),
@@ -112,7 +114,7 @@ impl Answer {
 }
 
 // What a call that counts answers: done, with the field's grade and the count, or a refusal.
-#[derive(Drop)]
+#[derive(Clone, Copy)]
 pub enum Counted {
     Counts(Grade, usize),
     Refuses(Refusal),

@@ -1,6 +1,5 @@
 // The table's tests, and the groups that calls share.
 ghost use Rattle.std.specs.Prelude.{◌≡◌, ◌≤◌, length};
-ghost use Rattle.scratch.specs.Lent.{before};
 ghost use Rattle.field.specs.Field.{given};
 ghost use Rattle.field.specs.Table.{tested};
 ghost use Rattle.field.specs.Tests.{few_variables as few_variables_of, lists_match as lists_match_of, in_order as in_order_of, weights_finite as weights_finite_of, start_fits as start_fits_of, floats_fit as floats_fit_of, words_fit as words_fit_of, shape_tests, loose_tests, open_tests, standard_tests, ready_tests};
@@ -18,7 +17,7 @@ pub fn few_variables(n: usize) -> bool
 
 // Test 2: the three entry lists are of one length, at most 32,768.
 pub fn lists_match(rows: &[u16], cols: &[u16], q: &[f64]) -> bool
-    ensures { result ≡ lists_match_of (before rows) (before cols) (before q) }
+    ensures { result ≡ lists_match_of rows.now cols.now q.now }
 {
     if rows.len() != q.len() {
         return false;
@@ -32,7 +31,7 @@ pub fn lists_match(rows: &[u16], cols: &[u16], q: &[f64]) -> bool
 // 14 to 17
 fn in_order(n: usize, rows: &[u16], cols: &[u16]) -> bool
     requires { length rows.now ≡ length cols.now }
-    ensures { result ≡ in_order_of n (before rows) (before cols) }
+    ensures { result ≡ in_order_of n rows.now cols.now }
 {
     if !ends_below(n, rows) {
         return false;
@@ -45,7 +44,7 @@ fn in_order(n: usize, rows: &[u16], cols: &[u16]) -> bool
 
 // Test 5: every linear weight and every pair weight is finite.
 pub fn weights_finite(c: &[f64], q: &[f64]) -> bool
-    ensures { result ≡ weights_finite_of (before c) (before q) }
+    ensures { result ≡ weights_finite_of c.now q.now }
 {
     if !all_finite(c) {
         return false;
@@ -55,7 +54,7 @@ pub fn weights_finite(c: &[f64], q: &[f64]) -> bool
 
 // Test 6: the start values are n bytes, none of them above 2.
 pub fn start_fits(n: usize, start: &[u8]) -> bool
-    ensures { result ≡ start_fits_of n (before start) }
+    ensures { result ≡ start_fits_of n start.now }
 {
     if start.len() != n {
         return false;
@@ -119,7 +118,7 @@ pub fn admitted(
     floats: usize,
     words: usize,
 ) -> Checked
-    ensures { result ≡ tested (open_tests (given c rows cols q) (before start) floats words) }
+    ensures { result ≡ tested (open_tests (given c rows cols q) start.now floats words) }
 {
     let shaped = loose(c, rows, cols, q);
     if let Checked::Failed(refusal) = shaped {
@@ -139,7 +138,7 @@ pub fn admitted(
 
 // Makes tests 1, 2, 14 to 17, and 4 to 6, in this order; the first that fails is answered.
 pub fn standard(c: &[f64], rows: &[u16], cols: &[u16], q: &[f64], start: &[u8]) -> Checked
-    ensures { result ≡ tested (standard_tests (given c rows cols q) (before start)) }
+    ensures { result ≡ tested (standard_tests (given c rows cols q) start.now) }
 {
     let shaped = shape(c, rows, cols, q);
     if let Checked::Failed(refusal) = shaped {
@@ -167,7 +166,7 @@ pub fn ready(
     floats: usize,
     words: usize,
 ) -> Checked
-    ensures { result ≡ tested (ready_tests (given c rows cols q) (before start) floats words) }
+    ensures { result ≡ tested (ready_tests (given c rows cols q) start.now floats words) }
 {
     let sound = standard(c, rows, cols, q, start);
     if let Checked::Failed(refusal) = sound {

@@ -1,11 +1,10 @@
 // Tests at every weight of a list.
 ghost use Rattle.std.specs.Prelude.{◌≡◌, true, length};
-ghost use Rattle.scratch.specs.Lent.{before};
 ghost use Rattle.field.specs.Tests.{all_finite as all_finite_of};
 ghost use Rattle.field.specs.Measure.{Lesser, Greater, Measured};
 
 // What the grade reads of a list of weights: all are whole in the units below `beyond`, and the largest has the bits `size`.
-#[derive(Drop)]
+#[derive(Clone, Copy)]
 pub struct Measure {
     pub beyond: u64,
     pub size: u64,
@@ -13,7 +12,7 @@ pub struct Measure {
 
 // Whether every weight of the slice is finite; all are looked at, whatever the first ones are.
 pub fn all_finite(w: &[f64]) -> bool
-    ensures { result ≡ all_finite_of (before w) }
+    ensures { result ≡ all_finite_of w.now }
 {
     let mut fine = true;
     for k in 0..w.len() {
@@ -39,7 +38,7 @@ pub fn greater(a: u64, b: u64) -> u64
 // One pass, with no branch on a weight's sign or on a zero. It stops at a weight that is whole in no unit of the 41.
 pub fn measured(w: &[f64]) -> Measure
     requires { all_finite_of w.now ≡ true }
-    ensures { Measured (before w) (length (before w)) result.beyond result.size }
+    ensures { Measured w.now (length w.now) result.beyond result.size }
 {
     let mut beyond: u64 = 4096;
     let mut size: u64 = 0;

@@ -1,7 +1,6 @@
 // What is found goes into the u32 scratch: probe values into a region, numbers of constraints behind those gathered.
 ghost use Rattle.std.specs.Prelude.{◌≡◌, ◌+◌, ◌<◌, ◌≤◌, length, get_or};
 ghost use Rattle.std.proofs.Math.Seq.{paste};
-ghost use Rattle.scratch.specs.Lent.{before, after};
 ghost use Rattle.scratch.specs.Region.{region};
 ghost use Rattle.finding.specs.Emit.{lay_to, Layable, bench, entered, emit_at, emit_of, emit_to, Emits, Emittable};
 ghost use Rattle.probe.specs.Found.{found};
@@ -13,7 +12,7 @@ use scratch::wide_word;
 pub fn keep(u: &mut [u32], from: usize, count: usize, kept: usize)
     requires count_bound { from + count ≤ kept }
     requires count_in_bounds { kept + count ≤ length u.old }
-    ensures { after u ≡ paste (before u) kept (region from count (before u)) count }
+    ensures { u.new ≡ paste u.old kept (region from count u.old) count }
 {
     for p in 0..count {
         u[kept + p] = u[from + p];
@@ -23,7 +22,7 @@ pub fn keep(u: &mut [u32], from: usize, count: usize, kept: usize)
 // The values of the variables of a list go into the words from `first` on.
 pub fn lay(values: &[u8], u: &mut [u32], from: usize, count: usize, first: usize)
     requires { Layable values.now u.old from count first }
-    ensures { after u ≡ lay_to (before values) from first (before u) count }
+    ensures { u.new ≡ lay_to values.now from first u.old count }
 {
     for p in 0..count {
         let j = wide_word(u[from + p]);
@@ -37,7 +36,7 @@ fn enter(u: &mut [u32], i: u16, j: u16, v: u32, w: u32, place: usize, end: usize
     requires j_bound { j < 4096 }
     requires place_in_bounds { place < length u.old }
     requires end_in_bounds { end < length u.old }
-    ensures { bench (after u) result ≡ entered (found i j v w) place (bench (before u) end) }
+    ensures { bench u.new result ≡ entered (found i j v w) place (bench u.old end) }
 {
     let key = number(i, j, v, w);
     u[place] = winner(i, j, v, w, u[place]);
@@ -58,7 +57,7 @@ pub fn emit(
 ) -> usize
     requires emits { Emits start.now values.now u.old i j first at }
     requires end_in_bounds { end < length u.old }
-    ensures { bench (after u) result ≡ emit_at (before start) (before values) i first at (bench (before u) end) j }
+    ensures { bench u.new result ≡ emit_at start.now values.now i first at (bench u.old end) j }
 {
     let probed = i as u16;
     let other = j as u16;
@@ -81,7 +80,7 @@ fn emit_from(
 ) -> usize
     requires emits { Emits start.now values.now u.old i j first at }
     requires end_in_bounds { least ≤ get_or values.now j 0 → end < length u.old }
-    ensures { bench (after u) result ≡ emit_of (before start) (before values) i least first at (bench (before u) end) j }
+    ensures { bench u.new result ≡ emit_of start.now values.now i least first at (bench u.old end) j }
 {
     if values[j] < least {
         return end;
@@ -103,7 +102,7 @@ pub fn emit_list(
     end: usize,
 ) -> usize
     requires { Emittable start.now values.now u.old i from count least first at end }
-    ensures { bench (after u) result ≡ emit_to (before start) (before values) i from least first at (bench (before u) end) count }
+    ensures { bench u.new result ≡ emit_to start.now values.now i from least first at (bench u.old end) count }
 {
     let mut last = end;
     for p in 0..count {

@@ -1,7 +1,6 @@
 // Two rising lists into one: the records at the front of the answer list, and the numbers in a part of scratch. What is held is not walked: the
 // place of each number is found by a search, and the records between two places are moved as one block.
 ghost use Rattle.std.specs.Prelude.{◌≡◌, ◌+◌, ◌*◌, ◌-◌, ◌<◌, ◌≤◌, length, get_or};
-ghost use Rattle.scratch.specs.Lent.{before, after};
 ghost use Rattle.constraints.specs.Record.{record_at, room, filled};
 ghost use Rattle.constraints.specs.Keys.{key_of, Small};
 ghost use Rattle.found.specs.Joint.{Held, Climbed, joint, NoneAbove, Between, Taking};
@@ -12,7 +11,7 @@ use crate::blocks::move_up;
 use constraints::keys::number;
 
 // The number of the last pair of both lists, and how many records are left without it.
-#[derive(Drop)]
+#[derive(Clone, Copy)]
 struct Taken {
     key: u32,
     items: usize,
@@ -22,7 +21,7 @@ struct Taken {
 fn key_at(list: &[u16], t: usize) -> u32
     requires t_in_bounds { 3 * t + 2 < length list.now }
     requires small { Small (record_at list.now t) }
-    ensures { result ≡ key_of (record_at (before list) t) }
+    ensures { result ≡ key_of (record_at list.now t) }
 {
     let i = 3 * t;
     number(list[i], list[i + 1], list[i + 2])
@@ -32,7 +31,7 @@ fn key_at(list: &[u16], t: usize) -> u32
 fn search(list: &[u16], low: usize, high: usize, y: u32) -> usize
     requires held { Held high list.now }
     requires between { Between low high high y list.now }
-    ensures { Between result result high y (before list) }
+    ensures { Between result result high y list.now }
 {
     let mut from = low;
     let mut to = high;
@@ -50,7 +49,7 @@ fn search(list: &[u16], low: usize, high: usize, y: u32) -> usize
 // The first of the first `items` records whose pair is above that of the number y: by steps from the end that double.
 fn gallop(list: &[u16], items: usize, y: u32) -> usize
     requires { Held items list.now }
-    ensures { Between result result items y (before list) }
+    ensures { Between result result items y list.now }
 {
     let mut high = items;
     let mut step = 1;
@@ -70,7 +69,7 @@ fn take_last(list: &[u16], items: usize, u: &[u32], lo: usize, keys: usize) -> T
     requires climbed { Climbed lo keys u.now }
     requires lo_lt_keys { lo < keys }
     requires none_above { NoneAbove items (get_or u.now (keys - 1) 0) list.now }
-    ensures { Taking items lo keys (before list) (before u) result.key result.items (keys - 1) }
+    ensures { Taking items lo keys list.now u.now result.key result.items (keys - 1) }
 {
     let y = u[keys - 1];
     if items == 0 {
@@ -97,7 +96,7 @@ fn take_last(list: &[u16], items: usize, u: &[u32], lo: usize, keys: usize) -> T
 fn count(list: &[u16], held: usize, u: &[u32], lo: usize, hi: usize) -> usize
     requires held { Held held list.now }
     requires climbed { Climbed lo hi u.now }
-    ensures { result ≡ length (joint held lo hi (before list) (before u)) }
+    ensures { result ≡ length (joint held lo hi list.now u.now) }
 {
     let mut items = held;
     let mut keys = hi;
@@ -118,7 +117,7 @@ fn lay(list: &mut [u16], held: usize, u: &[u32], lo: usize, hi: usize, total: us
     requires climbed { Climbed lo hi u.now }
     requires total_value { total ≡ length (joint held lo hi list.old u.now) }
     requires total_bound { total ≤ room list.old }
-    ensures { after list ≡ filled (joint held lo hi (before list) (before u)) (before list) }
+    ensures { list.new ≡ filled (joint held lo hi list.old u.now) list.old }
 {
     let mut items = held;
     let mut keys = hi;
@@ -138,7 +137,7 @@ fn lay(list: &mut [u16], held: usize, u: &[u32], lo: usize, hi: usize, total: us
 pub fn merge(list: &mut [u16], held: usize, u: &[u32], lo: usize, hi: usize) -> Merged
     requires held { Held held list.old }
     requires climbed { Climbed lo hi u.now }
-    ensures { left result (after list) (before u) ≡ settled (joint held lo hi (before list) (before u)) (before list) (before u) }
+    ensures { left result list.new u.now ≡ settled (joint held lo hi list.old u.now) list.old u.now }
 {
     let total = count(list, held, u, lo, hi);
     if total > list.len() / 3 {

@@ -1,7 +1,6 @@
 // Lists of values: counted, and laid over one another.
 ghost use Rattle.std.specs.Prelude.{◌≡◌, ◌+◌, ◌≤◌, length};
 ghost use Rattle.meaning.specs.Free.{frees};
-ghost use Rattle.scratch.specs.Lent.{before, after};
 ghost use Rattle.scratch.specs.Region.{region};
 ghost use Rattle.heavy.specs.Rounds.{laid_at, laid_over};
 
@@ -9,7 +8,7 @@ use ranking::listing::step;
 
 // How many values are free.
 pub fn count_free(values: &[u8]) -> usize
-    ensures { result ≡ frees (before values) }
+    ensures { result ≡ frees values.now }
 {
     let mut count = 0;
     for i in 0..values.len() {
@@ -34,7 +33,7 @@ fn laid(w: u32, v: u8) -> u8
 // The values that stand in the words from `at` on go over the values.
 pub fn lay(values: &mut [u8], u: &[u32], at: usize)
     requires { at + length values.old ≤ length u.now }
-    ensures { after values ≡ laid_over (region at (length (before values)) (before u)) (before values) }
+    ensures { values.new ≡ laid_over (region at (length values.old) u.now) values.old }
 {
     for j in 0..values.len() {
         values[j] = laid(u[at + j], values[j]);

@@ -1,6 +1,5 @@
 // The values of a full probe, left in the words; the places stay.
 ghost use Rattle.std.specs.Prelude.{◌≡◌, ◌+◌, ◌≤◌, length};
-ghost use Rattle.scratch.specs.Lent.{before, after};
 ghost use Rattle.field.specs.Field.{lent, given, variables};
 ghost use Rattle.field.specs.Tests.{Ready};
 ghost use Rattle.field.specs.Grade.{grade_of};
@@ -32,7 +31,7 @@ fn walk_free(
     requires remembers { Remembers (lent c rows cols q) start.now f.old u.old known }
     requires values_value { values.old ≡ start.now }
     requires q_in_bounds { gather_at (lent c rows cols q) + variables (lent c rows cols q) ≤ length u.old }
-    ensures { AllProbed (given c rows cols q) (before start) (after u) }
+    ensures { AllProbed (given c rows cols q) start.now u.new }
 {
     let n = c.len();
     let first = n + 1 + 2 * rows.len() + n + n;
@@ -57,7 +56,7 @@ pub fn probe_values(
     requires values_len { length values.old ≡ variables (lent c rows cols q) }
     requires grade_value { grade ≡ grade_of (lent c rows cols q) }
     requires adjacent { Adjacent (variables (lent c rows cols q)) rows.now cols.now u.old }
-    ensures { AllProbed (given c rows cols q) (before start) (after u) }
+    ensures { AllProbed (given c rows cols q) start.now u.new }
 {
     copy(start, values);
     let known = remember(c, rows, cols, q, start, values, f, u, grade);

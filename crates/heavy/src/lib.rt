@@ -1,9 +1,10 @@
 // The public call: rounds of preprocess and full probe.
+#![tactic(auto)]
+
 mod bytes;
 mod full;
 
 ghost use Rattle.std.specs.Prelude.{◌≡◌, length};
-ghost use Rattle.scratch.specs.Lent.{before, after};
 ghost use Rattle.field.specs.Field.{lent, given, variables};
 ghost use Rattle.field.specs.Tests.{Ready};
 ghost use Rattle.field.specs.Grade.{grade_of};
@@ -33,7 +34,7 @@ fn round(
     requires probed_len { length probed.old ≡ variables (lent c rows cols q) }
     requires grade_value { grade ≡ grade_of (lent c rows cols q) }
     requires adjacent { Adjacent (variables (lent c rows cols q)) rows.now cols.now u.old }
-    ensures { Rounded (given c rows cols q) (before values) (after values) (after u) }
+    ensures { Rounded (given c rows cols q) values.old values.new u.new }
 {
     let n = c.len();
     let at = n + 1 + 2 * rows.len() + n + n + n;
@@ -61,7 +62,7 @@ fn rounds(
     requires probed_len { length probed.old ≡ variables (lent c rows cols q) }
     requires grade_value { grade ≡ grade_of (lent c rows cols q) }
     requires adjacent { Adjacent (variables (lent c rows cols q)) rows.now cols.now u.old }
-    ensures { after values ≡ heavy_of (given c rows cols q) (before values) }
+    ensures { values.new ≡ heavy_of (given c rows cols q) values.old }
 {
     let mut free = count_free(values);
     for k in 0..c.len() {
@@ -90,7 +91,7 @@ fn work(
 )
     requires ready { Ready (lent c rows cols q) values.old (length f.old) (length u.old) }
     requires grade_value { grade ≡ grade_of (lent c rows cols q) }
-    ensures { after values ≡ heavy_of (given c rows cols q) (before values) }
+    ensures { values.new ≡ heavy_of (given c rows cols q) values.old }
 {
     let mut probed = [2; 4096];
     places::build(u, rows, cols, c.len());
@@ -117,7 +118,7 @@ pub fn heavy(
     f: &mut [f64],
     u: &mut [u32],
 ) -> Answer
-    ensures { left result (after start) (after f) (after u) ≡ heavy_call (given c rows cols q) (before start) (before f) (before u) }
+    ensures { left result start.new f.new u.new ≡ heavy_call (given c rows cols q) start.old f.old u.old }
 {
     let checked = field::tests::ready(c, rows, cols, q, start, f.len(), u.len());
     if let Checked::Failed(refusal) = checked {

@@ -1,6 +1,7 @@
 // A case of the record: it is made, the operations of a script are made in it, and it is closed from.
+#![tactic(auto)]
+
 ghost use Rattle.std.specs.Prelude.{◌+◌, ◌≤◌, length};
-ghost use Rattle.scratch.specs.Lent.{after};
 
 use lines::outcomes::{answered, checked, counted};
 use lines::recorded::{put_closing, put_record, put_unmade};
@@ -40,7 +41,7 @@ fn operate(
 
 // Between two numbers stands a comma.
 fn put_next(out: &mut [u8], used: usize, number: usize, k: usize) -> usize
-    ensures { result ≤ length (after out) }
+    ensures { result ≤ length out.new }
 {
     if k == 0 {
         return put_number(out, used, number);
@@ -62,7 +63,7 @@ fn put_each(
     strict: &mut u32,
     script: &[u16],
 ) -> usize
-    ensures { result ≤ length (after out) }
+    ensures { result ≤ length out.new }
 {
     let mut at = least(used, out.len());
     let count = script.len() / 3;
@@ -92,7 +93,7 @@ fn put_operations(
     strict: &mut u32,
     script: &[u16],
 ) -> usize
-    ensures { result ≤ length (after out) }
+    ensures { result ≤ length out.new }
 {
     let named = put_text(out, used, b" operations=");
     if script.len() < 3 {
@@ -119,7 +120,7 @@ fn keep_in_field(
     used: usize,
 ) -> usize
     requires { at + length values.old ≤ length contents.now }
-    ensures { result ≤ length (after out) }
+    ensures { result ≤ length out.new }
 {
     let mut strict = WORD;
     let made = answered(kept::make(c, rows, cols, q, values, bounds, &mut strict, f, u));
@@ -166,7 +167,7 @@ pub fn answer_keep(
     used: usize,
 ) -> usize
     requires { at + length values.old ≤ length contents.now }
-    ensures { result ≤ length (after out) }
+    ensures { result ≤ length out.new }
 {
     let mut bounds = [FLOAT; BOUNDS];
     let count = least(room, BOUNDS);

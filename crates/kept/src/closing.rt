@@ -1,6 +1,5 @@
 // What the closing call does past its tests.
 ghost use Rattle.std.specs.Prelude.{◌≡◌, length};
-ghost use Rattle.scratch.specs.Lent.{before, after};
 ghost use Rattle.field.specs.Field.{lent, given, variables};
 ghost use Rattle.run.specs.Run.{flat_rows};
 ghost use Rattle.kept.specs.Calls.{Lendable, run_from};
@@ -21,8 +20,8 @@ pub fn work(
 ) -> usize
     requires lendable { Lendable (lent c rows cols q) values.now (length bounds.now) (length f.old) (length u.old) }
     requires list_len { length list.old ≡ variables (lent c rows cols q) }
-    ensures list_value { after list ≡ (run_from (given c rows cols q) (before values) (before bounds)).values }
-    ensures value { result ≡ flat_rows (run_from (given c rows cols q) (before values) (before bounds)) }
+    ensures list_value { list.new ≡ (run_from (given c rows cols q) values.now bounds.now).values }
+    ensures value { result ≡ flat_rows (run_from (given c rows cols q) values.now bounds.now) }
 {
     probe::values::copy(values, list);
     copy_bounds(bounds, f);

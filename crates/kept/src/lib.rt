@@ -1,4 +1,6 @@
 // The public calls: a record of every free variable's bounds is made, kept as variables are pinned and released, and closed from.
+#![tactic(auto)]
+
 mod closing;
 mod making;
 mod search;
@@ -7,7 +9,6 @@ mod testing;
 mod turning;
 
 ghost use Rattle.std.specs.Prelude.{◌≡◌};
-ghost use Rattle.scratch.specs.Lent.{before, after};
 ghost use Rattle.field.specs.Field.{given};
 ghost use Rattle.calls.specs.Call as any;
 ghost use Rattle.kept.specs.Kept.{kept};
@@ -27,7 +28,7 @@ pub fn make(
     f: &mut [f64],
     u: &mut [u32],
 ) -> Answer
-    ensures { left result (after bounds) (after strict) (after f) (after u) ≡ make_call (given c rows cols q) (before values) (before bounds) (before strict) (before f) (before u) }
+    ensures { left result bounds.new strict.new f.new u.new ≡ make_call (given c rows cols q) values.now bounds.old strict.old f.old u.old }
 {
     let checked = testing::lendable(c, rows, cols, q, values, bounds.len(), f.len(), u.len());
     if let Checked::Failed(refusal) = checked {
@@ -56,7 +57,7 @@ pub fn pin(
     variable: usize,
     value: u8,
 ) -> Checked
-    ensures { any.left result (kept (after values) (after bounds) (after strict)) ≡ pin_call (given c rows cols q) (kept (before values) (before bounds) (before strict)) variable value }
+    ensures { any.left result (kept values.new bounds.new strict.new) ≡ pin_call (given c rows cols q) (kept values.old bounds.old strict.old) variable value }
 {
     let checked = testing::pinnable(c, rows, cols, q, values, bounds.len(), variable, value);
     if let Checked::Failed(refusal) = checked {
@@ -77,7 +78,7 @@ pub fn release(
     strict: &mut u32,
     variable: usize,
 ) -> Checked
-    ensures { any.left result (kept (after values) (after bounds) (after strict)) ≡ release_call (given c rows cols q) (kept (before values) (before bounds) (before strict)) variable }
+    ensures { any.left result (kept values.new bounds.new strict.new) ≡ release_call (given c rows cols q) (kept values.old bounds.old strict.old) variable }
 {
     let checked = testing::releasable(c, rows, cols, q, values, bounds.len(), variable);
     if let Checked::Failed(refusal) = checked {
@@ -99,7 +100,7 @@ pub fn close(
     f: &mut [f64],
     u: &mut [u32],
 ) -> Counted
-    ensures { closed result (after list) (after f) (after u) ≡ close_call (given c rows cols q) (before values) (before bounds) (before list) (before f) (before u) }
+    ensures { closed result list.new f.new u.new ≡ close_call (given c rows cols q) values.now bounds.now list.old f.old u.old }
 {
     let checked = testing::lendable(c, rows, cols, q, values, bounds.len(), f.len(), u.len());
     if let Checked::Failed(refusal) = checked {

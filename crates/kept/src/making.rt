@@ -1,6 +1,5 @@
 // What the making call does past its tests.
 ghost use Rattle.std.specs.Prelude.{◌≡◌, ◌+◌, length};
-ghost use Rattle.scratch.specs.Lent.{before, after};
 ghost use Rattle.field.specs.Field.{lent, given, variables};
 ghost use Rattle.field.specs.Tests.{Loose};
 ghost use Rattle.field.specs.Grade.{is_exact_of};
@@ -35,7 +34,7 @@ pub fn begin(
 ) -> u32
     requires fillable { Fillable (lent c rows cols q) values.now f.old }
     requires bounds_len { length bounds.old ≡ variables (lent c rows cols q) + variables (lent c rows cols q) }
-    ensures { kept (before values) (after bounds) result ≡ model.made (given c rows cols q) (before values) }
+    ensures { kept values.now bounds.new result ≡ model.made (given c rows cols q) values.now }
 {
     rows::fill::fill(c, rows, cols, q, values, f);
     store_rows(values, f, bounds);

@@ -1,6 +1,5 @@
 // The entries of a variable, found without places: whole blocks of entries that are none of its own are passed over at once.
 ghost use Rattle.std.specs.Prelude.{◌≡◌, not, ◌||◌, ◌+◌, ◌≤◌, eqb, length};
-ghost use Rattle.scratch.specs.Lent.{before};
 ghost use Rattle.scratch.specs.All.{all_below};
 ghost use Rattle.kept.specs.Kept.{meets};
 ghost use Rattle.kept.specs.Next.{Skipped, Next};
@@ -16,7 +15,7 @@ fn is_apart(row: u16, col: u16, i: u16) -> bool
 fn block_apart(rows: &[u16], cols: &[u16], i: u16, from: usize) -> bool
     requires rows_len { length rows.now ≡ length cols.now }
     requires from_in_bounds { from + 64 ≤ length rows.now }
-    ensures { result ≡ all_below (λ k. not (meets (before rows) (before cols) i (from + k))) 64 }
+    ensures { result ≡ all_below (λ k. not (meets rows.now cols.now i (from + k))) 64 }
 {
     let mut apart = true;
     for k in 0..64 {
@@ -31,7 +30,7 @@ fn skip(rows: &[u16], cols: &[u16], i: u16, from: usize) -> usize
     requires rows_len { length rows.now ≡ length cols.now }
     requires rows_len_bound { length rows.now ≤ 32768 }
     requires from_in_bounds { from ≤ length rows.now }
-    ensures { Skipped (before rows) (before cols) i from result }
+    ensures { Skipped rows.now cols.now i from result }
 {
     let mut k = from;
     while k + 64 <= rows.len() {
@@ -48,7 +47,7 @@ pub fn next_entry(rows: &[u16], cols: &[u16], i: u16, from: usize) -> usize
     requires rows_len { length rows.now ≡ length cols.now }
     requires rows_len_bound { length rows.now ≤ 32768 }
     requires from_in_bounds { from ≤ length rows.now }
-    ensures { Next (before rows) (before cols) i from result }
+    ensures { Next rows.now cols.now i from result }
 {
     let mut k = skip(rows, cols, i, from);
     while k < rows.len() {

@@ -1,6 +1,5 @@
 // Rows as the record holds them, and how many of them are strict.
 ghost use Rattle.std.specs.Prelude.{◌≡◌, cond, ◌&&◌, ◌+◌, ◌≤◌, eqb, length, get_or};
-ghost use Rattle.scratch.specs.Lent.{before, after};
 ghost use Rattle.scratch.specs.Over.{over};
 ghost use Rattle.rows.specs.Row.{is_strict};
 ghost use Rattle.rows.specs.Stored.{row_on, Written};
@@ -34,8 +33,8 @@ pub fn stored_row(value: u8, row: Row) -> Row
 pub fn store_rows(values: &[u8], f: &[f64], bounds: &mut [f64])
     requires values_in_bounds { length values.now + length values.now ≤ length f.now }
     requires bounds_len { length bounds.old ≡ length values.now + length values.now }
-    ensures { Written (length (before values)) (λ t. model.stored_row (get_or (before values) t 0) (row_on (before f) (length (before values)) t))
-        (before bounds) (after bounds) (length (before values)) }
+    ensures { Written (length values.now) (λ t. model.stored_row (get_or values.now t 0) (row_on f.now (length values.now) t))
+        bounds.old bounds.new (length values.now) }
 {
     let n = values.len();
     for t in 0..n {
@@ -55,7 +54,7 @@ fn strict_at(value: u8, row: Row) -> u32
 pub fn strict_rows(values: &[u8], bounds: &[f64]) -> u32
     requires values_len_bound { length values.now ≤ 4096 }
     requires bounds_len { length bounds.now ≡ length values.now + length values.now }
-    ensures { result ≡ model.strict_to (before values) (before bounds) (length (before values)) }
+    ensures { result ≡ model.strict_to values.now bounds.now (length values.now) }
 {
     let n = values.len();
     let mut strict: u32 = 0;
@@ -68,7 +67,7 @@ pub fn strict_rows(values: &[u8], bounds: &[f64]) -> u32
 // Copies the bounds of a record to the front of f, where a run has its rows.
 pub fn copy_bounds(bounds: &[f64], f: &mut [f64])
     requires { length bounds.now ≤ length f.old }
-    ensures { after f ≡ over (before bounds) (before f) }
+    ensures { f.new ≡ over bounds.now f.old }
 {
     for i in 0..bounds.len() {
         f[i] = bounds[i];

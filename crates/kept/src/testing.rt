@@ -1,6 +1,5 @@
 // The tests of the four calls.
 ghost use Rattle.std.specs.Prelude.{◌≡◌, length};
-ghost use Rattle.scratch.specs.Lent.{before};
 ghost use Rattle.field.specs.Field.{given};
 ghost use Rattle.field.specs.Table.{tested};
 ghost use Rattle.kept.specs.Calls.{record_tests, lent_tests, may_pin as may_pin_of, pin_tests, may_release as may_release_of, release_tests};
@@ -16,7 +15,7 @@ fn recorded(
     values: &[u8],
     bounds: usize,
 ) -> Checked
-    ensures { result ≡ tested (record_tests (given c rows cols q) (before values) bounds) }
+    ensures { result ≡ tested (record_tests (given c rows cols q) values.now bounds) }
 {
     let sound = field::tests::standard(c, rows, cols, q, values);
     if let Checked::Failed(refusal) = sound {
@@ -39,7 +38,7 @@ pub fn lendable(
     floats: usize,
     words: usize,
 ) -> Checked
-    ensures { result ≡ tested (lent_tests (given c rows cols q) (before values) bounds floats words) }
+    ensures { result ≡ tested (lent_tests (given c rows cols q) values.now bounds floats words) }
 {
     let checked = recorded(c, rows, cols, q, values, bounds);
     if let Checked::Failed(refusal) = checked {
@@ -57,7 +56,7 @@ pub fn lendable(
 // 7, of a variable to pin and its value
 fn may_pin(n: usize, values: &[u8], variable: usize, value: u8) -> bool
     requires { length values.now ≡ n }
-    ensures { result ≡ may_pin_of n (before values) variable value }
+    ensures { result ≡ may_pin_of n values.now variable value }
 {
     if variable >= n {
         return false;
@@ -71,7 +70,7 @@ fn may_pin(n: usize, values: &[u8], variable: usize, value: u8) -> bool
 // 7, of a variable to release
 fn may_release(n: usize, values: &[u8], variable: usize) -> bool
     requires { length values.now ≡ n }
-    ensures { result ≡ may_release_of n (before values) variable }
+    ensures { result ≡ may_release_of n values.now variable }
 {
     if variable >= n {
         return false;
@@ -90,7 +89,7 @@ pub fn pinnable(
     variable: usize,
     value: u8,
 ) -> Checked
-    ensures { result ≡ tested (pin_tests (given c rows cols q) (before values) bounds variable value) }
+    ensures { result ≡ tested (pin_tests (given c rows cols q) values.now bounds variable value) }
 {
     let checked = recorded(c, rows, cols, q, values, bounds);
     if let Checked::Failed(refusal) = checked {
@@ -112,7 +111,7 @@ pub fn releasable(
     bounds: usize,
     variable: usize,
 ) -> Checked
-    ensures { result ≡ tested (release_tests (given c rows cols q) (before values) bounds variable) }
+    ensures { result ≡ tested (release_tests (given c rows cols q) values.now bounds variable) }
 {
     let checked = recorded(c, rows, cols, q, values, bounds);
     if let Checked::Failed(refusal) = checked {

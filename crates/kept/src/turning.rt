@@ -1,6 +1,5 @@
 // The value of a variable changes: the rows of its free neighbours are turned, and its own is worked out afresh.
 ghost use Rattle.std.specs.Prelude.{◌≡◌, true, ◌<◌, ◌≤◌, length};
-ghost use Rattle.scratch.specs.Lent.{before, after};
 ghost use Rattle.field.specs.Field.{given, lent, variables, entries};
 ghost use Rattle.field.specs.Tests.{Sound};
 ghost use Rattle.rows.specs.Model.{row_of};
@@ -29,7 +28,7 @@ fn turn_at(
     requires recorded { Recorded (lent c rows cols q) values.now (length bounds.old) }
     requires k_bound { k < entries (lent c rows cols q) }
     requires k_value { meets rows.now cols.now i k ≡ true }
-    ensures { after bounds ≡ model.turn_at (given c rows cols q) (before values) i old new (before bounds) k }
+    ensures { bounds.new ≡ model.turn_at (given c rows cols q) values.now i old new bounds.old k }
 {
     let n = c.len();
     let t = places::other_end(rows, cols, i, k);
@@ -56,7 +55,7 @@ fn turn_rows(
 )
     requires recorded { Recorded (lent c rows cols q) values.now (length bounds.old) }
     requires i_bound { i < variables (lent c rows cols q) }
-    ensures { after bounds ≡ model.turn_to (given c rows cols q) (before values) i old new (before bounds) (entries (given c rows cols q)) }
+    ensures { bounds.new ≡ model.turn_to (given c rows cols q) values.now i old new bounds.old (entries (given c rows cols q)) }
 {
     let short = i as u16;
     let mut k = next_entry(rows, cols, short, 0);
@@ -70,7 +69,7 @@ fn turn_rows(
 fn own_row(c: &[f64], rows: &[u16], cols: &[u16], q: &[f64], values: &[u8], i: usize) -> Row
     requires sound { Sound (lent c rows cols q) values.now }
     requires i_bound { i < variables (lent c rows cols q) }
-    ensures { result ≡ row_of (given c rows cols q) (before values) i }
+    ensures { result ≡ row_of (given c rows cols q) values.now i }
 {
     let short = i as u16;
     let mut row = Row::start(c[i]);
@@ -87,7 +86,7 @@ fn own_row(c: &[f64], rows: &[u16], cols: &[u16], q: &[f64], values: &[u8], i: u
 fn afresh(c: &[f64], rows: &[u16], cols: &[u16], q: &[f64], values: &[u8], i: usize) -> Row
     requires sound { Sound (lent c rows cols q) values.now }
     requires i_bound { i < variables (lent c rows cols q) }
-    ensures { result ≡ model.afresh (given c rows cols q) (before values) i }
+    ensures { result ≡ model.afresh (given c rows cols q) values.now i }
 {
     let value = values[i];
     if value != 2 {
@@ -110,7 +109,7 @@ pub fn change(
     requires recorded { Recorded (lent c rows cols q) values.old (length bounds.old) }
     requires i_bound { i < variables (lent c rows cols q) }
     requires value_bound { value ≤ 2 }
-    ensures { kept (after values) (after bounds) result ≡ model.changed (given c rows cols q) i value (kept (before values) (before bounds) 0) }
+    ensures { kept values.new bounds.new result ≡ model.changed (given c rows cols q) i value (kept values.old bounds.old 0) }
 {
     let n = c.len();
     let old = values[i];

@@ -1,6 +1,5 @@
 // The line of the call that asks what constraints allow.
 ghost use Rattle.std.specs.Prelude.{◌≤◌, length};
-ghost use Rattle.scratch.specs.Lent.{after};
 
 use crate::{BYTE, LONG, is_early, put_bytes_left, put_items, put_left, put_words};
 use stream::lists::{all_bytes, all_longs};
@@ -8,7 +7,7 @@ use stream::output::{least, put, put_digits, put_number, put_promise, put_text};
 
 // Yes, or no and the variable.
 fn put_verdict(out: &mut [u8], used: usize, is_yes: bool, variable: usize) -> usize
-    ensures { result ≤ length (after out) }
+    ensures { result ≤ length out.new }
 {
     if is_yes {
         return put_text(out, used, b" yes");
@@ -20,7 +19,7 @@ fn put_verdict(out: &mut [u8], used: usize, is_yes: bool, variable: usize) -> us
 // The values up to `end`, and what is past them.
 fn put_assigned(out: &mut [u8], used: usize, assignment: &[u8], end: usize) -> usize
     requires { end ≤ length assignment.now }
-    ensures { result ≤ length (after out) }
+    ensures { result ≤ length out.new }
 {
     let listed = put_digits(out, used, &assignment[..end]);
     let named = put_text(out, listed, b" past=");
@@ -38,7 +37,7 @@ fn put_found(
     assignment: &[u8],
     counts: &[u16],
 ) -> usize
-    ensures { result ≤ length (after out) }
+    ensures { result ≤ length out.new }
 {
     let told = put_verdict(out, used, is_yes, variable);
     let named = put_text(out, told, b" assignment=");
@@ -57,7 +56,7 @@ fn put_lists_left(
     assignment: &[u8],
     counts: &[u16],
 ) -> usize
-    ensures { result ≤ length (after out) }
+    ensures { result ≤ length out.new }
 {
     let named = put_text(out, used, b" assignment=");
     let assigned = put_bytes_left(out, named, number, assignment);
@@ -66,7 +65,7 @@ fn put_lists_left(
 }
 
 fn put_longs(out: &mut [u8], used: usize, number: u32, w: &[u64]) -> usize
-    ensures { result ≤ length (after out) }
+    ensures { result ≤ length out.new }
 {
     let named = put_text(out, used, b" longs=");
     if is_early(number) {
@@ -88,7 +87,7 @@ fn put_lists(
     assignment: &[u8],
     counts: &[u16],
 ) -> usize
-    ensures { result ≤ length (after out) }
+    ensures { result ≤ length out.new }
 {
     if number == 0 {
         return put_found(out, used, is_yes, variable, n, assignment, counts);
@@ -109,7 +108,7 @@ pub fn put_allowed(
     w: &[u64],
     u: &[u32],
 ) -> usize
-    ensures { result ≤ length (after out) }
+    ensures { result ≤ length out.new }
 {
     let begun = put_number(out, used, scratch::wide_word(number));
     let listed = put_lists(out, begun, number, is_yes, variable, n, assignment, counts);

@@ -1,4 +1,6 @@
 // The words of an answer's line, in the order of docs/CASES.md, and which call has which.
+#![tactic(auto)]
+
 pub mod allowed;
 pub mod outcomes;
 mod reasoned;
@@ -7,7 +9,6 @@ pub mod reduced;
 pub mod shifted;
 
 ghost use Rattle.std.specs.Prelude.{◌≡◌, ◌+◌, ◌≤◌, length};
-ghost use Rattle.scratch.specs.Lent.{after};
 ghost use Rattle.lines.specs.Outcomes.{among};
 
 use crate::reasoned::put_reason;
@@ -107,7 +108,7 @@ pub const SHORT: u16 = 42_405;
 
 // What a call answered: the number, and on 0 the grade, the count of items, the count of pairs, of the smaller problem and of a mended list its entries, and a reason's ground,
 // unit and bound; on 14 to 17 the count is a position. A ground is 0 given, 1 lower, 2 upper.
-#[derive(Drop)]
+#[derive(Clone, Copy)]
 pub struct Outcome {
     pub number: u32,
     pub is_exact: bool,
@@ -152,7 +153,7 @@ pub fn is_among(code: u8, first: u8, last: u8) -> bool
 
 // The number and, where there is a field, its grade; the position that a refusal names.
 pub fn put_outcome(out: &mut [u8], used: usize, code: u8, outcome: Outcome) -> usize
-    ensures { result ≤ length (after out) }
+    ensures { result ≤ length out.new }
 {
     if outcome.number == ABSENT {
         return put_text(out, used, b"absent");
@@ -192,7 +193,7 @@ fn put_values(
     start: &[u8],
 ) -> usize
     requires { at + length start.now ≤ length contents.now }
-    ensures { result ≤ length (after out) }
+    ensures { result ≤ length out.new }
 {
     if !has_values(code) {
         return least(used, out.len());
@@ -207,7 +208,7 @@ fn put_values(
 
 // Writes ` count=` and the number of items that a call answered.
 pub fn put_count(out: &mut [u8], used: usize, count: usize) -> usize
-    ensures { result ≤ length (after out) }
+    ensures { result ≤ length out.new }
 {
     let named = put_text(out, used, b" count=");
     put_number(out, named, count)
@@ -215,7 +216,7 @@ pub fn put_count(out: &mut [u8], used: usize, count: usize) -> usize
 
 // The flat rows that the closure counts.
 fn put_flat(out: &mut [u8], used: usize, code: u8, outcome: Outcome) -> usize
-    ensures { result ≤ length (after out) }
+    ensures { result ≤ length out.new }
 {
     if code != CLOSURE {
         return least(used, out.len());
@@ -227,7 +228,7 @@ fn put_flat(out: &mut [u8], used: usize, code: u8, outcome: Outcome) -> usize
 }
 
 fn put_pairs(out: &mut [u8], used: usize, code: u8, outcome: Outcome) -> usize
-    ensures { result ≤ length (after out) }
+    ensures { result ≤ length out.new }
 {
     if code != PAIRS {
         return least(used, out.len());
@@ -265,7 +266,7 @@ fn leaves_list(number: u32) -> bool {
 
 // An answer list that a refusal left.
 fn put_left(out: &mut [u8], used: usize, number: u32, list: &[u16]) -> usize
-    ensures { result ≤ length (after out) }
+    ensures { result ≤ length out.new }
 {
     if leaves_list(number) {
         let is_kept = all_shorts(list, SHORT);
@@ -278,7 +279,7 @@ fn put_left(out: &mut [u8], used: usize, number: u32, list: &[u16]) -> usize
 // The items of an answer list up to `end`, and what is past them.
 fn put_items(out: &mut [u8], used: usize, list: &[u16], end: usize, in_triples: bool) -> usize
     requires { end ≤ length list.now }
-    ensures { result ≤ length (after out) }
+    ensures { result ≤ length out.new }
 {
     let listed = put_list(out, used, &list[..end], in_triples);
     let named = put_text(out, listed, b" past=");
@@ -295,7 +296,7 @@ pub fn put_answer_list(
     list: &[u16],
     in_triples: bool,
 ) -> usize
-    ensures { result ≤ length (after out) }
+    ensures { result ≤ length out.new }
 {
     if outcome.number > 0 {
         let named = put_text(out, used, name);
@@ -308,7 +309,7 @@ pub fn put_answer_list(
 }
 
 fn put_constraints(out: &mut [u8], used: usize, code: u8, outcome: Outcome, list: &[u16]) -> usize
-    ensures { result ≤ length (after out) }
+    ensures { result ≤ length out.new }
 {
     if !is_among(code, PROBE, PAIRS) {
         return least(used, out.len());
@@ -324,7 +325,7 @@ fn has_variables(code: u8) -> bool {
 }
 
 fn put_variables(out: &mut [u8], used: usize, code: u8, outcome: Outcome, list: &[u16]) -> usize
-    ensures { result ≤ length (after out) }
+    ensures { result ≤ length out.new }
 {
     if !has_variables(code) {
         return least(used, out.len());
@@ -334,7 +335,7 @@ fn put_variables(out: &mut [u8], used: usize, code: u8, outcome: Outcome, list: 
 
 // A list of values that a refusal left.
 fn put_bytes_left(out: &mut [u8], used: usize, number: u32, bytes: &[u8]) -> usize
-    ensures { result ≤ length (after out) }
+    ensures { result ≤ length out.new }
 {
     if is_early(number) {
         let is_kept = all_bytes(bytes, BYTE);
@@ -346,7 +347,7 @@ fn put_bytes_left(out: &mut [u8], used: usize, number: u32, bytes: &[u8]) -> usi
 
 // The found values.
 fn put_found(out: &mut [u8], used: usize, code: u8, number: u32, found: &[u8]) -> usize
-    ensures { result ≤ length (after out) }
+    ensures { result ≤ length out.new }
 {
     if !is_among(code, SINGLE_PROBE, LIMITED_PROBE) {
         return least(used, out.len());
@@ -375,7 +376,7 @@ fn has_floats(code: u8) -> bool {
 }
 
 fn put_floats(out: &mut [u8], used: usize, code: u8, number: u32, f: &[f64]) -> usize
-    ensures { result ≤ length (after out) }
+    ensures { result ≤ length out.new }
 {
     if !has_floats(code) {
         return least(used, out.len());
@@ -390,7 +391,7 @@ fn put_floats(out: &mut [u8], used: usize, code: u8, number: u32, f: &[f64]) -> 
 }
 
 fn put_words(out: &mut [u8], used: usize, number: u32, u: &[u32]) -> usize
-    ensures { result ≤ length (after out) }
+    ensures { result ≤ length out.new }
 {
     let named = put_text(out, used, b" words=");
     if is_early(number) {
@@ -410,7 +411,7 @@ pub fn put_scratch(
     f: &[f64],
     u: &[u32],
 ) -> usize
-    ensures { result ≤ length (after out) }
+    ensures { result ≤ length out.new }
 {
     let floats = put_floats(out, used, code, number, f);
     let words = put_words(out, floats, number, u);
@@ -426,7 +427,7 @@ fn put_answers(
     found: &[u8],
     list: &[u16],
 ) -> usize
-    ensures { result ≤ length (after out) }
+    ensures { result ≤ length out.new }
 {
     let flat = put_flat(out, used, code, outcome);
     let pairs = put_pairs(out, flat, code, outcome);
@@ -462,7 +463,7 @@ pub fn put_line(
     u: &[u32],
 ) -> usize
     requires { at + length start.now ≤ length contents.now }
-    ensures { result ≤ length (after out) }
+    ensures { result ≤ length out.new }
 {
     let shown = shown_as(code);
     let begun = put_outcome(out, used, shown, outcome);

@@ -1,12 +1,11 @@
 // The words of a reason.
 ghost use Rattle.std.specs.Prelude.{◌≤◌, length};
-ghost use Rattle.scratch.specs.Lent.{after};
 
 use crate::{Outcome, REASON};
 use stream::output::{least, put_number, put_text, put_weight};
 
 fn put_ground(out: &mut [u8], used: usize, ground: u8) -> usize
-    ensures { result ≤ length (after out) }
+    ensures { result ≤ length out.new }
 {
     if ground == 0 {
         return put_text(out, used, b" ground=given");
@@ -19,7 +18,7 @@ fn put_ground(out: &mut [u8], used: usize, ground: u8) -> usize
 
 // The ground, the unit and the bound.
 pub fn put_reason(out: &mut [u8], used: usize, code: u8, outcome: Outcome) -> usize
-    ensures { result ≤ length (after out) }
+    ensures { result ≤ length out.new }
 {
     if code != REASON {
         return least(used, out.len());

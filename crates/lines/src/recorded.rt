@@ -1,6 +1,5 @@
 // The words of a record.
 ghost use Rattle.std.specs.Prelude.{◌+◌, ◌≤◌, length};
-ghost use Rattle.scratch.specs.Lent.{after};
 
 use crate::{BYTE, FLOAT, KEEP, Outcome, WORD, put_count, put_outcome, put_scratch};
 use stream::lists::{all_bytes, all_floats, same_bytes};
@@ -8,7 +7,7 @@ use stream::output::{put_digits, put_number, put_promise, put_text, put_weights}
 
 // A record that a refusal left.
 fn put_left(out: &mut [u8], used: usize, bounds: &[f64], strict: u32, found: &[u8]) -> usize
-    ensures { result ≤ length (after out) }
+    ensures { result ≤ length out.new }
 {
     let bounds_kept = all_floats(bounds, FLOAT);
     let found_kept = all_bytes(found, BYTE);
@@ -35,7 +34,7 @@ pub fn put_unmade(
     u: &[u32],
 ) -> usize
     requires { at + length values.now ≤ length contents.now }
-    ensures { result ≤ length (after out) }
+    ensures { result ≤ length out.new }
 {
     let is_kept = same_bytes(contents, at, values);
     let begun = put_outcome(out, used, KEEP, outcome);
@@ -47,7 +46,7 @@ pub fn put_unmade(
 
 // The record as the operations leave it.
 pub fn put_record(out: &mut [u8], used: usize, values: &[u8], bounds: &[f64], strict: u32) -> usize
-    ensures { result ≤ length (after out) }
+    ensures { result ≤ length out.new }
 {
     let named = put_text(out, used, b" values=");
     let valued = put_digits(out, named, values);
@@ -59,7 +58,7 @@ pub fn put_record(out: &mut [u8], used: usize, values: &[u8], bounds: &[f64], st
 
 // The closing call's number, its count and its list.
 fn put_closed(out: &mut [u8], used: usize, outcome: Outcome, found: &[u8]) -> usize
-    ensures { result ≤ length (after out) }
+    ensures { result ≤ length out.new }
 {
     let named = put_text(out, used, b" closing=");
     let numbered = put_number(out, named, scratch::wide_word(outcome.number));
@@ -82,7 +81,7 @@ pub fn put_closing(
     f: &[f64],
     u: &[u32],
 ) -> usize
-    ensures { result ≤ length (after out) }
+    ensures { result ≤ length out.new }
 {
     let closed = put_closed(out, used, outcome, found);
     put_scratch(out, closed, KEEP, outcome.number, f, u)

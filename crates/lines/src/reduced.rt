@@ -1,6 +1,5 @@
 // The lines of the smaller problem and of a mended list, which close up in the field's lists.
 ghost use Rattle.std.specs.Prelude.{◌≤◌, length};
-ghost use Rattle.scratch.specs.Lent.{after};
 ghost use Rattle.stream.specs.Heads.{standing};
 
 use crate::shifted::{entries_in, put_closed, put_unchanged};
@@ -30,7 +29,7 @@ fn zeros_past(c: &[f64], rows: &[u16], cols: &[u16], q: &[f64], n: usize, m: usi
 // The first n linear weights.
 fn put_linear(out: &mut [u8], used: usize, c: &[f64], n: usize) -> usize
     requires { n ≤ length c.now }
-    ensures { result ≤ length (after out) }
+    ensures { result ≤ length out.new }
 {
     let named = put_text(out, used, b" linear=");
     put_weights(out, named, &c[..n])
@@ -47,7 +46,7 @@ fn put_smaller(
     cols: &[u16],
     q: &[f64],
 ) -> usize
-    ensures { result ≤ length (after out) }
+    ensures { result ≤ length out.new }
 {
     let n = least(outcome.count, c.len());
     let m = entries_in(rows, cols, q, outcome.pairs);
@@ -76,7 +75,7 @@ pub fn put_reduced(
     u: &[u32],
 ) -> usize
     requires { standing (length c.now) (length rows.now) (length cols.now) (length q.now) ≤ length contents.now }
-    ensures { result ≤ length (after out) }
+    ensures { result ≤ length out.new }
 {
     let begun = put_outcome(out, used, SUB_PROBLEM, outcome);
     let listed = put_answer_list(out, begun, b" variables=", outcome, list, false);
@@ -98,7 +97,7 @@ fn put_kept(
     cols: &[u16],
     q: &[f64],
 ) -> usize
-    ensures { result ≤ length (after out) }
+    ensures { result ≤ length out.new }
 {
     let m = entries_in(rows, cols, q, count);
     let is_zeros = zeros_past(c, rows, cols, q, c.len(), m);
@@ -122,7 +121,7 @@ pub fn put_mended(
     u: &[u32],
 ) -> usize
     requires { standing (length c.now) (length rows.now) (length cols.now) (length q.now) ≤ length contents.now }
-    ensures { result ≤ length (after out) }
+    ensures { result ≤ length out.new }
 {
     let begun = put_outcome(out, used, MEND, outcome);
     let listed = put_answer_list(out, begun, b" changes=", outcome, list, true);

@@ -1,6 +1,5 @@
 // The words of a field that its call closes up in place.
 ghost use Rattle.std.specs.Prelude.{◌+◌, ◌*◌, ◌≤◌, length};
-ghost use Rattle.scratch.specs.Lent.{before, after};
 ghost use Rattle.stream.specs.Heads.{standing};
 
 use crate::Outcome;
@@ -39,7 +38,7 @@ pub fn put_closed(
     requires m_in_bounds { m ≤ length rows.now }
     requires m_in_bounds_2 { m ≤ length cols.now }
     requires m_in_bounds_3 { m ≤ length q.now }
-    ensures { result ≤ length (after out) }
+    ensures { result ≤ length out.new }
 {
     let named = put_text(out, used, b" entries=");
     let closed = put_entries(out, named, &rows[..m], &cols[..m], &q[..m]);
@@ -49,9 +48,9 @@ pub fn put_closed(
 
 // How many entries are in all three lists, at most `count`.
 pub fn entries_in(rows: &[u16], cols: &[u16], q: &[f64], count: usize) -> usize
-    ensures upper_bound { result ≤ length (before rows) }
-    ensures upper_bound_2 { result ≤ length (before cols) }
-    ensures upper_bound_3 { result ≤ length (before q) }
+    ensures upper_bound { result ≤ length rows.now }
+    ensures upper_bound_2 { result ≤ length cols.now }
+    ensures upper_bound_3 { result ≤ length q.now }
 {
     least(least(count, rows.len()), least(cols.len(), q.len()))
 }
@@ -67,7 +66,7 @@ fn put_shifted(
     q: &[f64],
 ) -> usize
     requires { standing (length c.now) (length rows.now) (length cols.now) (length q.now) ≤ length contents.now }
-    ensures { result ≤ length (after out) }
+    ensures { result ≤ length out.new }
 {
     let linear = put_text(out, used, b" linear=");
     let weighed = put_weights(out, linear, c);
@@ -99,7 +98,7 @@ pub fn put_unchanged(
     q: &[f64],
 ) -> usize
     requires { standing (length c.now) (length rows.now) (length cols.now) (length q.now) ≤ length contents.now }
-    ensures { result ≤ length (after out) }
+    ensures { result ≤ length out.new }
 {
     let is_kept = field_kept(contents, c, rows, cols, q);
     let named = put_text(out, used, b" field=");
@@ -118,7 +117,7 @@ pub fn put_field(
     q: &[f64],
 ) -> usize
     requires { standing (length c.now) (length rows.now) (length cols.now) (length q.now) ≤ length contents.now }
-    ensures { result ≤ length (after out) }
+    ensures { result ≤ length out.new }
 {
     if outcome.number == 0 {
         return put_shifted(out, used, outcome.count, contents, c, rows, cols, q);

@@ -1,6 +1,5 @@
 // The ends of the records: the variable at each, what a value there says of the other end, and the chains of ends that have one variable.
 ghost use Rattle.std.specs.Prelude.{◌≡◌, ◌+◌, ◌*◌, ◌<◌, ◌≤◌, length};
-ghost use Rattle.scratch.specs.Lent.{before, after};
 ghost use Rattle.meaning.specs.Records.{pairs_in};
 ghost use Rattle.constraints.specs.Record.{room};
 ghost use Rattle.literals.specs.Listed.{Listed};
@@ -10,7 +9,7 @@ ghost use Rattle.literals.specs.Ends.{mine as mine_of, other as other_of, is_amo
 pub fn mine(list: &[u16], x: usize) -> usize
     requires list_len { length list.now ≡ 3 * room list.now }
     requires x_bound { x < 2 * room list.now }
-    ensures { result ≡ mine_of (before list) x }
+    ensures { result ≡ mine_of list.now x }
 {
     let at = 3 * (x / 2) + x % 2;
     scratch::wide_short(list[at])
@@ -20,7 +19,7 @@ pub fn mine(list: &[u16], x: usize) -> usize
 pub fn other(list: &[u16], x: usize) -> usize
     requires list_len { length list.now ≡ 3 * room list.now }
     requires x_bound { x < 2 * room list.now }
-    ensures { result ≡ other_of (before list) x }
+    ensures { result ≡ other_of list.now x }
 {
     let at = 3 * (x / 2) + (1 - x % 2);
     scratch::wide_short(list[at])
@@ -71,7 +70,7 @@ pub fn says(list: &[u16], x: usize, v: u8) -> u8
     requires list_len { length list.now ≡ 3 * room list.now }
     requires x_bound { x < 2 * room list.now }
     requires v_bound { v < 2 }
-    ensures { result ≡ says_of (before list) x v }
+    ensures { result ≡ says_of list.now x v }
 {
     let at = 3 * (x / 2) + 2;
     gives(list[at], x % 2 == 0, v)
@@ -83,7 +82,7 @@ pub fn link(list: &[u16], u: &mut [u32], n: usize)
     requires n_bound { n ≤ 4096 }
     requires list_in_bounds { 3 * n + 2 * room list.now ≤ length u.old }
     requires unlinked { Unlinked n u.old }
-    ensures { Linked (before list) n (after u) (2 * room (before list)) }
+    ensures { Linked list.now n u.new (2 * room list.now) }
 {
     let count = 2 * (list.len() / 3);
     for x in 0..count {

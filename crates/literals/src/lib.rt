@@ -1,9 +1,10 @@
 // Literal closure of start values: given values go to the queue, and the queue is served until nothing is left or a variable is held both ways.
+#![tactic(auto)]
+
 mod ends;
 mod steps;
 
 ghost use Rattle.std.specs.Prelude.{◌≡◌, ◌+◌, ◌<◌, ◌≤◌, length, take};
-ghost use Rattle.scratch.specs.Lent.{before, after};
 ghost use Rattle.meaning.specs.Steps.{Valid};
 ghost use Rattle.meaning.specs.Literal as meaning;
 ghost use Rattle.literals.specs.Listed.{Listed, Ready};
@@ -15,7 +16,7 @@ use crate::steps::{force, serve};
 use scratch::wide_word;
 
 // What a step finds: it goes on, with the queue's new end, or a variable is held both ways.
-#[derive(Drop)]
+#[derive(Clone, Copy)]
 enum Went {
     On(usize),
     Clashed,
@@ -24,7 +25,7 @@ enum Went {
 // Every variable is free.
 fn free_all(u: &mut [u32], n: usize)
     requires { n ≤ length u.old }
-    ensures { Freed n (before u) (after u) }
+    ensures { Freed n u.old u.new }
 {
     for i in 0..n {
         u[i] = 2;
@@ -37,7 +38,7 @@ fn enter_at(start: &[u8], list: &[u16], u: &mut [u32], tail: usize, i: usize) ->
     requires valid { Valid start.now }
     requires i_in_bounds { i < length start.now }
     requires entering { Entering list.now start.now u.old tail i }
-    ensures { Entering (before list) (before start) (after u) result (i + 1) }
+    ensures { Entering list.now start.now u.new result (i + 1) }
 {
     let v = start[i];
     if v == 2 {
@@ -52,7 +53,7 @@ fn enter(start: &[u8], list: &[u16], u: &mut [u32]) -> usize
     requires start_len_bound { length start.now ≤ 4096 }
     requires valid { Valid start.now }
     requires entering { Entering list.now start.now u.old 0 0 }
-    ensures { Entering (before list) (before start) (after u) result (length (before start)) }
+    ensures { Entering list.now start.now u.new result (length start.now) }
 {
     let mut tail = 0;
     for i in 0..start.len() {
@@ -67,7 +68,7 @@ fn work(start: &[u8], list: &[u16], u: &mut [u32], tail: usize) -> bool
     requires start_len_bound { length start.now ≤ 4096 }
     requires valid { Valid start.now }
     requires entering { Entering list.now start.now u.old tail (length start.now) }
-    ensures { found result (take (length (before start)) (after u)) ≡ meaning.propagate (rules (before list)) (before start) }
+    ensures { found result (take (length start.now) u.new) ≡ meaning.propagate (rules list.now) start.now }
 {
     let n = start.len();
     let mut last = tail;
@@ -87,7 +88,7 @@ fn work(start: &[u8], list: &[u16], u: &mut [u32], tail: usize) -> bool
 // Literal closure of the start values, at the front of u. Each variable enters the queue once, so each end is served once at most: O(n + k).
 pub fn run(start: &[u8], list: &[u16], u: &mut [u32]) -> bool
     requires { Ready start.now list.now (length u.old) }
-    ensures { found result (take (length (before start)) (after u)) ≡ meaning.propagate (rules (before list)) (before start) }
+    ensures { found result (take (length start.now) u.new) ≡ meaning.propagate (rules list.now) start.now }
 {
     let n = start.len();
     scratch::clear_words(u);

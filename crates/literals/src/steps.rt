@@ -1,6 +1,5 @@
 // The steps of propagation: a value is forced, an end is served, the ends of a variable are served.
 ghost use Rattle.std.specs.Prelude.{◌≡◌, ◌+◌, ◌*◌, ◌<◌, ◌≤◌, length, get_or, set};
-ghost use Rattle.scratch.specs.Lent.{before, after};
 ghost use Rattle.constraints.specs.Record.{room};
 ghost use Rattle.literals.specs.Listed.{Listed};
 ghost use Rattle.literals.specs.Ends.{mine as mine_of};
@@ -14,7 +13,7 @@ use scratch::wide_word;
 fn value(u: &[u32], i: usize) -> u8
     requires i_in_bounds { i < length u.now }
     requires i_bound { get_or u.now i 0 ≤ 2 }
-    ensures { result ≡ get_or (before u) i 0 }
+    ensures { result ≡ get_or u.now i 0 }
 {
     u[i] as u8
 }
@@ -25,7 +24,7 @@ pub fn force(u: &mut [u32], n: usize, tail: usize, i: usize, v: u8) -> usize
     requires n_bound { n ≤ 4096 }
     requires tail_in_bounds { n + tail < length u.old }
     ensures value { result ≡ tail + 1 }
-    ensures u_value { after u ≡ set (set (before u) i v) (n + tail) i }
+    ensures u_value { u.new ≡ set (set u.old i v) (n + tail) i }
 {
     let at = n + tail;
     u[i] = v as u32;
@@ -40,7 +39,7 @@ fn serve_end(start: &[u8], list: &[u16], u: &mut [u32], tail: usize, x: usize) -
     requires going { Going list.now start.now u.old tail }
     requires x_bound { x < 2 * room list.now }
     requires valued { Valued (length start.now) u.old (mine_of list.now x) }
-    ensures { Outcome (before list) (before start) (λ y. y ≡ x) (before u) tail (after u) result }
+    ensures { Outcome list.now start.now (λ y. y ≡ x) u.old tail u.new result }
 {
     let n = start.len();
     let w = says(list, x, value(u, mine(list, x)));
@@ -68,7 +67,7 @@ pub fn serve(start: &[u8], list: &[u16], u: &mut [u32], tail: usize, i: usize) -
     requires start_len_bound { length start.now ≤ 4096 }
     requires going { Going list.now start.now u.old tail }
     requires valued { Valued (length start.now) u.old i }
-    ensures { Outcome (before list) (before start) (λ y. mine_of (before list) y ≡ i) (before u) tail (after u) result }
+    ensures { Outcome list.now start.now (λ y. mine_of list.now y ≡ i) u.old tail u.new result }
 {
     let n = start.len();
     let mut last = tail;

@@ -3,7 +3,7 @@ ghost use Rattle.std.specs.Prelude.{◌≡◌};
 ghost use Rattle.margins.specs.Model.{below_zero as below_zero_of, above_zero_of, at_least_one_of, widen, start_from, tolerance_from, kept as kept_of, sign_of, between as between_of, hopeless as hopeless_at};
 
 // f at 11 less f at 00, and f at 10 less f at 01: the least and the greatest of each.
-#[derive(Drop)]
+#[derive(Clone, Copy)]
 pub struct Bounds {
     pub sumLow: f64,
     pub sumHigh: f64,
@@ -12,7 +12,7 @@ pub struct Bounds {
 }
 
 // Where two bounds lie: always above the tolerance, always below its negative, or neither.
-#[derive(Drop)]
+#[derive(Clone, Copy)]
 pub enum Sign {
     Above,
     Below,

@@ -1,6 +1,5 @@
 // The walk over the merged rows of a pair, and the weight between its variables.
 ghost use Rattle.std.specs.Prelude.{◌≡◌, true, ◌≤◌, length};
-ghost use Rattle.scratch.specs.Lent.{before};
 ghost use Rattle.margins.specs.Model.{meets as meets_of};
 ghost use Rattle.margins.specs.Merge.{rows_of, Fit, met_by, turn_of, going, walk_all, Rises, Looked};
 
@@ -8,7 +7,7 @@ use crate::bounds::{Bounds, hopeless};
 use scratch::wide_word;
 
 // Where the walk over the two rows stands, and the bounds so far.
-#[derive(Drop)]
+#[derive(Clone, Copy)]
 pub struct Walk {
     pub left: usize,
     pub right: usize,
@@ -70,7 +69,7 @@ fn turn(
 ) -> Walk
     requires fit { Fit (rows_of keys.now weights.now ea eb i j t) }
     requires w_value { going ea eb t w ≡ true }
-    ensures { result ≡ turn_of (rows_of (before keys) (before weights) ea eb i j t) w }
+    ensures { result ≡ turn_of (rows_of keys.now weights.now ea eb i j t) w }
 {
     let left = w.left;
     let right = w.right;
@@ -130,7 +129,7 @@ pub fn walk_rows(
     start: Walk,
 ) -> Bounds
     requires { Fit (rows_of keys.now weights.now ea eb i j t) }
-    ensures { result ≡ (walk_all (rows_of (before keys) (before weights) ea eb i j t) start).bounds }
+    ensures { result ≡ (walk_all (rows_of keys.now weights.now ea eb i j t) start).bounds }
 {
     let mut w = start;
     while is_going(ea, eb, t, w) {
@@ -144,7 +143,7 @@ pub fn weight_of(keys: &[u32], weights: &[f64], from: usize, to: usize, k: usize
     requires rises { Rises keys.now from to }
     requires to_in_bounds { to ≤ length keys.now }
     requires to_in_bounds_2 { to ≤ length weights.now }
-    ensures { Looked (before keys) (before weights) from to k result }
+    ensures { Looked keys.now weights.now from to k result }
 {
     let mut low = from;
     let mut high = to;

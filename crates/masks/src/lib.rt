@@ -1,6 +1,7 @@
 // Terms on two lists, the sum of each mask of a few bits, added afresh in the order of the lists, and the lowest mask of least sum.
+#![tactic(auto)]
+
 ghost use Rattle.std.specs.Prelude.{◌≡◌, [], ◌∷◌, ◌+◌, ◌/◌, ◌%◌, ◌^◌, ◌<◌, ◌≤◌, length};
-ghost use Rattle.scratch.specs.Lent.{before, after};
 ghost use Rattle.masks.specs.Masks.{term, plus as plus_of, objective, lowest as lowest_of};
 ghost use Rattle.masks.specs.Listed.{lists, terms_on, Room, Listed};
 ghost use Rattle.masks.specs.Block.{Block, TermAdded, Leads};
@@ -8,7 +9,7 @@ ghost use Rattle.masks.specs.Block.{Block, TermAdded, Leads};
 use scratch::wide_short;
 
 // The lowest mask of least sum among those looked at, and that sum.
-#[derive(Drop)]
+#[derive(Clone, Copy)]
 struct Lead {
     sum: f64,
     mask: usize,
@@ -40,7 +41,7 @@ pub fn list_term(
 ) -> usize
     requires room { Room (end + 1) values.old required.old }
     requires bits_bound { bits < 65536 }
-    ensures { Listed (term bits value ∷ []) (lists end (before values) (before required)) (lists result (after values) (after required)) }
+    ensures { Listed (term bits value ∷ []) (lists end values.old required.old) (lists result values.new required.new) }
 {
     values[end] = value;
     required[end] = bits as u16;
@@ -60,7 +61,7 @@ fn plus(sum: f64, mask: usize, bits: usize, value: f64) -> f64
 // The sums of the masks 0 to 31 after a term.
 fn add_each(sums: &mut [f64; 32], bits: usize, value: f64)
     requires { length sums.old ≡ 32 }
-    ensures { TermAdded 0 bits value (before sums) (after sums) }
+    ensures { TermAdded 0 bits value sums.old sums.new }
 {
     for l in 0..32 {
         sums[l] = plus(sums[l], l, bits, value);
@@ -70,7 +71,7 @@ fn add_each(sums: &mut [f64; 32], bits: usize, value: f64)
 // The same, with a loop of its own for bit 4 and each other bit: of bits that stand in the text the compiler knows which masks have them.
 fn add_fifth(sums: &mut [f64; 32], bits: usize, value: f64)
     requires { length sums.old ≡ 32 }
-    ensures { TermAdded 0 bits value (before sums) (after sums) }
+    ensures { TermAdded 0 bits value sums.old sums.new }
 {
     if bits == 17 {
         add_each(sums, 17, value);
@@ -94,7 +95,7 @@ fn add_fifth(sums: &mut [f64; 32], bits: usize, value: f64)
 // The same, with one for each two of the bits 0 to 3 besides.
 fn add_two(sums: &mut [f64; 32], bits: usize, value: f64)
     requires { length sums.old ≡ 32 }
-    ensures { TermAdded 0 bits value (before sums) (after sums) }
+    ensures { TermAdded 0 bits value sums.old sums.new }
 {
     if bits == 3 {
         add_each(sums, 3, value);
@@ -126,7 +127,7 @@ fn add_two(sums: &mut [f64; 32], bits: usize, value: f64)
 // The same, with one for no bit and for each bit alone besides.
 fn add_low(sums: &mut [f64; 32], bits: usize, value: f64)
     requires { length sums.old ≡ 32 }
-    ensures { TermAdded 0 bits value (before sums) (after sums) }
+    ensures { TermAdded 0 bits value sums.old sums.new }
 {
     if bits == 0 {
         add_each(sums, 0, value);
@@ -160,7 +161,7 @@ fn add_block(sums: &mut [f64; 32], base: usize, bits: usize, value: f64)
     requires sums_len { length sums.old ≡ 32 }
     requires base_bound { base ≤ 1024 }
     requires base_value { base % 32 ≡ 0 }
-    ensures { TermAdded base bits value (before sums) (after sums) }
+    ensures { TermAdded base bits value sums.old sums.new }
 {
     if (base + 31) & bits != bits {
         return;
@@ -173,7 +174,7 @@ fn block(values: &[f64], required: &[u16], end: usize, base: usize) -> [f64; 32]
     requires room { Room end values.now required.now }
     requires base_bound { base ≤ 1024 }
     requires base_value { base % 32 ≡ 0 }
-    ensures { Block (λ l. objective (terms_on (before values) (before required) end) (base + l)) result }
+    ensures { Block (λ l. objective (terms_on values.now required.now end) (base + l)) result }
 {
     let mut sums = [0.0; 32];
     for t in 0..end {
@@ -196,7 +197,7 @@ fn lead_after(
     requires base_value { base % 32 ≡ 0 }
     requires count_bound { count ≤ 32 }
     requires leads { Leads (objective (terms_on values.now required.now end)) base lead }
-    ensures { Leads (objective (terms_on (before values) (before required) end)) (base + count) result }
+    ensures { Leads (objective (terms_on values.now required.now end)) (base + count) result }
 {
     let sums = block(values, required, end, base);
     let mut best = lead.sum;
@@ -218,7 +219,7 @@ fn lead_after(
 pub fn lowest(values: &[f64], required: &[u16], end: usize, size: usize) -> usize
     requires room { Room end values.now required.now }
     requires size_bound { size ≤ 1024 }
-    ensures { result ≡ lowest_of (objective (terms_on (before values) (before required) end)) size }
+    ensures { result ≡ lowest_of (objective (terms_on values.now required.now end)) size }
 {
     let mut lead = Lead {
         sum: f64::from_bits(0x7ff0_0000_0000_0000),

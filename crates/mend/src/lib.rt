@@ -1,7 +1,8 @@
 // The public call: an entry list is mended in place.
+#![tactic(auto)]
+
 ghost use Rattle.std.specs.Prelude.{◌≡◌};
-ghost use Rattle.scratch.specs.Lent.{before, after};
-ghost use Rattle.field.specs.Field.{lent, given};
+ghost use Rattle.field.specs.Field.{field_of, lent, given};
 ghost use Rattle.field.specs.Table.{tested};
 ghost use Rattle.field.specs.Tests.{Loose};
 ghost use Rattle.field.specs.Grade.{grade_of};
@@ -12,14 +13,14 @@ ghost use Rattle.mend.specs.Call.{left, first_of, sum_tests as sum_tests_of, men
 use field::{Checked, Grade, Refusal};
 
 // What the call answers: done, with the mended field's grade, the new number of entries and the number of changes, or a refusal.
-#[derive(Drop)]
+#[derive(Clone, Copy)]
 pub enum Mended {
     Done(Grade, usize, usize),
     Refused(Refusal),
 }
 
 // How many places are kept, and how many entries are changed.
-#[derive(Drop)]
+#[derive(Clone, Copy)]
 pub struct Tally {
     pub kept: usize,
     pub changes: usize,
@@ -64,7 +65,7 @@ fn tests(c: &[f64], rows: &[u16], cols: &[u16], q: &[f64], floats: usize, words:
 // Sorts, gathers and counts in scratch; nothing else is written yet.
 fn work(c: &[f64], rows: &[u16], cols: &[u16], q: &[f64], f: &mut [f64], u: &mut [u32]) -> Tally
     requires { Roomy (lent c rows cols q) f.old u.old }
-    ensures { Worked (given c rows cols q) result.kept result.changes (before f) (after f) (before u) (after u) }
+    ensures { Worked (given c rows cols q) result.kept result.changes f.old f.new u.old u.new }
 {
     mending::lineup::line_up(c, rows, cols, q, f, u);
     let kept = mending::gathering::gather(c, rows, cols, q, f, u);
@@ -86,8 +87,8 @@ fn write(
     u: &[u32],
     tally: Tally,
 )
-    requires { Writable (lent c rows cols q) tally.kept tally.changes report.old f.now u.now }
-    ensures { Written (given c rows cols q) (before report) (after rows) (after cols) (after q) (after report) }
+    requires { Writable (field_of c.now rows.old cols.old q.old) tally.kept tally.changes report.old f.now u.now }
+    ensures { Written (field_of c.now rows.old cols.old q.old) report.old rows.new cols.new q.new report.new }
 {
     mending::report::put(u, q.len(), report);
     scratch::clear_shorts(rows);
@@ -115,7 +116,7 @@ pub fn mend(
     f: &mut [f64],
     u: &mut [u32],
 ) -> Mended
-    ensures { left result (after rows) (after cols) (after q) (after report) (after f) (after u) ≡ mend_call (given c rows cols q) (before report) (before f) (before u) }
+    ensures { left result rows.new cols.new q.new report.new f.new u.new ≡ mend_call (field_of c.now rows.old cols.old q.old) report.old f.old u.old }
 {
     let checked = tests(c, rows, cols, q, f.len(), u.len());
     if let Checked::Failed(refusal) = checked {

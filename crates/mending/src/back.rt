@@ -1,5 +1,4 @@
 // The mended entries go from scratch to the front of the lists.
-ghost use Rattle.scratch.specs.Lent.{before, after};
 ghost use Rattle.mending.specs.Back.{Returnable, Returned};
 
 // The first o entries: place by place its row, its column and its sum.
@@ -13,7 +12,7 @@ pub fn put_back(
     o: usize,
 )
     requires { Returnable n o f.now u.now rows.old cols.old q.old }
-    ensures { Returned n o (before f) (before u) (before rows) (after rows) (before cols) (after cols) (before q) (after q) }
+    ensures { Returned n o f.now u.now rows.old rows.new cols.old cols.new q.old q.new }
 {
     let m = q.len();
     for t in 0..o {

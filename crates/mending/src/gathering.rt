@@ -1,6 +1,5 @@
 // One pass over the sorted entries: places, sums and marks go into scratch.
 ghost use Rattle.std.specs.Prelude.{◌≡◌, ◌+◌, ◌≤◌, length};
-ghost use Rattle.scratch.specs.Lent.{before, after};
 ghost use Rattle.scratch.specs.Region.{region};
 ghost use Rattle.field.specs.Field.{given, lent, entries};
 ghost use Rattle.mending.specs.Lineup.{lineup, Roomy};
@@ -11,7 +10,7 @@ use crate::places::place_at;
 // Whether p is the last of the o places from word m on.
 fn is_last(u: &[u32], m: usize, o: usize, p: usize) -> bool
     requires { m + o ≤ length u.now }
-    ensures { result ≡ is_last_of p (region m o (before u)) }
+    ensures { result ≡ is_last_of p (region m o u.now) }
 {
     if o == 0 {
         return false;
@@ -32,7 +31,7 @@ fn take_entry(
     o: usize,
 ) -> usize
     requires { Takable (lent c rows cols q) e o f.old u.old }
-    ensures { Taken (given c rows cols q) e o result (before f) (after f) (before u) (after u) }
+    ensures { Taken (given c rows cols q) e o result f.old f.new u.old u.new }
 {
     let m = q.len();
     let p = place_at(c, rows, cols, q, e);
@@ -63,7 +62,7 @@ pub fn gather(
 ) -> usize
     requires roomy { Roomy (lent c rows cols q) f.old u.old }
     requires u_value { region 0 (entries (lent c rows cols q)) u.old ≡ lineup (lent c rows cols q) }
-    ensures { Gathers (given c rows cols q) result (before f) (after f) (before u) (after u) }
+    ensures { Gathers (given c rows cols q) result f.old f.new u.old u.new }
 {
     let mut o: usize = 0;
     for t in 0..q.len() {

@@ -1,6 +1,5 @@
 // The changes, counted and written by the marks.
 ghost use Rattle.std.specs.Prelude.{◌≡◌, ◌+◌, ◌*◌, ◌≤◌, length};
-ghost use Rattle.scratch.specs.Lent.{before, after};
 ghost use Rattle.scratch.specs.Over.{over};
 ghost use Rattle.mending.specs.Report.{step_of, told_by, count_to, told_to, Puttable, Puts, Reportable};
 
@@ -21,7 +20,7 @@ fn step(mark: u32, k: usize) -> usize
 pub fn count(u: &[u32], m: usize) -> usize
     requires m_bound { m ≤ 32768 }
     requires m_in_bounds { 8 * m + 16 ≤ length u.now }
-    ensures { result ≡ count_to m (before u) m }
+    ensures { result ≡ count_to m u.now m }
 {
     let mut changes: usize = 0;
     for k in 0..m {
@@ -33,7 +32,7 @@ pub fn count(u: &[u32], m: usize) -> usize
 // Three numbers at `at`, if entry k is changed; hands back where the next go.
 fn put_change(report: &mut [u16], at: usize, k: usize, mark: u32) -> usize
     requires { Puttable at k mark report.old }
-    ensures { Puts at result (told_by mark k) (before report) (after report) }
+    ensures { Puts at result (told_by mark k) report.old report.new }
 {
     let wide = scratch::wide_word(mark);
     if wide == 65536 + k {
@@ -48,7 +47,7 @@ fn put_change(report: &mut [u16], at: usize, k: usize, mark: u32) -> usize
 // Writes the numbers of all changes into the report, in input order.
 pub fn put(u: &[u32], m: usize, report: &mut [u16])
     requires { Reportable m u.now report.old }
-    ensures { after report ≡ over (told_to m (before u) m) (before report) }
+    ensures { report.new ≡ over (told_to m u.now m) report.old }
 {
     let mut at: usize = 0;
     for k in 0..m {

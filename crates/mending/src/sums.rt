@@ -1,6 +1,5 @@
 // 18: whether the weights at every place of the field have a finite sum, without any memory.
 ghost use Rattle.std.specs.Prelude.{◌≡◌, ◌<◌};
-ghost use Rattle.scratch.specs.Lent.{before};
 ghost use Rattle.scratch.specs.All.{all_below};
 ghost use Rattle.field.specs.Field.{given, lent, entries};
 ghost use Rattle.field.specs.Faults.{Listed};
@@ -10,7 +9,7 @@ ghost use Rattle.mending.specs.Sums.{all_small as all_small_of, part_with as par
 use crate::places::place_at;
 
 // The sum of a place over some first entries, and whether any of them is there.
-#[derive(Drop)]
+#[derive(Clone, Copy)]
 pub struct Part {
     pub found: bool,
     pub sum: f64,
@@ -18,7 +17,7 @@ pub struct Part {
 
 // Whether no weight is above 2^1008 in size: 32,768 of them add up to a finite sum.
 fn all_small(q: &[f64]) -> bool
-    ensures { result ≡ all_small_of (before q) }
+    ensures { result ≡ all_small_of q.now }
 {
     let limit = f64::from_bits(0x7ef0_0000_0000_0000);
     let mut small = true;

@@ -2,7 +2,6 @@
 ghost use Rattle.std.specs.Prelude.{◌≡◌, ◌+◌, ◌<◌, ◌≤◌, length, get_or};
 ghost use Rattle.std.specs.Float.{nan};
 ghost use Rattle.weights.specs.Worth.{magnitude};
-ghost use Rattle.scratch.specs.Lent.{before, after};
 ghost use Rattle.field.specs.Field.{given, lent, entries};
 ghost use Rattle.rows.specs.Stored.{Fillable};
 ghost use Rattle.neighbours.specs.Parts.{fixed_term, add_end as add_end_of, add_both, PartsAre, Parted};
@@ -20,7 +19,7 @@ fn with_end(x: f64, coeff: f64, value: u8) -> f64
 // One end t of an entry, whose other end has this value.
 fn add_end(f: &mut [f64], n: usize, t: usize, coeff: f64, value: u8)
     requires { n + t < length f.old }
-    ensures { after f ≡ add_end_of (before f) n t coeff value }
+    ensures { f.new ≡ add_end_of f.old n t coeff value }
 {
     let up = n + t;
     let linear = with_end(f[t], coeff, value);
@@ -41,7 +40,7 @@ fn add_entry(
 )
     requires fillable { Fillable (lent c rows cols q) values.now f.old }
     requires k_bound { k < entries (lent c rows cols q) }
-    ensures { after f ≡ add_both (given c rows cols q) (before values) (before f) k }
+    ensures { f.new ≡ add_both (given c rows cols q) values.now f.old k }
 {
     let n = c.len();
     let coeff = weights::half(q[k]);
@@ -54,7 +53,7 @@ fn add_entry(
 // c and |c| of every variable.
 fn start_parts(c: &[f64], f: &mut [f64])
     requires { length c.now + length c.now ≤ length f.old }
-    ensures { PartsAre (length (before c)) (λ i. get_or (before c) i nan) (λ i. magnitude (get_or (before c) i nan)) (after f) (length (before c)) }
+    ensures { PartsAre (length c.now) (λ i. get_or c.now i nan) (λ i. magnitude (get_or c.now i nan)) f.new (length c.now) }
 {
     let n = c.len();
     for i in 0..n {
@@ -68,7 +67,7 @@ fn start_parts(c: &[f64], f: &mut [f64])
 fn add_entries(c: &[f64], rows: &[u16], cols: &[u16], q: &[f64], values: &[u8], f: &mut [f64])
     requires fillable { Fillable (lent c rows cols q) values.now f.old }
     requires parted { Parted (lent c rows cols q) values.now f.old 0 }
-    ensures { Parted (given c rows cols q) (before values) (after f) (entries (given c rows cols q)) }
+    ensures { Parted (given c rows cols q) values.now f.new (entries (given c rows cols q)) }
 {
     for k in 0..q.len() {
         add_entry(c, rows, cols, q, values, f, k);
@@ -78,7 +77,7 @@ fn add_entries(c: &[f64], rows: &[u16], cols: &[u16], q: &[f64], values: &[u8], 
 // Writes the linear part and the mass of every variable to the front of f.
 pub fn parts(c: &[f64], rows: &[u16], cols: &[u16], q: &[f64], values: &[u8], f: &mut [f64])
     requires { Fillable (lent c rows cols q) values.now f.old }
-    ensures { Parted (given c rows cols q) (before values) (after f) (entries (given c rows cols q)) }
+    ensures { Parted (given c rows cols q) values.now f.new (entries (given c rows cols q)) }
 {
     start_parts(c, f);
     add_entries(c, rows, cols, q, values, f);

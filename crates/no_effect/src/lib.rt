@@ -1,9 +1,10 @@
 // The public call: the variables of a field that have no effect.
+#![tactic(auto)]
+
 pub mod marks;
 mod putting;
 
 ghost use Rattle.std.specs.Prelude.{◌≡◌, ◌≤◌, length};
-ghost use Rattle.scratch.specs.Lent.{before, after};
 ghost use Rattle.field.specs.Field.{lent, given, variables, Shaped};
 ghost use Rattle.field.specs.Table.{tested};
 ghost use Rattle.no_effect.specs.Putting.{putting};
@@ -30,7 +31,7 @@ fn tests(c: &[f64], rows: &[u16], cols: &[u16], q: &[f64], words: usize) -> Chec
 fn find(c: &[f64], rows: &[u16], cols: &[u16], q: &[f64], list: &mut [u16], u: &mut [u32]) -> usize
     requires shaped { Shaped (lent c rows cols q) }
     requires q_in_bounds { variables (lent c rows cols q) ≤ length u.old }
-    ensures { putting (after list) result ≡ found (given c rows cols q) (before list) }
+    ensures { putting list.new result ≡ found (given c rows cols q) list.old }
 {
     marks::mark_ends(u, rows, cols, c.len());
     putting::put_all(c, u, list)
@@ -45,7 +46,7 @@ pub fn no_effect(
     list: &mut [u16],
     u: &mut [u32],
 ) -> Counted
-    ensures { left result (after list) (after u) ≡ no_effect_call (given c rows cols q) (before list) (before u) }
+    ensures { left result list.new u.new ≡ no_effect_call (given c rows cols q) list.old u.old }
 {
     let checked = tests(c, rows, cols, q, u.len());
     if let Checked::Failed(refusal) = checked {

@@ -1,6 +1,5 @@
 // Which variables have an entry: one word for each, 0 where there is none.
 ghost use Rattle.std.specs.Prelude.{◌≤◌, length};
-ghost use Rattle.scratch.specs.Lent.{before, after};
 ghost use Rattle.places.specs.Places.{EndsBelow, Begins};
 ghost use Rattle.no_effect.specs.Effect.{Marked};
 
@@ -9,7 +8,7 @@ fn mark(u: &mut [u32], rows: &[u16], cols: &[u16], n: usize)
     requires ends_below { EndsBelow n rows.now cols.now }
     requires n_in_bounds { n ≤ length u.old }
     requires begins { Begins n (λ i. 0) u.old }
-    ensures { Marked n (before rows) (before cols) (before u) (after u) }
+    ensures { Marked n rows.now cols.now u.old u.new }
 {
     for k in 0..rows.len() {
         let r = scratch::wide_short(rows[k]);
@@ -23,7 +22,7 @@ fn mark(u: &mut [u32], rows: &[u16], cols: &[u16], n: usize)
 pub fn mark_ends(u: &mut [u32], rows: &[u16], cols: &[u16], n: usize)
     requires ends_below { EndsBelow n rows.now cols.now }
     requires n_in_bounds { n ≤ length u.old }
-    ensures { Marked n (before rows) (before cols) (before u) (after u) }
+    ensures { Marked n rows.now cols.now u.old u.new }
 {
     scratch::clear_words(&mut u[..n]);
     mark(u, rows, cols, n);

@@ -1,7 +1,8 @@
 // The public calls for programs in C and Rust: each exported function is the call of its crate, and answers with one number.
+#![tactic(auto)]
+
 ghost use Rattle.std.specs.Prelude.{◌≡◌};
-ghost use Rattle.scratch.specs.Lent.{before, after};
-ghost use Rattle.field.specs.Field.{given};
+ghost use Rattle.field.specs.Field.{field_of, given};
 ghost use Rattle.calls.specs.Values.{left};
 ghost use Rattle.closure.specs.Call as closing;
 ghost use Rattle.components.specs.Call as components;
@@ -41,7 +42,7 @@ pub extern "C" fn ombradiec_closure(
     f: &mut [f64],
     u: &mut [u32],
 ) -> u64
-    ensures { Exported packed_counted (λ a. closing.left a (after start) (after f) (after u)) result (closing.closure_call (given c rows cols q) (before start) (before f) (before u)) }
+    ensures { Exported packed_counted (λ a. closing.left a start.new f.new u.new) result (closing.closure_call (given c rows cols q) start.old f.old u.old) }
 {
     pack_counted(closure::closure(c, rows, cols, q, start, f, u))
 }
@@ -57,7 +58,7 @@ pub extern "C" fn ombradiec_components(
     f: &mut [f64],
     u: &mut [u32],
 ) -> u64
-    ensures { Exported packed_answer (λ a. left a (after start) (after f) (after u)) result (components.components_call (given c rows cols q) (before start) (before f) (before u)) }
+    ensures { Exported packed_answer (λ a. left a start.new f.new u.new) result (components.components_call (given c rows cols q) start.old f.old u.old) }
 {
     pack_answer(components::components(c, rows, cols, q, start, f, u))
 }
@@ -73,7 +74,7 @@ pub extern "C" fn ombradiec_preprocess(
     f: &mut [f64],
     u: &mut [u32],
 ) -> u64
-    ensures { Exported packed_answer (λ a. left a (after start) (after f) (after u)) result (preprocess.preprocess_call (given c rows cols q) (before start) (before f) (before u)) }
+    ensures { Exported packed_answer (λ a. left a start.new f.new u.new) result (preprocess.preprocess_call (given c rows cols q) start.old f.old u.old) }
 {
     pack_answer(preprocess::preprocess(c, rows, cols, q, start, f, u))
 }
@@ -89,7 +90,7 @@ pub extern "C" fn ombradiec_heavy(
     f: &mut [f64],
     u: &mut [u32],
 ) -> u64
-    ensures { Exported packed_answer (λ a. left a (after start) (after f) (after u)) result (heavy.heavy_call (given c rows cols q) (before start) (before f) (before u)) }
+    ensures { Exported packed_answer (λ a. left a start.new f.new u.new) result (heavy.heavy_call (given c rows cols q) start.old f.old u.old) }
 {
     pack_answer(heavy::heavy(c, rows, cols, q, start, f, u))
 }
@@ -104,7 +105,7 @@ pub extern "C" fn ombradiec_no_effect(
     list: &mut [u16],
     u: &mut [u32],
 ) -> u64
-    ensures { Exported packed_counted (λ a. effectless.left a (after list) (after u)) result (effectless.no_effect_call (given c rows cols q) (before list) (before u)) }
+    ensures { Exported packed_counted (λ a. effectless.left a list.new u.new) result (effectless.no_effect_call (given c rows cols q) list.old u.old) }
 {
     pack_counted(no_effect::no_effect(c, rows, cols, q, list, u))
 }
@@ -117,7 +118,7 @@ pub extern "C" fn ombradiec_shift(
     cols: &mut [u16],
     q: &mut [f64],
 ) -> u64
-    ensures { Exported packed_counted (λ a. shifting.left a (left_behind c rows cols q)) result (shifting.shift_call (given c rows cols q)) }
+    ensures { Exported packed_counted (λ a. shifting.left a (left_behind c rows cols q)) result (shifting.shift_call (field_of c.old rows.old cols.old q.old)) }
 {
     pack_counted(shift::shift(c, rows, cols, q))
 }
@@ -135,8 +136,8 @@ pub extern "C" fn ombradiec_sub_problem(
     f: &mut [f64],
     u: &mut [u32],
 ) -> u64
-    ensures exported { Exported packed_reduced (λ a. reducing.left a (left_behind c rows cols q) (after map) (after f) (after u)) result (reducing.sub_problem_call (given c rows cols q) (before start) (before map) (before f) (before u)) }
-    ensures constant_value { after constant ≡ constant_after_of (reducing.sub_problem_call (given c rows cols q) (before start) (before map) (before f) (before u)).answer (before constant) }
+    ensures exported { Exported packed_reduced (λ a. reducing.left a (left_behind c rows cols q) map.new f.new u.new) result (reducing.sub_problem_call (field_of c.old rows.old cols.old q.old) start.now map.old f.old u.old) }
+    ensures constant_value { constant.new ≡ constant_after_of (reducing.sub_problem_call (field_of c.old rows.old cols.old q.old) start.now map.old f.old u.old).answer constant.old }
 {
     let answer = sub_problem::sub_problem(c, rows, cols, q, start, map, f, u);
     *constant = constant_after(answer, *constant);
@@ -154,7 +155,7 @@ pub extern "C" fn ombradiec_mend(
     f: &mut [f64],
     u: &mut [u32],
 ) -> u64
-    ensures { Exported packed_mended (λ a. mending.left a (after rows) (after cols) (after q) (after report) (after f) (after u)) result (mending.mend_call (given c rows cols q) (before report) (before f) (before u)) }
+    ensures { Exported packed_mended (λ a. mending.left a rows.new cols.new q.new report.new f.new u.new) result (mending.mend_call (field_of c.now rows.old cols.old q.old) report.old f.old u.old) }
 {
     pack_mended(mend::mend(c, rows, cols, q, report, f, u))
 }
@@ -172,7 +173,7 @@ pub extern "C" fn ombradiec_anchors(
     f: &mut [f64],
     u: &mut [u32],
 ) -> u64
-    ensures { Exported packed_counted (λ a. anchoring.left a (after list) (after f) (after u)) result (anchoring.anchors_call (given c rows cols q) (before start) least (before list) (before f) (before u)) }
+    ensures { Exported packed_counted (λ a. anchoring.left a list.new f.new u.new) result (anchoring.anchors_call (given c rows cols q) start.now least list.old f.old u.old) }
 {
     pack_counted(anchors::anchors(c, rows, cols, q, start, least, list, f, u))
 }
@@ -190,7 +191,7 @@ pub extern "C" fn ombradiec_pairs(
     f: &mut [f64],
     u: &mut [u32],
 ) -> u64
-    ensures { Exported packed_paired (λ a. pairing.left a (after constraints) (after f) (after u)) result (pairing.pairs_call (given c rows cols q) (before start) limit (before constraints) (before f) (before u)) }
+    ensures { Exported packed_paired (λ a. pairing.left a constraints.new f.new u.new) result (pairing.pairs_call (given c rows cols q) start.now limit constraints.old f.old u.old) }
 {
     pack_paired(pairs::pairs(c, rows, cols, q, start, limit, constraints, f, u))
 }
@@ -209,7 +210,7 @@ pub extern "C" fn ombradiec_probe_one(
     f: &mut [f64],
     u: &mut [u32],
 ) -> u64
-    ensures { Exported packed_answer (λ a. probing.left a (after values) (after f) (after u)) result (probing.probe_one_call (given c rows cols q) (before start) variable value (before values) (before f) (before u)) }
+    ensures { Exported packed_answer (λ a. probing.left a values.new f.new u.new) result (probing.probe_one_call (given c rows cols q) start.now variable value values.old f.old u.old) }
 {
     pack_answer(probes::probe_one(c, rows, cols, q, start, variable, value, values, f, u))
 }
@@ -228,7 +229,7 @@ pub extern "C" fn ombradiec_cold_probe_one(
     f: &mut [f64],
     u: &mut [u32],
 ) -> u64
-    ensures { Exported packed_answer (λ a. probing.left a (after values) (after f) (after u)) result (probing.probe_one_call (given c rows cols q) (before start) variable value (before values) (before f) (before u)) }
+    ensures { Exported packed_answer (λ a. probing.left a values.new f.new u.new) result (probing.probe_one_call (given c rows cols q) start.now variable value values.old f.old u.old) }
 {
     pack_answer(probe::cold_probe_one(c, rows, cols, q, start, variable, value, values, f, u))
 }
@@ -247,8 +248,8 @@ pub extern "C" fn ombradiec_reason(
     f: &mut [f64],
     u: &mut [u32],
 ) -> u64
-    ensures exported { Exported packed_reasoned (λ a. reasoning.left a (after list) (after f) (after u)) result (reasoning.reason_call (given c rows cols q) (before start) variable (before list) (before f) (before u)) }
-    ensures bound_value { after bound ≡ bound_after_of (reasoning.reason_call (given c rows cols q) (before start) variable (before list) (before f) (before u)).answer (before bound) }
+    ensures exported { Exported packed_reasoned (λ a. reasoning.left a list.new f.new u.new) result (reasoning.reason_call (given c rows cols q) start.now variable list.old f.old u.old) }
+    ensures bound_value { bound.new ≡ bound_after_of (reasoning.reason_call (given c rows cols q) start.now variable list.old f.old u.old).answer bound.old }
 {
     let answer = reason::reason(c, rows, cols, q, start, variable, list, f, u);
     *bound = bound_after(answer, *bound);
@@ -268,7 +269,7 @@ pub extern "C" fn ombradiec_probe(
     f: &mut [f64],
     u: &mut [u32],
 ) -> u64
-    ensures { Exported packed_counted (λ a. searching.left a (after values) (after constraints) (after f) (after u)) result (searching.probe_call (given c rows cols q) (before start) (before values) (before constraints) (before f) (before u)) }
+    ensures { Exported packed_counted (λ a. searching.left a values.new constraints.new f.new u.new) result (searching.probe_call (given c rows cols q) start.now values.old constraints.old f.old u.old) }
 {
     pack_counted(probes::probe(c, rows, cols, q, start, values, constraints, f, u))
 }
@@ -287,7 +288,7 @@ pub extern "C" fn ombradiec_probe_limited(
     f: &mut [f64],
     u: &mut [u32],
 ) -> u64
-    ensures { Exported packed_counted (λ a. searching.left a (after values) (after constraints) (after f) (after u)) result (searching.probe_limited_call (given c rows cols q) (before start) candidates (before values) (before constraints) (before f) (before u)) }
+    ensures { Exported packed_counted (λ a. searching.left a values.new constraints.new f.new u.new) result (searching.probe_limited_call (given c rows cols q) start.now candidates values.old constraints.old f.old u.old) }
 {
     pack_counted(probes::probe_limited(
         c,
@@ -316,7 +317,7 @@ pub extern "C" fn ombradiec_cold_probe(
     f: &mut [f64],
     u: &mut [u32],
 ) -> u64
-    ensures { Exported packed_counted (λ a. searching.left a (after values) (after constraints) (after f) (after u)) result (searching.probe_call (given c rows cols q) (before start) (before values) (before constraints) (before f) (before u)) }
+    ensures { Exported packed_counted (λ a. searching.left a values.new constraints.new f.new u.new) result (searching.probe_call (given c rows cols q) start.now values.old constraints.old f.old u.old) }
 {
     pack_counted(cold::cold_probe(c, rows, cols, q, start, values, constraints, f, u))
 }
@@ -335,7 +336,7 @@ pub extern "C" fn ombradiec_cold_probe_limited(
     f: &mut [f64],
     u: &mut [u32],
 ) -> u64
-    ensures { Exported packed_counted (λ a. searching.left a (after values) (after constraints) (after f) (after u)) result (searching.probe_limited_call (given c rows cols q) (before start) candidates (before values) (before constraints) (before f) (before u)) }
+    ensures { Exported packed_counted (λ a. searching.left a values.new constraints.new f.new u.new) result (searching.probe_limited_call (given c rows cols q) start.now candidates values.old constraints.old f.old u.old) }
 {
     pack_counted(cold::cold_probe_limited(
         c,
@@ -354,7 +355,7 @@ pub extern "C" fn ombradiec_cold_probe_limited(
 // What constraints imply.
 #[unsafe(no_mangle)]
 pub extern "C" fn ombradiec_propagate(start: &mut [u8], constraints: &[u16], u: &mut [u32]) -> u64
-    ensures { Exported packed_checked (λ a. propagating.left a (after start) (after u)) result (propagating.propagate_call (before start) (before constraints) (before u)) }
+    ensures { Exported packed_checked (λ a. propagating.left a start.new u.new) result (propagating.propagate_call start.old constraints.now u.old) }
 {
     pack_checked(propagation::propagate(start, constraints, u))
 }
@@ -372,7 +373,7 @@ pub extern "C" fn ombradiec_keep(
     f: &mut [f64],
     u: &mut [u32],
 ) -> u64
-    ensures { Exported packed_answer (λ a. keeping.left a (after bounds) (after strict) (after f) (after u)) result (keeping.make_call (given c rows cols q) (before values) (before bounds) (before strict) (before f) (before u)) }
+    ensures { Exported packed_answer (λ a. keeping.left a bounds.new strict.new f.new u.new) result (keeping.make_call (given c rows cols q) values.now bounds.old strict.old f.old u.old) }
 {
     pack_answer(kept::make(c, rows, cols, q, values, bounds, strict, f, u))
 }
@@ -390,7 +391,7 @@ pub extern "C" fn ombradiec_pin(
     variable: usize,
     value: u8,
 ) -> u64
-    ensures { Exported packed_checked (λ a. any.left a (kept (after values) (after bounds) (after strict))) result (keeping.pin_call (given c rows cols q) (kept (before values) (before bounds) (before strict)) variable value) }
+    ensures { Exported packed_checked (λ a. any.left a (kept values.new bounds.new strict.new)) result (keeping.pin_call (given c rows cols q) (kept values.old bounds.old strict.old) variable value) }
 {
     pack_checked(kept::pin(c, rows, cols, q, values, bounds, strict, variable, value))
 }
@@ -407,7 +408,7 @@ pub extern "C" fn ombradiec_release(
     strict: &mut u32,
     variable: usize,
 ) -> u64
-    ensures { Exported packed_checked (λ a. any.left a (kept (after values) (after bounds) (after strict))) result (keeping.release_call (given c rows cols q) (kept (before values) (before bounds) (before strict)) variable) }
+    ensures { Exported packed_checked (λ a. any.left a (kept values.new bounds.new strict.new)) result (keeping.release_call (given c rows cols q) (kept values.old bounds.old strict.old) variable) }
 {
     pack_checked(kept::release(c, rows, cols, q, values, bounds, strict, variable))
 }
@@ -425,7 +426,7 @@ pub extern "C" fn ombradiec_close(
     f: &mut [f64],
     u: &mut [u32],
 ) -> u64
-    ensures { Exported packed_counted (λ a. keeping.closed a (after list) (after f) (after u)) result (keeping.close_call (given c rows cols q) (before values) (before bounds) (before list) (before f) (before u)) }
+    ensures { Exported packed_counted (λ a. keeping.closed a list.new f.new u.new) result (keeping.close_call (given c rows cols q) values.now bounds.now list.old f.old u.old) }
 {
     pack_counted(kept::close(c, rows, cols, q, values, bounds, list, f, u))
 }
@@ -440,7 +441,7 @@ pub extern "C" fn ombradiec_allow(
     w: &mut [u64],
     u: &mut [u32],
 ) -> u64
-    ensures { Exported packed_allowed (λ a. allowing.left a (after assignment) (after counts) (after w) (after u)) result (allowing.allow_call variables (before constraints) (before assignment) (before counts) (before w) (before u)) }
+    ensures { Exported packed_allowed (λ a. allowing.left a assignment.new counts.new w.new u.new) result (allowing.allow_call variables constraints.now assignment.old counts.old w.old u.old) }
 {
     pack_allowed(allow::allow(variables, constraints, assignment, counts, w, u))
 }

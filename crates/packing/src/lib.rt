@@ -1,4 +1,6 @@
 // An answer as one number, for programs in C and Rust.
+#![tactic(auto)]
+
 ghost use Rattle.std.specs.Prelude.{◌≡◌, ◌<◌};
 ghost use Rattle.field.specs.Answers.{number_of, position_of};
 ghost use Rattle.packing.specs.Layout.{packed, grade_number as grade_number_of, packed_checked, checked_count, packed_answer, answer_count, packed_counted, count_of, packed_paired, paired_count, pairs_examined, ground_number as ground_number_of, packed_reasoned, reasoned_count, reasoned_unit, bound_of as the_bound_of, bound_after as bound_after_of, packed_reduced, new_entries, new_variables, constant_after as constant_after_of, packed_mended, mended_entries, mended_changes, packed_allowed, allowed_count};

@@ -1,8 +1,9 @@
 // Pair dominance: the public call.
+#![tactic(auto)]
+
 mod listing;
 
 ghost use Rattle.std.specs.Prelude.{◌≡◌, length};
-ghost use Rattle.scratch.specs.Lent.{before, after};
 ghost use Rattle.field.specs.Field.{lent, given};
 ghost use Rattle.field.specs.Tests.{Ready};
 ghost use Rattle.pairs.specs.Walk.{Walked};
@@ -12,7 +13,7 @@ use crate::listing::Tally;
 use field::{Checked, Grade, Refusal};
 
 // What the call answers: done, with the field's grade, the number of constraints and the number of pairs examined, or a refusal.
-#[derive(Drop)]
+#[derive(Clone, Copy)]
 pub enum Paired {
     Done(Grade, usize, usize),
     Refused(Refusal),
@@ -31,7 +32,7 @@ fn work(
     u: &mut [u32],
 ) -> Tally
     requires { Ready (lent c rows cols q) start.now (length f.old) (length u.old) }
-    ensures { Walked (given c rows cols q) (before start) limit (before constraints) (after constraints) result }
+    ensures { Walked (given c rows cols q) start.now limit constraints.old constraints.new result }
 {
     let n = c.len();
     let m = rows.len();
@@ -54,7 +55,7 @@ pub fn pairs(
     f: &mut [f64],
     u: &mut [u32],
 ) -> Paired
-    ensures { left result (after constraints) (after f) (after u) ≡ pairs_call (given c rows cols q) (before start) limit (before constraints) (before f) (before u) }
+    ensures { left result constraints.new f.new u.new ≡ pairs_call (given c rows cols q) start.now limit constraints.old f.old u.old }
 {
     let checked = field::tests::ready(c, rows, cols, q, start, f.len(), u.len());
     if let Checked::Failed(refusal) = checked {

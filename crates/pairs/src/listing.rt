@@ -1,7 +1,6 @@
 // The walk over the free pairs in rising order, and the list of the records that they give.
 ghost use Rattle.std.specs.Prelude.{◌≡◌, true, cond, map, ◌+◌, ◌<◌, ◌≤◌, eqb, length};
 ghost use Rattle.meaning.specs.Kinds.{pair};
-ghost use Rattle.scratch.specs.Lent.{before, after};
 ghost use Rattle.meaning.specs.Free.{is_free};
 ghost use Rattle.field.specs.Field.{given, lent, variables};
 ghost use Rattle.margins.specs.Model.{sum_kinds, diff_kinds, signs_of, pair_signs, tolerance as tolerance_of};
@@ -15,14 +14,14 @@ use margins::walking::{Walk, walk_rows, weight_of};
 use scratch::wide_word;
 
 // Two positions in the list of free variables.
-#[derive(Drop)]
+#[derive(Clone, Copy)]
 pub struct Cursor {
     pub first: usize,
     pub second: usize,
 }
 
 // How many pairs were examined, and how many records they gave.
-#[derive(Drop)]
+#[derive(Clone, Copy)]
 pub struct Tally {
     pub pairs: usize,
     pub items: usize,
@@ -40,7 +39,7 @@ fn counted(value: u8) -> usize
 pub fn list_free(values: &[u8], u: &mut [u32], base: usize) -> usize
     requires values_len_bound { length values.now ≤ 4096 }
     requires values_in_bounds { base + length values.now ≤ length u.old }
-    ensures { Freed (before values) base (length (before values)) (before u) (after u) result }
+    ensures { Freed values.now base (length values.now) u.old u.new result }
 {
     let mut count = 0;
     for i in 0..values.len() {
@@ -67,7 +66,7 @@ fn pair_bounds(
     requires i_bound { (i < variables (lent c rows cols q)) × (j < variables (lent c rows cols q)) }
     requires i_value { (is_free values.now i ≡ true) × (is_free values.now j ≡ true) }
     requires t_value { t ≡ tolerance_of (lent c rows cols q) i j }
-    ensures { signs_of t result ≡ pair_signs (given c rows cols q) (before values) i j }
+    ensures { signs_of t result ≡ pair_signs (given c rows cols q) values.now i j }
 {
     let n = c.len();
     let ends = n + 1 + 2 * rows.len();
@@ -101,7 +100,7 @@ fn pair_bounds(
 fn append(list: &mut [u16], at: usize, key: u32) -> usize
     requires at_bound { at ≤ 250000 }
     requires key_bound { key < 268435456 }
-    ensures { Appended (standing key) (before list) at (after list) result }
+    ensures { Appended (standing key) list.old at list.new result }
 {
     if key == 0 {
         return at;
@@ -157,7 +156,7 @@ fn append_pair(
     requires i_bound { (i < variables (lent c rows cols q)) × (j < variables (lent c rows cols q)) }
     requires i_value { (is_free values.now i ≡ true) × (is_free values.now j ≡ true) }
     requires at_bound { at ≤ 250000 }
-    ensures { Appended (pair_records (given c rows cols q) (before values) (pair i j)) (before list) at (after list) result }
+    ensures { Appended (pair_records (given c rows cols q) values.now (pair i j)) list.old at list.new result }
 {
     let n = c.len();
     let t = tolerance(f[n + i], f[n + j]);
@@ -225,7 +224,7 @@ pub fn walk_pairs(
     requires prepared { Prepared (lent c rows cols q) values.now f.now u.now }
     requires freed { Freed values.now (free_at (length c.now) (length rows.now)) (length values.now) u.now u.now k }
     requires values_in_bounds { free_at (length c.now) (length rows.now) + length values.now ≤ length u.now }
-    ensures { Walked (given c rows cols q) (before values) limit (before list) (after list) result }
+    ensures { Walked (given c rows cols q) values.now limit list.old list.new result }
 {
     let most = capped(limit);
     let base = c.len() + 1 + 2 * rows.len() + c.len() + 2 * rows.len();

@@ -1,8 +1,9 @@
 // Components by a last-in stack: from a start, every open variable that entries join to it.
+#![tactic(auto)]
+
 mod steps;
 
 ghost use Rattle.std.specs.Prelude.{◌≡◌, ◌<◌, ◌≤◌, length};
-ghost use Rattle.scratch.specs.Lent.{before, after};
 ghost use Rattle.field.specs.Field.{given, lent, variables, Shaped};
 ghost use Rattle.parts.specs.Cells.{cells, past, Placed, Begun, Walked};
 
@@ -19,7 +20,7 @@ pub fn begin(
     requires shaped { Shaped (lent c rows cols q) }
     requires values_len { length values.now ≡ variables (lent c rows cols q) }
     requires q_in_bounds { past (lent c rows cols q) ≤ length u.old }
-    ensures { Begun (given c rows cols q) all (before values) (before u) (after u) }
+    ensures { Begun (given c rows cols q) all values.now u.old u.new }
 {
     let n = c.len();
     let base = n + 1 + 2 * rows.len();
@@ -42,7 +43,7 @@ pub fn walk(
 ) -> usize
     requires placed { Placed (lent c rows cols q) (cells u.old 0) }
     requires start_bound { start < variables (lent c rows cols q) }
-    ensures { Walked (given c rows cols q) zeros start (before u) (after u) result }
+    ensures { Walked (given c rows cols q) zeros start u.old u.new result }
 {
     let top = steps::visit(c, rows, cols, q, u, 0, start);
     steps::pop_all(c, rows, cols, q, zeros, u, top)

@@ -1,7 +1,6 @@
 // The steps of a walk: each moves the lent words as a step of the model moves its search.
 ghost use Rattle.std.specs.Prelude.{◌≡◌, ◌+◌, ◌<◌, ◌≤◌, length, get_or, set};
 ghost use Rattle.std.proofs.Math.Seq.{paste};
-ghost use Rattle.scratch.specs.Lent.{before, after};
 ghost use Rattle.field.specs.Field.{given, lent, variables, entries};
 ghost use Rattle.places.specs.Places.{other_end};
 ghost use Rattle.parts.specs.Walk as model;
@@ -22,7 +21,7 @@ fn mark_of(v: u8, all: bool) -> u32
 // The marks of all variables, from index base on.
 pub fn mark(values: &[u8], all: bool, base: usize, u: &mut [u32])
     requires { base + length values.now ≤ length u.old }
-    ensures { after u ≡ paste (before u) base (model.opened all (before values)) (length (before values)) }
+    ensures { u.new ≡ paste u.old base (model.opened all values.now) (length values.now) }
 {
     for i in 0..values.len() {
         u[base + i] = mark_of(values[i], all);
@@ -48,7 +47,7 @@ pub fn visit(
 ) -> usize
     requires placed { Placed (lent c rows cols q) (cells u.old top) }
     requires j_bound { j < variables (lent c rows cols q) }
-    ensures { Does (given c rows cols q) (λ w. model.visit w j) (cells (before u) top) (cells (after u) result) }
+    ensures { Does (given c rows cols q) (λ w. model.visit w j) (cells u.old top) (cells u.new result) }
 {
     let n = c.len();
     let base = n + 1 + 2 * rows.len();
@@ -77,8 +76,8 @@ fn visit_at(
     requires k_bound { k < entries (lent c rows cols q) }
     requires j_value { j ≡ other_end rows.now cols.now i k }
     ensures { Does (given c rows cols q) (λ w. model.visit_at (given c rows cols q) zeros i w k)
-        (cells (before u) top)
-        (cells (after u) result) }
+        (cells u.old top)
+        (cells u.new result) }
 {
     let weight = q[k];
     if !joins_by(zeros, weight) {
@@ -101,8 +100,8 @@ fn push_neighbours(
     requires placed { Placed (lent c rows cols q) (cells u.old top) }
     requires i_bound { i < variables (lent c rows cols q) }
     ensures { Does (given c rows cols q) (λ w. model.serve (given c rows cols q) zeros w i)
-        (cells (before u) top)
-        (cells (after u) result) }
+        (cells u.old top)
+        (cells u.new result) }
 {
     let n = c.len();
     let start = wide_word(u[i]);
@@ -121,8 +120,8 @@ fn push_neighbours(
 fn pop(u: &mut [u32], from: usize, to: usize) -> usize
     requires from_in_bounds { from < length u.old }
     requires to_in_bounds { to < length u.old }
-    ensures value { result ≡ get_or (before u) from 0 }
-    ensures u_value { after u ≡ set (set (before u) from 0) to result }
+    ensures value { result ≡ get_or u.old from 0 }
+    ensures u_value { u.new ≡ set (set u.old from 0) to result }
 {
     let i = u[from];
     u[from] = 0;
@@ -141,7 +140,7 @@ pub fn pop_all(
     top: usize,
 ) -> usize
     requires { Placed (lent c rows cols q) (cells u.old top) }
-    ensures { Popped (given c rows cols q) zeros (cells (before u) top) (after u) result }
+    ensures { Popped (given c rows cols q) zeros (cells u.old top) u.new result }
 {
     let n = c.len();
     let stack = n + 1 + 2 * rows.len() + n;

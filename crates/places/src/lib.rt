@@ -1,17 +1,18 @@
 // For each variable its entries with their other ends, rising, an entry and an end in one word: flat lists with offsets in lent u32 scratch, made by a
 // counting sort.
+#![tactic(auto)]
+
 mod counting;
 mod placing;
 
 ghost use Rattle.std.specs.Prelude.{◌≡◌, ◌+◌, ◌*◌, ◌<◌, ◌≤◌, length};
-ghost use Rattle.scratch.specs.Lent.{before, after};
 ghost use Rattle.places.specs.Places.{EndsBelow, Built, entry_in as entry_in_of, end_in, other_end as other_end_of};
 
 // Makes the offsets and the flat lists at the front of u; past the last word u is unchanged.
 pub fn build(u: &mut [u32], rows: &[u16], cols: &[u16], n: usize)
     requires ends_below { EndsBelow n rows.now cols.now }
     requires rows_in_bounds { n + 1 + 2 * length rows.now ≤ length u.old }
-    ensures { Built n (before rows) (before cols) (before u) (after u) }
+    ensures { Built n rows.now cols.now u.old u.new }
 {
     scratch::clear_words(&mut u[..n]);
     counting::count(u, rows, cols, n);
@@ -37,7 +38,7 @@ pub fn end_in(word: u32) -> usize
 pub fn other_end(rows: &[u16], cols: &[u16], i: usize, k: usize) -> usize
     requires k_in_bounds { k < length rows.now }
     requires k_in_bounds_2 { k < length cols.now }
-    ensures { result ≡ other_end_of (before rows) (before cols) i k }
+    ensures { result ≡ other_end_of rows.now cols.now i k }
 {
     let r = scratch::wide_short(rows[k]);
     let c = scratch::wide_short(cols[k]);

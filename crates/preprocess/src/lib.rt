@@ -1,8 +1,9 @@
 // The public call: variables of no effect, the gradient closure, and small components.
+#![tactic(auto)]
+
 mod fixing;
 
 ghost use Rattle.std.specs.Prelude.{◌≡◌, length};
-ghost use Rattle.scratch.specs.Lent.{before, after};
 ghost use Rattle.field.specs.Field.{lent, given, variables};
 ghost use Rattle.field.specs.Tests.{Ready};
 ghost use Rattle.calls.specs.Values.{left};
@@ -24,7 +25,7 @@ fn close(
 )
     requires ready { Ready (lent c rows cols q) values.old (length f.old) (length u.old) }
     requires adjacent { Adjacent (variables (lent c rows cols q)) rows.now cols.now u.old }
-    ensures { Closes (given c rows cols q) (before values) (before u) (after values) (after u) }
+    ensures { Closes (given c rows cols q) values.old u.old values.new u.new }
 {
     rows::fill::fill(c, rows, cols, q, values, f);
     run::propagate(c, rows, cols, q, values, f, u);
@@ -42,7 +43,7 @@ pub fn work(
 )
     requires ready { Ready (lent c rows cols q) values.old (length f.old) (length u.old) }
     requires adjacent { Adjacent (variables (lent c rows cols q)) rows.now cols.now u.old }
-    ensures { Preprocesses (given c rows cols q) (before values) (after values) (after u) }
+    ensures { Preprocesses (given c rows cols q) values.old values.new u.new }
 {
     fixing::fix_idle(c, rows, cols, q, u, values);
     close(c, rows, cols, q, values, f, u);
@@ -59,7 +60,7 @@ pub fn preprocess(
     f: &mut [f64],
     u: &mut [u32],
 ) -> Answer
-    ensures { left result (after start) (after f) (after u) ≡ preprocess_call (given c rows cols q) (before start) (before f) (before u) }
+    ensures { left result start.new f.new u.new ≡ preprocess_call (given c rows cols q) start.old f.old u.old }
 {
     let checked = field::tests::ready(c, rows, cols, q, start, f.len(), u.len());
     if let Checked::Failed(refusal) = checked {

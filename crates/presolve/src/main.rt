@@ -1,4 +1,6 @@
 // The record program.
+#![tactic(auto)]
+
 fn main() {
     record_program::run();
 }

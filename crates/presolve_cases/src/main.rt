@@ -1,4 +1,6 @@
 // Answers many inputs, each after its length as two bytes, the lower first: the tests of the record format, made by tools/record_cases.
+#![tactic(auto)]
+
 use libc::{STDIN_FILENO, STDOUT_FILENO};
 
 // Whether there was one more input.

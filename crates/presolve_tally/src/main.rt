@@ -1,4 +1,6 @@
 // The record program, run with the argument `tally`.
+#![tactic(auto)]
+
 fn main() {
     record_program::run();
 }

@@ -1,9 +1,10 @@
 // The public call: a single probe with rows made afresh.
+#![tactic(auto)]
+
 pub mod testing;
 pub mod values;
 
 ghost use Rattle.std.specs.Prelude.{◌≡◌, length, set};
-ghost use Rattle.scratch.specs.Lent.{before, after};
 ghost use Rattle.field.specs.Field.{lent, given, variables};
 ghost use Rattle.run.specs.Run as model;
 ghost use Rattle.probe.specs.Call.{Probable, left, probe_one_call};
@@ -27,7 +28,7 @@ fn work(
 )
     requires probable { Probable (lent c rows cols q) start.now variable value (length f.old) (length u.old) }
     requires values_len { length values.old ≡ variables (lent c rows cols q) }
-    ensures { after values ≡ model.closure (given c rows cols q) (set (before start) variable value) }
+    ensures { values.new ≡ model.closure (given c rows cols q) (set start.now variable value) }
 {
     assume(start, variable, value, values);
     run::close(c, rows, cols, q, values, f, u);
@@ -46,7 +47,7 @@ pub fn cold_probe_one(
     f: &mut [f64],
     u: &mut [u32],
 ) -> Answer
-    ensures { left result (after values) (after f) (after u) ≡ probe_one_call (given c rows cols q) (before start) variable value (before values) (before f) (before u) }
+    ensures { left result values.new f.new u.new ≡ probe_one_call (given c rows cols q) start.now variable value values.old f.old u.old }
 {
     let checked = ready_to_probe(c, rows, cols, q, start, variable, value, f.len(), u.len());
     if let Checked::Failed(refusal) = checked {

@@ -1,6 +1,5 @@
 // The tests of a single probe.
 ghost use Rattle.std.specs.Prelude.{◌≡◌, length};
-ghost use Rattle.scratch.specs.Lent.{before};
 ghost use Rattle.field.specs.Field.{given};
 ghost use Rattle.field.specs.Table.{tested};
 ghost use Rattle.probe.specs.Call.{may_probe as may_probe_of, probe_tests};
@@ -10,7 +9,7 @@ use field::{Checked, Refusal};
 // 7, of the probed variable and the probed value
 fn may_probe(n: usize, start: &[u8], variable: usize, value: u8) -> bool
     requires { length start.now ≡ n }
-    ensures { result ≡ may_probe_of n (before start) variable value }
+    ensures { result ≡ may_probe_of n start.now variable value }
 {
     if variable >= n {
         return false;
@@ -33,7 +32,7 @@ pub fn ready_to_probe(
     floats: usize,
     words: usize,
 ) -> Checked
-    ensures { result ≡ tested (probe_tests (given c rows cols q) (before start) variable value floats words) }
+    ensures { result ≡ tested (probe_tests (given c rows cols q) start.now variable value floats words) }
 {
     let sound = field::tests::standard(c, rows, cols, q, start);
     if let Checked::Failed(refusal) = sound {

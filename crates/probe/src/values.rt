@@ -1,12 +1,11 @@
 // Values from start values: a copy of them with one value added, and what stands without them.
 ghost use Rattle.std.specs.Prelude.{◌≡◌, ◌<◌, length, set};
-ghost use Rattle.scratch.specs.Lent.{before, after};
 ghost use Rattle.probe.specs.Call.{new_at as new_at_of, new_only};
 
 // The start values go into the values.
 pub fn copy(start: &[u8], values: &mut [u8])
     requires { length values.old ≡ length start.now }
-    ensures { after values ≡ before start }
+    ensures { values.new ≡ start.now }
 {
     for i in 0..start.len() {
         values[i] = start[i];
@@ -17,7 +16,7 @@ pub fn copy(start: &[u8], values: &mut [u8])
 pub fn assume(start: &[u8], variable: usize, value: u8, values: &mut [u8])
     requires values_len { length values.old ≡ length start.now }
     requires variable_in_bounds { variable < length start.now }
-    ensures { after values ≡ set (before start) variable value }
+    ensures { values.new ≡ set start.now variable value }
 {
     copy(start, values);
     values[variable] = value;
@@ -33,7 +32,7 @@ fn new_at(start: u8, value: u8) -> u8
 // 2 goes where the start value is not free.
 pub fn keep_new(start: &[u8], values: &mut [u8])
     requires { length values.old ≡ length start.now }
-    ensures { after values ≡ new_only (before start) (before values) }
+    ensures { values.new ≡ new_only start.now values.old }
 {
     for i in 0..start.len() {
         values[i] = new_at(start[i], values[i]);

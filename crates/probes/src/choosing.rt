@@ -1,6 +1,5 @@
 // The candidates of the limited probe.
 ghost use Rattle.std.specs.Prelude.{◌≡◌, length};
-ghost use Rattle.scratch.specs.Lent.{before, after};
 ghost use Rattle.field.specs.Field.{lent, given};
 ghost use Rattle.field.specs.Tests.{Ready};
 ghost use Rattle.probes.specs.Standing.{Chosen};
@@ -17,7 +16,7 @@ pub fn choose(
     u: &mut [u32],
 ) -> usize
     requires { Ready (lent c rows cols q) start.now (length f.old) (length u.old) }
-    ensures { Chosen (given c rows cols q) (before start) limit (before f) (after f) (before u) (after u) result }
+    ensures { Chosen (given c rows cols q) start.now limit f.old f.new u.old u.new result }
 {
     let n = c.len();
     let masses = n + n + (n + n);

@@ -1,10 +1,11 @@
 // The public calls: the single probe, and the full and the limited one, over remembered rows.
+#![tactic(auto)]
+
 pub mod choosing;
 pub mod settling;
 pub mod values;
 
 ghost use Rattle.std.specs.Prelude.{◌≡◌, length, take};
-ghost use Rattle.scratch.specs.Lent.{before, after};
 ghost use Rattle.meaning.specs.Free.{free_to};
 ghost use Rattle.field.specs.Field.{lent, given, variables};
 ghost use Rattle.field.specs.Tests.{Ready};
@@ -35,8 +36,8 @@ fn prepare(
 ) -> Known
     requires ready { Ready (lent c rows cols q) start.now (length f.old) (length u.old) }
     requires values_len { length values.old ≡ variables (lent c rows cols q) }
-    ensures values_value { after values ≡ before start }
-    ensures remembers { Remembers (given c rows cols q) (before start) (after f) (after u) result }
+    ensures values_value { values.new ≡ start.now }
+    ensures remembers { Remembers (given c rows cols q) start.now f.new u.new result }
 {
     let grade = field::grading::graded(c, rows, cols, q);
     copy(start, values);
@@ -57,7 +58,7 @@ pub fn probe_one(
     f: &mut [f64],
     u: &mut [u32],
 ) -> Answer
-    ensures { one.left result (after values) (after f) (after u) ≡ one.probe_one_call (given c rows cols q) (before start) variable value (before values) (before f) (before u) }
+    ensures { one.left result values.new f.new u.new ≡ one.probe_one_call (given c rows cols q) start.now variable value values.old f.old u.old }
 {
     let checked = ready_to_probe(c, rows, cols, q, start, variable, value, f.len(), u.len());
     if let Checked::Failed(refusal) = checked {
@@ -91,7 +92,7 @@ fn probe_all(
 ) -> Counted
     requires ready { Ready (lent c rows cols q) start.now (length f.old) (length u.old) }
     requires values_len { length values.old ≡ variables (lent c rows cols q) }
-    ensures { left result (after values) (after constraints) (after f) (after u) ≡ settled (given c rows cols q) (before start) (free_to (before start) (variables (given c rows cols q))) (before values) (before constraints) (before f) (before u) }
+    ensures { left result values.new constraints.new f.new u.new ≡ settled (given c rows cols q) start.now (free_to start.now (variables (given c rows cols q))) values.old constraints.old f.old u.old }
 {
     let n = c.len();
     let known = prepare(c, rows, cols, q, start, values, f, u);
@@ -126,7 +127,7 @@ fn probe_some(
 ) -> Counted
     requires ready { Ready (lent c rows cols q) start.now (length f.old) (length u.old) }
     requires values_len { length values.old ≡ variables (lent c rows cols q) }
-    ensures { left result (after values) (after constraints) (after f) (after u) ≡ settled (given c rows cols q) (before start) (take candidates (ranks (given c rows cols q) (before start))) (before values) (before constraints) (before f) (before u) }
+    ensures { left result values.new constraints.new f.new u.new ≡ settled (given c rows cols q) start.now (take candidates (ranks (given c rows cols q) start.now)) values.old constraints.old f.old u.old }
 {
     let known = prepare(c, rows, cols, q, start, values, f, u);
     let count = choose(c, rows, cols, q, start, candidates, f, u);
@@ -157,7 +158,7 @@ pub fn probe(
     f: &mut [f64],
     u: &mut [u32],
 ) -> Counted
-    ensures { left result (after values) (after constraints) (after f) (after u) ≡ probe_call (given c rows cols q) (before start) (before values) (before constraints) (before f) (before u) }
+    ensures { left result values.new constraints.new f.new u.new ≡ probe_call (given c rows cols q) start.now values.old constraints.old f.old u.old }
 {
     let checked = field::tests::ready(c, rows, cols, q, start, f.len(), u.len());
     if let Checked::Failed(refusal) = checked {
@@ -182,7 +183,7 @@ pub fn probe_limited(
     f: &mut [f64],
     u: &mut [u32],
 ) -> Counted
-    ensures { left result (after values) (after constraints) (after f) (after u) ≡ probe_limited_call (given c rows cols q) (before start) candidates (before values) (before constraints) (before f) (before u) }
+    ensures { left result values.new constraints.new f.new u.new ≡ probe_limited_call (given c rows cols q) start.now candidates values.old constraints.old f.old u.old }
 {
     let n = c.len();
     let checked = field::tests::ready(c, rows, cols, q, start, f.len(), u.len());

@@ -1,7 +1,6 @@
 // From the candidates to the answer: the walk, the probe values, and zeros in both scratches.
 ghost use Rattle.std.specs.Prelude.{◌≡◌, length};
 ghost use Rattle.weights.specs.Worth.{zero64};
-ghost use Rattle.scratch.specs.Lent.{before, after};
 ghost use Rattle.scratch.specs.Cleared.{cleared};
 ghost use Rattle.scratch.specs.Region.{region};
 ghost use Rattle.field.specs.declared.Counted.TheVariants.{Refuses};
@@ -18,7 +17,7 @@ use probing::Known;
 
 // 9: zeros in both answer lists and both scratches.
 pub fn no_room(values: &mut [u8], constraints: &mut [u16], f: &mut [f64], u: &mut [u32]) -> Counted
-    ensures { left result (after values) (after constraints) (after f) (after u) ≡ left (Refuses Room) (cleared 0 (before values)) (cleared 0 (before constraints)) (cleared zero64 (before f)) (cleared 0 (before u)) }
+    ensures { left result values.new constraints.new f.new u.new ≡ left (Refuses Room) (cleared 0 values.old) (cleared 0 constraints.old) (cleared zero64 f.old) (cleared 0 u.old) }
 {
     scratch::clear_bytes(values);
     scratch::clear_shorts(constraints);
@@ -30,9 +29,9 @@ pub fn no_room(values: &mut [u8], constraints: &mut [u16], f: &mut [f64], u: &mu
 // The probe values go from the words into the values, and the scratches are cleared.
 pub fn hand_over(values: &mut [u8], f: &mut [f64], u: &mut [u32], at: usize)
     requires { Bytes at (length values.old) u.old }
-    ensures values_value { after values ≡ region at (length (before values)) (before u) }
-    ensures f_value { after f ≡ cleared zero64 (before f) }
-    ensures u_value { after u ≡ cleared 0 (before u) }
+    ensures values_value { values.new ≡ region at (length values.old) u.old }
+    ensures f_value { f.new ≡ cleared zero64 f.old }
+    ensures u_value { u.new ≡ cleared 0 u.old }
 {
     take_values(values, u, at);
     scratch::clear_floats(f);
@@ -55,7 +54,7 @@ fn gather(
 ) -> Merged
     requires standing { Standing (lent c rows cols q) start.now f.old u.old known count }
     requires values_value { values.old ≡ start.now }
-    ensures { Walked (given c rows cols q) (before start) (region (candidates_at (given c rows cols q)) count (before u)) (before constraints) result (after constraints) (after u) }
+    ensures { Walked (given c rows cols q) start.now (region (candidates_at (given c rows cols q)) count u.old) constraints.old result constraints.new u.new }
 {
     let n = c.len();
     set_none(u, n + 1 + 2 * rows.len() + n + n, n + n);
@@ -90,7 +89,7 @@ pub fn settle(
 ) -> Counted
     requires standing { Standing (lent c rows cols q) start.now f.old u.old known count }
     requires values_value { values.old ≡ start.now }
-    ensures { left result (after values) (after constraints) (after f) (after u) ≡ settled (given c rows cols q) (before start) (region (candidates_at (given c rows cols q)) count (before u)) (before values) (before constraints) (before f) (before u) }
+    ensures { left result values.new constraints.new f.new u.new ≡ settled (given c rows cols q) start.now (region (candidates_at (given c rows cols q)) count u.old) values.old constraints.old f.old u.old }
 {
     let n = c.len();
     let at = n + 1 + 2 * rows.len() + n + n + n;

@@ -1,13 +1,12 @@
 // The probe values in the words: none at first, and taken from there.
 ghost use Rattle.std.specs.Prelude.{◌≡◌, ◌+◌, ◌≤◌, length};
-ghost use Rattle.scratch.specs.Lent.{before, after};
 ghost use Rattle.scratch.specs.Region.{region};
 ghost use Rattle.probes.specs.Standing.{Noned, Bytes};
 
 // 2 goes into n words from `at` on.
 pub fn set_none(u: &mut [u32], at: usize, n: usize)
     requires { at + n ≤ length u.old }
-    ensures { Noned at n (before u) (after u) }
+    ensures { Noned at n u.old u.new }
 {
     for j in 0..n {
         u[at + j] = 2;
@@ -17,7 +16,7 @@ pub fn set_none(u: &mut [u32], at: usize, n: usize)
 // The words from `at` on go into the values.
 pub fn take_values(values: &mut [u8], u: &[u32], at: usize)
     requires { Bytes at (length values.old) u.now }
-    ensures { after values ≡ region at (length (before values)) (before u) }
+    ensures { values.new ≡ region at (length values.old) u.now }
 {
     for j in 0..values.len() {
         values[j] = u[at + j] as u8;

@@ -1,8 +1,9 @@
 // A probe over remembered rows: only what it touches is worked.
+#![tactic(auto)]
+
 mod refreshing;
 
 ghost use Rattle.std.specs.Prelude.{◌≡◌, ◌<◌, get_or};
-ghost use Rattle.scratch.specs.Lent.{before, after};
 ghost use Rattle.field.specs.Field.{given, lent};
 ghost use Rattle.run.specs.Cells.{cells};
 ghost use Rattle.probing.specs.Remembered.{Remembers, Probes};
@@ -10,7 +11,7 @@ ghost use Rattle.probing.specs.Remembered.{Remembers, Probes};
 use field::Grade;
 
 // What is known before any probe: how many candidates the start values give, and the field's grade.
-#[derive(Drop)]
+#[derive(Clone, Copy)]
 pub struct Known {
     pub many: usize,
     pub grade: Grade,
@@ -33,9 +34,9 @@ pub fn probe(
     requires remembers { Remembers (lent c rows cols q) values.old f.old u.old known }
     requires variable_value { get_or values.old variable 0 ≡ 2 }
     requires value_bound { value < 2 }
-    ensures { Probes (given c rows cols q) (before values) variable value
-        (cells (before values) (before f) (before u) 0)
-        (cells (after values) (after f) (after u) result) }
+    ensures { Probes (given c rows cols q) values.old variable value
+        (cells values.old f.old u.old 0)
+        (cells values.new f.new u.new result) }
 {
     let grade = known.grade;
     values[variable] = value;

@@ -1,6 +1,5 @@
 // The rows of the probed variable's neighbours: made afresh at the values, each from its variable's places, or its term moved.
 ghost use Rattle.std.specs.Prelude.{◌≡◌, ◌<◌, length};
-ghost use Rattle.scratch.specs.Lent.{before, after};
 ghost use Rattle.field.specs.Field.{given, lent, variables, entries, Standard};
 ghost use Rattle.field.specs.Grade.{grade_of};
 ghost use Rattle.rows.specs.Model.{row_of};
@@ -30,7 +29,7 @@ fn add_place(
     requires k_in_bounds { k < length q.now }
     requires j_in_bounds { j < length values.now }
     requires j_value { j ≡ other_end rows.now cols.now t k }
-    ensures { result ≡ model.add_place (before rows) (before cols) (before q) (before values) t row k }
+    ensures { result ≡ model.add_place rows.now cols.now q.now values.now t row k }
 {
     let coeff = weights::half(q[k]);
     row.add_term(coeff, values[j])
@@ -48,7 +47,7 @@ fn fresh_row(
 ) -> Row
     requires readable { model.Readable (lent c rows cols q) values.now u.now }
     requires t_bound { t < variables (lent c rows cols q) }
-    ensures { result ≡ row_of (given c rows cols q) (before values) t }
+    ensures { result ≡ row_of (given c rows cols q) values.now t }
 {
     let n = c.len();
     let start = wide_word(u[t]);
@@ -79,8 +78,8 @@ fn refresh_at(
     requires standard { Standard (lent c rows cols q) }
     requires k_bound { k < entries (lent c rows cols q) }
     ensures { Does (given c rows cols q) (λ run. model.fresh_at (given c rows cols q) i run k)
-        (cells (before values) (before f) (before u) 0)
-        (cells (before values) (after f) (before u) 0) }
+        (cells values.now f.old u.now 0)
+        (cells values.now f.new u.now 0) }
 {
     let t = places::other_end(rows, cols, i, k);
     if values[t] != 2 {
@@ -109,10 +108,10 @@ fn refresh_once(
     requires standard { Standard (lent c rows cols q) }
     requires k_bound { k < entries (lent c rows cols q) }
     requires within { once.Within (lent c rows cols q) u.now i end x }
-    ensures within_2 { once.Within (given c rows cols q) (before u) i end result }
+    ensures within_2 { once.Within (given c rows cols q) u.now i end result }
     ensures once { once.Once (given c rows cols q) i k
-        (cells (before values) (before f) (before u) 0)
-        (cells (before values) (after f) (before u) 0) }
+        (cells values.now f.old u.now 0)
+        (cells values.now f.new u.now 0) }
 {
     let t = wide_short(rows[k]);
     if t == i {
@@ -143,8 +142,8 @@ fn refresh(
     requires standard { Standard (lent c rows cols q) }
     requires i_bound { i < variables (lent c rows cols q) }
     ensures { Does (given c rows cols q) (λ run. model.fresh (given c rows cols q) run i)
-        (cells (before values) (before f) (before u) 0)
-        (cells (before values) (after f) (before u) 0) }
+        (cells values.now f.old u.now 0)
+        (cells values.now f.new u.now 0) }
 {
     let n = c.len();
     let start = wide_word(u[i]);
@@ -174,8 +173,8 @@ fn move_at(
     requires k_bound { k < entries (lent c rows cols q) }
     requires t_value { t ≡ other_end rows.now cols.now i k }
     ensures { Does (given c rows cols q) (λ run. model.move_at (given c rows cols q) i v run k)
-        (cells (before values) (before f) (before u) 0)
-        (cells (before values) (after f) (before u) 0) }
+        (cells values.now f.old u.now 0)
+        (cells values.now f.new u.now 0) }
 {
     let coeff = weights::half(q[k]);
     move_row(f, c.len(), t, coeff, v);
@@ -196,8 +195,8 @@ fn move_terms(
     requires placed { Placed (lent c rows cols q) (cells values.now f.old u.now 0) }
     requires i_bound { i < variables (lent c rows cols q) }
     ensures { Does (given c rows cols q) (λ run. model.moves (given c rows cols q) v run i)
-        (cells (before values) (before f) (before u) 0)
-        (cells (before values) (after f) (before u) 0) }
+        (cells values.now f.old u.now 0)
+        (cells values.now f.new u.now 0) }
 {
     let n = c.len();
     let start = wide_word(u[i]);
@@ -237,8 +236,8 @@ pub fn renew(
     requires i_bound { i < variables (lent c rows cols q) }
     requires grade_value { grade ≡ grade_of (lent c rows cols q) }
     ensures { Does (given c rows cols q) (λ run. model.renewed (given c rows cols q) v run i)
-        (cells (before values) (before f) (before u) 0)
-        (cells (before values) (after f) (before u) 0) }
+        (cells values.now f.old u.now 0)
+        (cells values.now f.new u.now 0) }
 {
     if is_exact(grade) {
         move_terms(c, rows, cols, q, values, f, u, i, v);

@@ -1,8 +1,9 @@
 // The public call: propagation of constraints over start values.
+#![tactic(auto)]
+
 pub mod tests;
 
 ghost use Rattle.std.specs.Prelude.{◌≡◌, ◌≤◌, length, take};
-ghost use Rattle.scratch.specs.Lent.{before, after};
 ghost use Rattle.literals.specs.Going.{Small};
 ghost use Rattle.propagation.specs.Call.{left, propagate_call};
 
@@ -12,7 +13,7 @@ use field::{Checked, Refusal};
 fn write_back(start: &mut [u8], u: &[u32])
     requires start_in_bounds { length start.old ≤ length u.now }
     requires small { Small (length start.old) u.now }
-    ensures { after start ≡ take (length (before start)) (before u) }
+    ensures { start.new ≡ take (length start.old) u.now }
 {
     for i in 0..start.len() {
         start[i] = u[i] as u8;
@@ -21,7 +22,7 @@ fn write_back(start: &mut [u8], u: &[u32])
 
 // Implied values go into the start values; a clash or a refusal leaves them as they are.
 pub fn propagate(start: &mut [u8], constraints: &[u16], u: &mut [u32]) -> Checked
-    ensures { left result (after start) (after u) ≡ propagate_call (before start) (before constraints) (before u) }
+    ensures { left result start.new u.new ≡ propagate_call start.old constraints.now u.old }
 {
     let checked = tests::ready(start, constraints, u.len());
     if let Checked::Failed(refusal) = checked {

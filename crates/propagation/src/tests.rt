@@ -1,6 +1,5 @@
 // Tests 1, 6, 7 and 8, in this order.
 ghost use Rattle.std.specs.Prelude.{◌≡◌, ◌+◌, ◌*◌, ◌<◌};
-ghost use Rattle.scratch.specs.Lent.{before};
 ghost use Rattle.meaning.specs.Records.{record_on};
 ghost use Rattle.field.specs.Table.{tested};
 ghost use Rattle.propagation.specs.Tests.{fits as fits_in, all_fit, constraints_fit as constraints_fit_of, propagation_tests};
@@ -25,7 +24,7 @@ fn fits(n: usize, lower: usize, higher: usize, set: usize) -> bool
 
 // Whether every three numbers of the list are one.
 fn all_fit(n: usize, list: &[u16]) -> bool
-    ensures { result ≡ all_fit n (before list) }
+    ensures { result ≡ all_fit n list.now }
 {
     let k = list.len() / 3;
     let mut t: usize = 0;
@@ -44,7 +43,7 @@ fn all_fit(n: usize, list: &[u16]) -> bool
 
 // Test 7: whole records, at most 65,536, each with a set of 1 to 15 and rising ends below n.
 pub fn constraints_fit(n: usize, list: &[u16]) -> bool
-    ensures { result ≡ constraints_fit_of n (before list) }
+    ensures { result ≡ constraints_fit_of n list.now }
 {
     if list.len() > 196608 {
         return false;
@@ -57,7 +56,7 @@ pub fn constraints_fit(n: usize, list: &[u16]) -> bool
 
 // Makes tests 1, 6, 7 and 8 of `propagate`, in this order.
 pub fn ready(start: &[u8], list: &[u16], words: usize) -> Checked
-    ensures { result ≡ tested (propagation_tests (before start) (before list) words) }
+    ensures { result ≡ tested (propagation_tests start.now list.now words) }
 {
     let n = start.len();
     if !field::tests::few_variables(n) {

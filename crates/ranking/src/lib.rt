@@ -1,10 +1,11 @@
 // The candidates of the limited probe: the free variables by falling edge mass, then rising index.
+#![tactic(auto)]
+
 pub mod listing;
 mod masses;
 pub mod order;
 mod selecting;
 
-ghost use Rattle.scratch.specs.Lent.{before, after};
 ghost use Rattle.field.specs.Field.{given, lent, entries};
 ghost use Rattle.ranking.specs.Masses.{Rankable, Ranked, Massed};
 
@@ -23,8 +24,8 @@ pub fn rank(
     limit: usize,
 ) -> usize
     requires { Rankable (lent c rows cols q) start.now w.old u.old at }
-    ensures ranked { Ranked (given c rows cols q) (before start) limit (before u) (after u) at result }
-    ensures massed { Massed (given c rows cols q) (before start) (after w) (entries (given c rows cols q)) }
+    ensures ranked { Ranked (given c rows cols q) start.now limit u.old u.new at result }
+    ensures massed { Massed (given c rows cols q) start.now w.new (entries (given c rows cols q)) }
 {
     masses::fill(c, rows, cols, q, start, w);
     let count = list_free(start, u, at);

@@ -1,6 +1,5 @@
 // The free variables, listed in the u32 scratch.
 ghost use Rattle.std.specs.Prelude.{◌≡◌, ◌+◌, ◌≤◌, length};
-ghost use Rattle.scratch.specs.Lent.{before, after};
 ghost use Rattle.ranking.specs.Listed.{step_of, Listed};
 
 // How far a start value moves the end of the list: 1 for a free variable, 0 for another.
@@ -15,7 +14,7 @@ pub fn step(value: u8) -> usize
 pub fn list_free(start: &[u8], u: &mut [u32], at: usize) -> usize
     requires start_len_bound { length start.now ≤ 4096 }
     requires start_in_bounds { at + length start.now ≤ length u.old }
-    ensures { Listed (before start) at (length (before start)) (before u) (after u) result }
+    ensures { Listed start.now at (length start.now) u.old u.new result }
 {
     let mut count = 0;
     for j in 0..start.len() {

@@ -1,6 +1,5 @@
 // The edge masses: |q| of each entry with both ends free, at either end.
 ghost use Rattle.std.specs.Prelude.{◌≡◌, ◌<◌, length};
-ghost use Rattle.scratch.specs.Lent.{before, after};
 ghost use Rattle.field.specs.Field.{given, lent, entries};
 ghost use Rattle.weights.specs.Worth.{zero64};
 ghost use Rattle.scratch.specs.Cleared.{cleared};
@@ -9,7 +8,7 @@ ghost use Rattle.ranking.specs.Masses.{added, add_entry as add_entry_of, Massabl
 // Adds a to the mass at i.
 fn add_at(w: &mut [f64], i: usize, a: f64)
     requires { i < length w.old }
-    ensures { after w ≡ added (before w) i a }
+    ensures { w.new ≡ added w.old i a }
 {
     w[i] = w[i] + a;
 }
@@ -26,7 +25,7 @@ fn add_entry(
 )
     requires massable { Massable (lent c rows cols q) start.now w.old }
     requires k_bound { k < entries (lent c rows cols q) }
-    ensures { after w ≡ add_entry_of (given c rows cols q) (before start) (before w) k }
+    ensures { w.new ≡ add_entry_of (given c rows cols q) start.now w.old k }
 {
     let i = scratch::wide_short(rows[k]);
     let j = scratch::wide_short(cols[k]);
@@ -45,7 +44,7 @@ fn add_entry(
 fn add_entries(c: &[f64], rows: &[u16], cols: &[u16], q: &[f64], start: &[u8], w: &mut [f64])
     requires massable { Massable (lent c rows cols q) start.now w.old }
     requires w_value { w.old ≡ cleared zero64 w.old }
-    ensures { Massed (given c rows cols q) (before start) (after w) (entries (given c rows cols q)) }
+    ensures { Massed (given c rows cols q) start.now w.new (entries (given c rows cols q)) }
 {
     for k in 0..q.len() {
         add_entry(c, rows, cols, q, start, w, k);
@@ -55,7 +54,7 @@ fn add_entries(c: &[f64], rows: &[u16], cols: &[u16], q: &[f64], start: &[u8], w
 // The mass of each variable.
 pub fn fill(c: &[f64], rows: &[u16], cols: &[u16], q: &[f64], start: &[u8], w: &mut [f64])
     requires { Massable (lent c rows cols q) start.now w.old }
-    ensures { Massed (given c rows cols q) (before start) (after w) (entries (given c rows cols q)) }
+    ensures { Massed (given c rows cols q) start.now w.new (entries (given c rows cols q)) }
 {
     scratch::clear_floats(w);
     add_entries(c, rows, cols, q, start, w);

@@ -1,6 +1,5 @@
 // The answer of the call, from the tests on.
 ghost use Rattle.std.specs.Prelude.{◌≡◌, ◌≤◌, ◌<◌, length};
-ghost use Rattle.scratch.specs.Lent.{before, after};
 ghost use Rattle.field.specs.Field.{given, lent, variables};
 ghost use Rattle.field.specs.Grade.{unit_of, ExactIn};
 ghost use Rattle.field.specs.Tests.{Ready};
@@ -14,7 +13,7 @@ use field::Refusal;
 // The marked variables go into the list, if it has room.
 fn fit(ground: Ground, unit: u8, values: &[u8], list: &mut [u16]) -> Reasoned
     requires { length values.now ≤ 4096 }
-    ensures { told result (after list) ≡ fitted ground unit (threes (before values) (length (before values))) (before list) }
+    ensures { told result list.new ≡ fitted ground unit (threes values.now (length values.now)) list.old }
 {
     let count = count_marked(values);
     if count > list.len() {
@@ -28,7 +27,7 @@ fn fit(ground: Ground, unit: u8, values: &[u8], list: &mut [u16]) -> Reasoned
 // No bound is strict: the variable stays free.
 fn finish(ground: Ground, unit: u8, values: &[u8], list: &mut [u16]) -> Reasoned
     requires { length values.now ≤ 4096 }
-    ensures { told result (after list) ≡ with_list ground unit (threes (before values) (length (before values))) (before list) }
+    ensures { told result list.new ≡ with_list ground unit (threes values.now (length values.now)) list.old }
 {
     match ground {
         Ground::Given => Reasoned::Refuses(Refusal::Unforced),
@@ -55,7 +54,7 @@ fn answer_free(
     requires exact_in { ExactIn (unit_of (lent c rows cols q)) (lent c rows cols q) }
     requires i_bound { i < variables (lent c rows cols q) }
     requires values_len { length values.old ≡ variables (lent c rows cols q) }
-    ensures { told result (after list) ≡ free_told (given c rows cols q) (before start) i unit (before list) }
+    ensures { told result list.new ≡ free_told (given c rows cols q) start.now i unit list.old }
 {
     probe::values::copy(start, values);
     let ground = trace(c, rows, cols, q, values, f, u, i, unit);
@@ -77,7 +76,7 @@ pub fn answer(
 ) -> Reasoned
     requires ready { Ready (lent c rows cols q) start.now (length f.old) (length u.old) }
     requires exact_in { ExactIn (unit_of (lent c rows cols q)) (lent c rows cols q) }
-    ensures { told result (after list) ≡ told_of (given c rows cols q) (before start) variable unit (before list) }
+    ensures { told result list.new ≡ told_of (given c rows cols q) start.now variable unit list.old }
 {
     if variable >= c.len() {
         return Reasoned::Refuses(Refusal::Unforced);

@@ -1,6 +1,5 @@
 // The run up to where a variable has its value, and the way back to what its bound rests on.
 ghost use Rattle.std.specs.Prelude.{◌≡◌, ◌+◌, ◌-◌, ◌<◌, ◌≤◌, length};
-ghost use Rattle.scratch.specs.Lent.{before, after};
 ghost use Rattle.scratch.specs.Region.{region};
 ghost use Rattle.field.specs.Field.{given, lent, variables};
 ghost use Rattle.run.specs.Cells.{cells, Placed};
@@ -9,7 +8,7 @@ ghost use Rattle.reason.specs.Stages.{Halted, AllBelow, back};
 use scratch::wide_word;
 
 // How many of the queue were served, and where the queue ends.
-#[derive(Drop)]
+#[derive(Clone, Copy)]
 pub struct Halt {
     pub head: usize,
     pub last: usize,
@@ -30,8 +29,8 @@ pub fn serve_until(
     requires placed { Placed (lent c rows cols q) (cells values.old f.old u.old tail) }
     requires i_bound { i < variables (lent c rows cols q) }
     ensures { Halted (given c rows cols q) i
-        (cells (before values) (before f) (before u) tail)
-        (cells (after values) (after f) (after u) result.last) result.head }
+        (cells values.old f.old u.old tail)
+        (cells values.new f.new u.new result.last) result.head }
 {
     let base = c.len() + 1 + 2 * rows.len();
     let mut last = tail;
@@ -52,7 +51,7 @@ pub fn take_back(values: &mut [u8], u: &[u32], base: usize, head: usize, last: u
     requires head_le_last { head ≤ last }
     requires last_in_bounds { base + last ≤ length u.now }
     requires all_below { AllBelow (length values.old) (region base last u.now) }
-    ensures { after values ≡ back (before values) (region base last (before u)) head (last - head) }
+    ensures { values.new ≡ back values.old (region base last u.now) head (last - head) }
 {
     for p in head..last {
         let t = wide_word(u[base + p]);

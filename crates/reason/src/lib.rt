@@ -1,11 +1,12 @@
 // Why a variable has its value: its ground, the values that the bound rests on, and the bound.
+#![tactic(auto)]
+
 mod answers;
 pub mod halt;
 pub mod marking;
 pub mod tracing;
 
 ghost use Rattle.std.specs.Prelude.{◌≡◌, length};
-ghost use Rattle.scratch.specs.Lent.{before, after};
 ghost use Rattle.field.specs.Field.{given, lent};
 ghost use Rattle.field.specs.Tests.{Ready};
 ghost use Rattle.reason.specs.Ground.{times as times_of, in_half_units as in_half_units_of, ground_of};
@@ -16,7 +17,7 @@ use field::{Checked, Refusal};
 use rows::{Conclusion, Verdict};
 
 // The variable is given; or a bound, in half units, forces it: a lower one above 0, or an upper one below 0.
-#[derive(Drop)]
+#[derive(Clone, Copy)]
 pub enum Ground {
     Given,
     Lower(f64),
@@ -24,7 +25,7 @@ pub enum Ground {
 }
 
 // What the call answers: the ground, the unit k, which is 2^(k - 20), and how many are listed; or a refusal.
-#[derive(Drop)]
+#[derive(Clone, Copy)]
 pub enum Reasoned {
     Because(Ground, u8, usize),
     Refuses(Refusal),
@@ -79,7 +80,7 @@ fn work(
     u: &mut [u32],
 ) -> Reasoned
     requires { Ready (lent c rows cols q) start.now (length f.old) (length u.old) }
-    ensures { told result (after list) ≡ graded_told (given c rows cols q) (before start) variable (before list) }
+    ensures { told result list.new ≡ graded_told (given c rows cols q) start.now variable list.old }
 {
     let unit = field::grading::least_unit(c, q);
     if unit == 41 {
@@ -100,7 +101,7 @@ pub fn reason(
     f: &mut [f64],
     u: &mut [u32],
 ) -> Reasoned
-    ensures { left result (after list) (after f) (after u) ≡ reason_call (given c rows cols q) (before start) variable (before list) (before f) (before u) }
+    ensures { left result list.new f.new u.new ≡ reason_call (given c rows cols q) start.now variable list.old f.old u.old }
 {
     let checked = field::tests::ready(c, rows, cols, q, start, f.len(), u.len());
     if let Checked::Failed(refusal) = checked {

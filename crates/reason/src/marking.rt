@@ -1,6 +1,5 @@
 // The fixed neighbours of a variable: marked among the values, then listed, rising.
 ghost use Rattle.std.specs.Prelude.{◌≡◌, true, cond, ◌+◌, ◌<◌, ◌≤◌, eqb, length};
-ghost use Rattle.scratch.specs.Lent.{before, after};
 ghost use Rattle.scratch.specs.Over.{over};
 ghost use Rattle.places.specs.Places.{Adjacent, EndsBelow, places};
 ghost use Rattle.reason.specs.Stages.{marked as marked_of, mark_all, threes, Pushed};
@@ -19,7 +18,7 @@ pub fn mark(rows: &[u16], cols: &[u16], values: &mut [u8], u: &[u32], i: usize)
     requires ends_below { EndsBelow (length values.old) rows.now cols.now }
     requires adjacent { Adjacent (length values.old) rows.now cols.now u.now }
     requires i_in_bounds { i < length values.old }
-    ensures { after values ≡ mark_all (before rows) (before cols) i (before values) (places (before rows) (before cols) i) }
+    ensures { values.new ≡ mark_all rows.now cols.now i values.old (places rows.now cols.now i) }
 {
     let n = values.len();
     let start = wide_word(u[i]);
@@ -44,7 +43,7 @@ fn counted(count: usize, v: u8) -> usize
 // How many values are marked as listed neighbours.
 pub fn count_marked(values: &[u8]) -> usize
     requires { length values.now ≤ 4096 }
-    ensures { result ≡ length (threes (before values) (length (before values))) }
+    ensures { result ≡ length (threes values.now (length values.now)) }
 {
     let mut count = 0;
     for j in 0..values.len() {
@@ -57,7 +56,7 @@ pub fn count_marked(values: &[u8]) -> usize
 fn push(list: &mut [u16], count: usize, j: usize, v: u8) -> usize
     requires count_in_bounds { eqb v 3 ≡ true → count < length list.old }
     requires j_bound { j < 65536 }
-    ensures { Pushed v j count (before list) (after list) result }
+    ensures { Pushed v j count list.old list.new result }
 {
     if v != 3 {
         return count;
@@ -70,7 +69,7 @@ fn push(list: &mut [u16], count: usize, j: usize, v: u8) -> usize
 pub fn list_marked(values: &[u8], list: &mut [u16])
     requires values_len_bound { length values.now ≤ 4096 }
     requires values_in_bounds { length (threes values.now (length values.now)) ≤ length list.old }
-    ensures { after list ≡ over (threes (before values) (length (before values))) (before list) }
+    ensures { list.new ≡ over (threes values.now (length values.now)) list.old }
 {
     let mut count = 0;
     for j in 0..values.len() {

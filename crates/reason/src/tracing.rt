@@ -1,6 +1,5 @@
 // The reason of one variable that is free in the start values, over lent memory.
 ghost use Rattle.std.specs.Prelude.{◌≡◌, ◌<◌, length};
-ghost use Rattle.scratch.specs.Lent.{before, after};
 ghost use Rattle.field.specs.Field.{given, lent, variables};
 ghost use Rattle.field.specs.Grade.{unit_of, ExactIn};
 ghost use Rattle.field.specs.Tests.{Ready};
@@ -29,7 +28,7 @@ pub fn rest(
     requires ready { Ready (lent c rows cols q) values.old (length f.old) (length u.old) }
     requires exact_in { ExactIn (unit_of (lent c rows cols q)) (lent c rows cols q) }
     requires i_bound { i < variables (lent c rows cols q) }
-    ensures { Stopped (given c rows cols q) (before values) i (after values) (after u) }
+    ensures { Stopped (given c rows cols q) values.old i values.new u.new }
 {
     places::build(u, rows, cols, c.len());
     rows::fill::fill(c, rows, cols, q, values, f);
@@ -56,8 +55,8 @@ pub fn trace(
     requires ready { Ready (lent c rows cols q) values.old (length f.old) (length u.old) }
     requires exact_in { ExactIn (unit_of (lent c rows cols q)) (lent c rows cols q) }
     requires i_bound { i < variables (lent c rows cols q) }
-    ensures value { result ≡ ground_of unit (judge_of (row_of (given c rows cols q) (basis (given c rows cols q) (before values) i) i)) }
-    ensures values_value { after values ≡ marks_of (given c rows cols q) (basis (given c rows cols q) (before values) i) i }
+    ensures value { result ≡ ground_of unit (judge_of (row_of (given c rows cols q) (basis (given c rows cols q) values.old i) i)) }
+    ensures values_value { values.new ≡ marks_of (given c rows cols q) (basis (given c rows cols q) values.old i) i }
 {
     rest(c, rows, cols, q, values, f, u, i);
     rows::fill::fill(c, rows, cols, q, values, f);

@@ -1,7 +1,8 @@
 // What the record program does with its argument, its input and its output: the answer to one field, or, where its first argument is `tally`, the tally
 // of many.
+#![tactic(auto)]
+
 ghost use Rattle.std.specs.Prelude.{◌≡◌, ◌+◌, ◌<◌, ◌≤◌, length};
-ghost use Rattle.scratch.specs.Lent.{after};
 ghost use Rattle.records.specs.WellFormed.{longest_input};
 ghost use Rattle.tally.specs.Tally.{tally, Small};
 ghost use Rattle.tally.specs.Text.{tally_text};
@@ -27,7 +28,7 @@ fn answer() -> usize
 // Reads behind the bytes that are held, where there is room for one at least; how many came, where none is the end of the input.
 fn read_more(buffer: &mut [u8], held: usize) -> usize
     requires { held < length buffer.old }
-    ensures { held + result ≤ length (after buffer) }
+    ensures { held + result ≤ length buffer.new }
 {
     let got = libc::read(STDIN_FILENO, &mut buffer[held..]);
     io::count(got, &buffer[held..])

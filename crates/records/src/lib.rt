@@ -1,8 +1,9 @@
 // The record format of a field: records read from bytes, the field that they tell, and the text of an answer.
+#![tactic(auto)]
+
 pub mod parsing;
 
 ghost use Rattle.std.specs.Prelude.{◌≡◌, ◌-◌, length};
-ghost use Rattle.scratch.specs.Lent.{before};
 ghost use Rattle.records.specs.Reading.{weight_at, entry_at, given_at, read_at};
 
 use endian::{float, number, short};
@@ -17,13 +18,13 @@ const FX: u64 = 0x5846;
 const ZZ: u64 = 0x5a5a;
 
 // A place in the input: the index of the byte at which the next record begins.
-#[derive(Drop)]
+#[derive(Clone, Copy)]
 pub struct Cursor {
     pub at: usize,
 }
 
 // What reading at a cursor finds; each record has the cursor past it.
-#[derive(Drop)]
+#[derive(Clone, Copy)]
 pub enum Record {
     // VC: the next linear weight.
     Weight(f64, Cursor),
@@ -39,7 +40,7 @@ pub enum Record {
 
 // How many bytes are left from an index on.
 fn left(bytes: &[u8], at: usize) -> usize
-    ensures { result ≡ length (before bytes) - at }
+    ensures { result ≡ length bytes.now - at }
 {
     if at <= bytes.len() {
         bytes.len() - at
@@ -49,7 +50,7 @@ fn left(bytes: &[u8], at: usize) -> usize
 }
 
 fn weight_record(bytes: &[u8], at: usize) -> Record
-    ensures { result ≡ weight_at (before bytes) at }
+    ensures { result ≡ weight_at bytes.now at }
 {
     if left(bytes, at) < 10 {
         return Record::Malformed;
@@ -58,7 +59,7 @@ fn weight_record(bytes: &[u8], at: usize) -> Record
 }
 
 fn entry_record(bytes: &[u8], at: usize) -> Record
-    ensures { result ≡ entry_at (before bytes) at }
+    ensures { result ≡ entry_at bytes.now at }
 {
     if left(bytes, at) < 14 {
         return Record::Malformed;
@@ -69,7 +70,7 @@ fn entry_record(bytes: &[u8], at: usize) -> Record
 }
 
 fn given_record(bytes: &[u8], at: usize) -> Record
-    ensures { result ≡ given_at (before bytes) at }
+    ensures { result ≡ given_at bytes.now at }
 {
     if left(bytes, at) < 5 {
         return Record::Malformed;
@@ -82,7 +83,7 @@ fn given_record(bytes: &[u8], at: usize) -> Record
 impl Cursor {
     // Reads the record at this place; one that is cut short or has no known mark is malformed.
     pub fn read(self, bytes: &[u8]) -> Record
-        ensures { result ≡ read_at (before bytes) self.at }
+        ensures { result ≡ read_at bytes.now self.at }
     {
         let at = self.at;
         if left(bytes, at) < 2 {

@@ -1,13 +1,12 @@
 // The field at the front of an input, up to its ZZ.
 ghost use Rattle.std.specs.Prelude.{◌≡◌, ◌+◌, ◌≤◌, length};
-ghost use Rattle.scratch.specs.Lent.{before, after};
 ghost use Rattle.records.specs.Told.{may_declare, may_enter, may_give};
 ghost use Rattle.records.specs.Parsing.{lists_of, Room, Parses, tally, stored, go_on, noted, note as note_of};
 
 use crate::{Cursor, Record};
 
 // What stands at the front of an input: a field, with so many linear weights and entries and the index behind its ZZ, or what is malformed.
-#[derive(Drop)]
+#[derive(Clone, Copy)]
 pub enum Parsed {
     Field {
         variables: usize,
@@ -18,7 +17,7 @@ pub enum Parsed {
 }
 
 // Where the next record stands, and how many weights and entries came before it.
-#[derive(Drop)]
+#[derive(Clone, Copy)]
 struct Tally {
     at: usize,
     variables: usize,
@@ -26,7 +25,7 @@ struct Tally {
 }
 
 // After a record: on to the next one, or the answer.
-#[derive(Drop)]
+#[derive(Clone, Copy)]
 enum Turn {
     On(Tally),
     Stop(Parsed),
@@ -37,8 +36,8 @@ fn declare(x: f64, next: Cursor, t: Tally, c: &mut [f64], start: &mut [u8]) -> T
     requires in_bounds { 256 ≤ length c.old }
     requires in_bounds_2 { 256 ≤ length start.old }
     ensures value { result ≡ go_on (may_declare t.variables) (tally next.at (t.variables + 1) t.entries) }
-    ensures c_value { after c ≡ stored (may_declare t.variables) t.variables x (before c) }
-    ensures start_value { after start ≡ stored (may_declare t.variables) t.variables 2 (before start) }
+    ensures c_value { c.new ≡ stored (may_declare t.variables) t.variables x c.old }
+    ensures start_value { start.new ≡ stored (may_declare t.variables) t.variables 2 start.old }
 {
     let n = t.variables;
     if n >= 256 {
@@ -68,9 +67,9 @@ fn enter(
     requires in_bounds_2 { 1024 ≤ length cols.old }
     requires in_bounds_3 { 1024 ≤ length q.old }
     ensures value { result ≡ go_on (may_enter t.entries) (tally next.at t.variables (t.entries + 1)) }
-    ensures rows_value { after rows ≡ stored (may_enter t.entries) t.entries row (before rows) }
-    ensures cols_value { after cols ≡ stored (may_enter t.entries) t.entries col (before cols) }
-    ensures q_value { after q ≡ stored (may_enter t.entries) t.entries x (before q) }
+    ensures rows_value { rows.new ≡ stored (may_enter t.entries) t.entries row rows.old }
+    ensures cols_value { cols.new ≡ stored (may_enter t.entries) t.entries col cols.old }
+    ensures q_value { q.new ≡ stored (may_enter t.entries) t.entries x q.old }
 {
     let m = t.entries;
     if m >= 1024 {
@@ -89,8 +88,8 @@ fn enter(
 // FX: the value of a declared variable that has none yet.
 fn give(variable: u16, value: u8, next: Cursor, t: Tally, start: &mut [u8]) -> Turn
     requires { t.variables ≤ length start.old }
-    ensures value { result ≡ go_on (may_give variable value t.variables (before start)) (tally next.at t.variables t.entries) }
-    ensures start_value { after start ≡ stored (may_give variable value t.variables (before start)) variable value (before start) }
+    ensures value { result ≡ go_on (may_give variable value t.variables start.old) (tally next.at t.variables t.entries) }
+    ensures start_value { start.new ≡ stored (may_give variable value t.variables start.old) variable value start.old }
 {
     let v = variable as usize;
     let n = t.variables;
@@ -123,8 +122,8 @@ fn note(
 ) -> Turn
     requires room { Room (lists_of c.old rows.old cols.old q.old start.old) }
     requires variables_bound { t.variables ≤ 256 }
-    ensures { noted result (lists_of (after c) (after rows) (after cols) (after q) (after start))
-        ≡ note_of found t (lists_of (before c) (before rows) (before cols) (before q) (before start)) }
+    ensures { noted result (lists_of c.new rows.new cols.new q.new start.new)
+        ≡ note_of found t (lists_of c.old rows.old cols.old q.old start.old) }
 {
     match found {
         Record::Weight(x, next) => declare(x, next, t, c, start),
@@ -149,8 +148,8 @@ pub fn parse(
     start: &mut [u8],
 ) -> Parsed
     requires { Room (lists_of c.old rows.old cols.old q.old start.old) }
-    ensures { Parses (before bytes) (lists_of (before c) (before rows) (before cols) (before q) (before start)) result
-        (lists_of (after c) (after rows) (after cols) (after q) (after start)) }
+    ensures { Parses bytes.now (lists_of c.old rows.old cols.old q.old start.old) result
+        (lists_of c.new rows.new cols.new q.new start.new) }
 {
     let mut t = Tally {
         at: 0,

@@ -1,6 +1,5 @@
 // A case is answered in slices as long as its head says: parts of the buffers, and of arrays that each case has anew.
 ghost use Rattle.std.specs.Prelude.{◌+◌, ◌≤◌, length};
-ghost use Rattle.scratch.specs.Lent.{after};
 ghost use Rattle.stream.specs.Heads.{Fits, Buffers, standing};
 
 use crate::making::make;
@@ -33,7 +32,7 @@ fn answer_kept(
     used: usize,
 ) -> usize
     requires { at + length start.old ≤ length contents.now }
-    ensures { result ≤ length (after out) }
+    ensures { result ≤ length out.new }
 {
     let outcome = make(head, c, rows, cols, q, start, found, list, f, u);
     put_line(
@@ -60,7 +59,7 @@ fn answer_call(
 ) -> usize
     requires q_in_bounds { standing (length c.old) (length rows.old) (length cols.old) (length q.old) ≤ length contents.now }
     requires start_in_bounds { at + length start.old ≤ length contents.now }
-    ensures { result ≤ length (after out) }
+    ensures { result ≤ length out.new }
 {
     if head.code == SUB_PROBLEM {
         return reduce_field(contents, c, rows, cols, q, start, list, f, u, out, used);
@@ -93,7 +92,7 @@ fn answer_in_field(
 ) -> usize
     requires fits { Fits head (length contents.now) }
     requires start_in_bounds { at + length start.old ≤ length contents.now }
-    ensures { result ≤ length (after out) }
+    ensures { result ≤ length out.new }
 {
     let mut c = [0.0f64; VARIABLES];
     let mut rows = [0u16; ENTRIES];
@@ -136,7 +135,7 @@ fn answer_in_parts(
     used: usize,
 ) -> usize
     requires { Fits head (length contents.now) }
-    ensures { result ≤ length (after out) }
+    ensures { result ≤ length out.new }
 {
     fill_lent(head, contents, list, f, u);
     let mut start = [0u8; VARIABLES];
@@ -170,7 +169,7 @@ pub fn answer(
 ) -> usize
     requires fits { Fits head (length contents.now) }
     requires buffers { Buffers (length list.old) 163900 (length u.old) }
-    ensures { result ≤ length (after out) }
+    ensures { result ≤ length out.new }
 {
     if head.code == SHIFT {
         return answer_shift(head, contents, out, used);

@@ -1,7 +1,6 @@
 // All rows of a field at given values, in one pass over the entries.
 ghost use Rattle.std.specs.Prelude.{◌≡◌, ℕ, ◌+◌, ◌<◌, ◌≤◌, length, get_or};
 ghost use Rattle.std.specs.Float.{nan};
-ghost use Rattle.scratch.specs.Lent.{before, after};
 ghost use Rattle.field.specs.Field.{given, lent, entries, column_end};
 ghost use Rattle.rows.specs.Row.{start_row};
 ghost use Rattle.rows.specs.Stored.{row_on, put_row as put_row_of, add_at as add_at_of, add_entry as add_entry_of, Written, Fillable, Filled};
@@ -12,7 +11,7 @@ use crate::store::{put_row, row_at};
 // Every row at its start.
 fn start_rows(c: &[f64], f: &mut [f64])
     requires { length c.now + length c.now ≤ length f.old }
-    ensures { Written (length (before c)) (λ i. start_row (get_or (before c) i nan)) (before f) (after f) (length (before c)) }
+    ensures { Written (length c.now) (λ i. start_row (get_or c.now i nan)) f.old f.new (length c.now) }
 {
     let n = c.len();
     for i in 0..n {
@@ -23,7 +22,7 @@ fn start_rows(c: &[f64], f: &mut [f64])
 // A term goes into row t.
 fn add_at(f: &mut [f64], n: usize, t: usize, coeff: f64, value: u8)
     requires { n + t < length f.old }
-    ensures { after f ≡ add_at_of (before f) n t coeff value }
+    ensures { f.new ≡ add_at_of f.old n t coeff value }
 {
     let row = row_at(f, n, t);
     put_row(f, n, t, row.add_term(coeff, value));
@@ -41,7 +40,7 @@ fn add_entry(
 )
     requires fillable { Fillable (lent c rows cols q) values.now f.old }
     requires k_bound { k < entries (lent c rows cols q) }
-    ensures { after f ≡ add_entry_of (given c rows cols q) (before values) (before f) k }
+    ensures { f.new ≡ add_entry_of (given c rows cols q) values.now f.old k }
 {
     let n = c.len();
     let coeff = weights::half(q[k]);
@@ -55,7 +54,7 @@ fn add_entry(
 fn add_entries(c: &[f64], rows: &[u16], cols: &[u16], q: &[f64], values: &[u8], f: &mut [f64])
     requires fillable { Fillable (lent c rows cols q) values.now f.old }
     requires by_index { (i : ℕ) → i < length c.now → row_on f.old (length c.now) i ≡ start_row (get_or c.now i nan) }
-    ensures { Filled (given c rows cols q) (before values) (before f) (after f) }
+    ensures { Filled (given c rows cols q) values.now f.old f.new }
 {
     for k in 0..q.len() {
         add_entry(c, rows, cols, q, values, f, k);
@@ -76,8 +75,8 @@ fn hold_entry(
 ) -> Row
     requires fillable { Fillable (lent c rows cols q) values.now f.old }
     requires j_in_bounds { (j < length c.now) × (k < entries (lent c rows cols q)) }
-    ensures { put_row_of (after f) (length (before c)) (column_end (given c rows cols q) k) result
-        ≡ add_entry_of (given c rows cols q) (before values) (put_row_of (before f) (length (before c)) j row) k }
+    ensures { put_row_of f.new (length c.now) (column_end (given c rows cols q) k) result
+        ≡ add_entry_of (given c rows cols q) values.now (put_row_of f.old (length c.now) j row) k }
 {
     let n = c.len();
     let coeff = weights::half(q[k]);
@@ -96,7 +95,7 @@ fn hold_entry(
 fn add_columns(c: &[f64], rows: &[u16], cols: &[u16], q: &[f64], values: &[u8], f: &mut [f64])
     requires fillable { Fillable (lent c rows cols q) values.now f.old }
     requires by_index { (i : ℕ) → i < length c.now → row_on f.old (length c.now) i ≡ start_row (get_or c.now i nan) }
-    ensures { Filled (given c rows cols q) (before values) (before f) (after f) }
+    ensures { Filled (given c rows cols q) values.now f.old f.new }
 {
     if q.len() == 0 {
         return;
@@ -114,7 +113,7 @@ fn add_columns(c: &[f64], rows: &[u16], cols: &[u16], q: &[f64], values: &[u8], 
 // Every row's bounds: lower at [0, n), upper at [n, 2n); what lies past them is unchanged.
 pub fn fill(c: &[f64], rows: &[u16], cols: &[u16], q: &[f64], values: &[u8], f: &mut [f64])
     requires { Fillable (lent c rows cols q) values.now f.old }
-    ensures { Filled (given c rows cols q) (before values) (before f) (after f) }
+    ensures { Filled (given c rows cols q) values.now f.old f.new }
 {
     start_rows(c, f);
     if q.len() / 6 >= c.len() {

@@ -1,4 +1,6 @@
 // Rows of the gradient: a row's bounds, its terms, and its verdict.
+#![tactic(auto)]
+
 pub mod fill;
 pub mod store;
 
@@ -6,14 +8,14 @@ ghost use Rattle.std.specs.Prelude.{◌≡◌};
 ghost use Rattle.rows.specs.Row.{start_row, add_free as add_free_of, remove_free as remove_free_of, add_fixed as add_fixed_of, remove_fixed as remove_fixed_of, add_term as add_term_of, remove_term as remove_term_of, judge_of, conclude_of, is_flat as is_flat_of};
 
 // A row of the gradient: a lower and an upper bound on the gradient of one variable.
-#[derive(Drop)]
+#[derive(Clone, Copy)]
 pub struct Row {
     pub lower: f64,
     pub upper: f64,
 }
 
 // Zero carries a lower bound above 0, and one an upper bound below 0; of a flat row both are 0; open is none of these.
-#[derive(Drop)]
+#[derive(Clone, Copy)]
 pub enum Verdict {
     Zero(f64),
     One(f64),
@@ -36,7 +38,7 @@ impl Verdict {
 }
 
 // A variable together with the verdict on its row, as a caller acts on it.
-#[derive(Drop)]
+#[derive(Clone, Copy)]
 pub struct Conclusion {
     pub variable: u16,
     pub verdict: Verdict,

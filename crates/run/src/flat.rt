@@ -1,6 +1,5 @@
 // How many free variables have a flat row, in what a run leaves.
 ghost use Rattle.std.specs.Prelude.{◌≡◌, cond, ◌&&◌, ◌+◌, ◌<◌, ◌≤◌, length};
-ghost use Rattle.scratch.specs.Lent.{before};
 ghost use Rattle.meaning.specs.Free.{is_free};
 ghost use Rattle.rows.specs.Row.{judge_of, is_flat as is_flat_of};
 ghost use Rattle.rows.specs.Stored.{row_on, rows_on};
@@ -12,7 +11,7 @@ use rows::store::row_at;
 fn flat_at(values: &[u8], f: &[f64], n: usize, i: usize) -> usize
     requires i_in_bounds { i < length values.now }
     requires i_in_bounds_2 { n + i < length f.now }
-    ensures { result ≡ cond (is_free (before values) i && is_flat_of (judge_of (row_on (before f) n i))) 1 0 }
+    ensures { result ≡ cond (is_free values.now i && is_flat_of (judge_of (row_on f.now n i))) 1 0 }
 {
     if values[i] != 2 {
         return 0;
@@ -27,7 +26,7 @@ fn flat_at(values: &[u8], f: &[f64], n: usize, i: usize) -> usize
 // A row is counted where its variable is free, whatever the rows of the others hold.
 pub fn flat_rows(values: &[u8], f: &[f64]) -> usize
     requires { length values.now + length values.now ≤ length f.now }
-    ensures { result ≡ flat_to (before values) (rows_on (before f) (length (before values))) (length (before values)) }
+    ensures { result ≡ flat_to values.now (rows_on f.now (length values.now)) (length values.now) }
 {
     let n = values.len();
     let mut flat = 0;

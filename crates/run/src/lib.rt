@@ -1,10 +1,11 @@
 // The gradient run over lent memory: variables are scanned upward, then a first-in queue is served.
+#![tactic(auto)]
+
 pub mod flat;
 pub mod queue;
 pub mod steps;
 
 ghost use Rattle.std.specs.Prelude.{length};
-ghost use Rattle.scratch.specs.Lent.{before, after};
 ghost use Rattle.field.specs.Field.{given, lent};
 ghost use Rattle.run.specs.Run as model;
 ghost use Rattle.run.specs.Cells.{cells, Placed, Does};
@@ -22,8 +23,8 @@ pub fn propagate(
 ) -> usize
     requires { Placed (lent c rows cols q) (cells values.old f.old u.old 0) }
     ensures { Does (given c rows cols q) (λ run. model.propagate (given c rows cols q) run.values run.rows)
-        (cells (before values) (before f) (before u) 0)
-        (cells (after values) (after f) (after u) result) }
+        (cells values.old f.old u.old 0)
+        (cells values.new f.new u.new result) }
 {
     let tail = queue::scan(c, rows, cols, q, values, f, u);
     queue::work(c, rows, cols, q, values, f, u, tail)
@@ -40,7 +41,7 @@ pub fn close(
     u: &mut [u32],
 )
     requires { Closable (lent c rows cols q) values.old (length f.old) (length u.old) }
-    ensures { Closes (given c rows cols q) (before values) (before f) (after values) (after f) }
+    ensures { Closes (given c rows cols q) values.old f.old values.new f.new }
 {
     rows::fill::fill(c, rows, cols, q, values, f);
     let from = queue::first(values, f);

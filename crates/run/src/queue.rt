@@ -1,6 +1,5 @@
 // The loops of the run: the scan, the places of one variable, and the queue.
 ghost use Rattle.std.specs.Prelude.{◌≡◌, ◌+◌, ◌<◌, ◌≤◌, length};
-ghost use Rattle.scratch.specs.Lent.{before, after};
 ghost use Rattle.scratch.specs.All.{Passing};
 ghost use Rattle.field.specs.Field.{given, lent, variables};
 ghost use Rattle.field.specs.Tests.{first_from};
@@ -14,7 +13,7 @@ use scratch::wide_word;
 // The first variable that the scan does not pass over; as many as there are where it passes over all.
 pub fn first(values: &[u8], f: &[f64]) -> usize
     requires { length values.now + length values.now ≤ length f.now }
-    ensures { result ≡ first_from (passes (before values) (before f)) 0 (length (before values)) }
+    ensures { result ≡ first_from (passes values.now f.now) 0 (length values.now) }
 {
     let mut i: usize = 0;
     while i < values.len() {
@@ -40,8 +39,8 @@ pub fn scan_from(
     requires placed { Placed (lent c rows cols q) (cells values.old f.now u.old 0) }
     requires passing { Passing (passes values.old f.now) (length values.old) from }
     ensures { Does (given c rows cols q) (λ run. model.scan_to run (variables (given c rows cols q)))
-        (cells (before values) (before f) (before u) 0)
-        (cells (after values) (before f) (after u) result) }
+        (cells values.old f.now u.old 0)
+        (cells values.new f.now u.new result) }
 {
     let n = c.len();
     let mut tail = 0;
@@ -63,8 +62,8 @@ pub fn scan(
 ) -> usize
     requires { Placed (lent c rows cols q) (cells values.old f.now u.old 0) }
     ensures { Does (given c rows cols q) (λ run. model.scan_to run (variables (given c rows cols q)))
-        (cells (before values) (before f) (before u) 0)
-        (cells (after values) (before f) (after u) result) }
+        (cells values.old f.now u.old 0)
+        (cells values.new f.now u.new result) }
 {
     scan_from(c, rows, cols, q, values, f, u, 0)
 }
@@ -84,8 +83,8 @@ pub fn serve(
     requires placed { Placed (lent c rows cols q) (cells values.old f.old u.old tail) }
     requires i_bound { i < variables (lent c rows cols q) }
     ensures { Does (given c rows cols q) (λ run. model.serve (given c rows cols q) run i)
-        (cells (before values) (before f) (before u) tail)
-        (cells (after values) (after f) (after u) result) }
+        (cells values.old f.old u.old tail)
+        (cells values.new f.new u.new result) }
 {
     let n = c.len();
     let v = values[i];
@@ -114,8 +113,8 @@ pub fn work(
 ) -> usize
     requires { Placed (lent c rows cols q) (cells values.old f.old u.old tail) }
     ensures { Does (given c rows cols q) (λ run. model.work (given c rows cols q) (variables (given c rows cols q)) run 0)
-        (cells (before values) (before f) (before u) tail)
-        (cells (after values) (after f) (after u) result) }
+        (cells values.old f.old u.old tail)
+        (cells values.new f.new u.new result) }
 {
     let base = c.len() + 1 + 2 * rows.len();
     let mut last = tail;

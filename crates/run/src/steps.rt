@@ -1,6 +1,5 @@
 // The steps of the run: each moves the lent slices as a step of the model moves its run.
 ghost use Rattle.std.specs.Prelude.{◌≡◌, not, ◌&&◌, ◌+◌, ◌<◌, length};
-ghost use Rattle.scratch.specs.Lent.{before, after};
 ghost use Rattle.field.specs.Field.{given, lent, variables, entries};
 ghost use Rattle.meaning.specs.Free.{is_free};
 ghost use Rattle.rows.specs.Row.{value_of, is_strict};
@@ -34,7 +33,7 @@ fn settle(
 ) -> usize
     requires variable_in_bounds { conclusion.variable < length values.old }
     requires tail_in_bounds { base + tail < length u.old }
-    ensures { Settled conclusion base tail (before values) (before u) (after values) (after u) result }
+    ensures { Settled conclusion base tail values.old u.old values.new u.new result }
 {
     let t = conclusion.variable;
     let verdict = conclusion.verdict;
@@ -48,8 +47,8 @@ fn settle(
 // Row t, whose term of coefficient a was free and is fixed at v.
 pub fn move_row(f: &mut [f64], n: usize, t: usize, a: f64, v: u8) -> Row
     requires { n + t < length f.old }
-    ensures value { result ≡ model.moved (row_on (before f) n t) a v }
-    ensures f_value { after f ≡ put_row_of (before f) n t result }
+    ensures value { result ≡ model.moved (row_on f.old n t) a v }
+    ensures f_value { f.new ≡ put_row_of f.old n t result }
 {
     let row = row_at(f, n, t).remove_free(a).add_fixed(a, v);
     put_row(f, n, t, row);
@@ -60,7 +59,7 @@ pub fn move_row(f: &mut [f64], n: usize, t: usize, a: f64, v: u8) -> Row
 pub fn passes_at(values: &[u8], f: &[f64], n: usize, i: usize) -> bool
     requires i_in_bounds { i < length values.now }
     requires i_in_bounds_2 { n + i < length f.now }
-    ensures { result ≡ not (is_free (before values) i && is_strict (row_on (before f) n i)) }
+    ensures { result ≡ not (is_free values.now i && is_strict (row_on f.now n i)) }
 {
     if values[i] != 2 {
         return true;
@@ -84,8 +83,8 @@ pub fn scan_at(
     requires placed { Placed (lent c rows cols q) (cells values.old f.now u.old tail) }
     requires i_bound { i < variables (lent c rows cols q) }
     ensures { Does (given c rows cols q) (λ run. model.scan_at run i)
-        (cells (before values) (before f) (before u) tail)
-        (cells (after values) (before f) (after u) result) }
+        (cells values.old f.now u.old tail)
+        (cells values.new f.now u.new result) }
 {
     if values[i] != 2 {
         return tail;
@@ -122,8 +121,8 @@ pub fn serve_at(
     requires k_bound { k < entries (lent c rows cols q) }
     requires t_value { t ≡ other_end rows.now cols.now i k }
     ensures { Does (given c rows cols q) (λ run. model.serve_at (given c rows cols q) i v run k)
-        (cells (before values) (before f) (before u) tail)
-        (cells (after values) (after f) (after u) result) }
+        (cells values.old f.old u.old tail)
+        (cells values.new f.new u.new result) }
 {
     if values[t] != 2 {
         return tail;

@@ -1,6 +1,5 @@
 // The scan over the candidates and the neighbours of the probed variable: three rising lists, merged by their cursors.
 ghost use Rattle.std.specs.Prelude.{◌≡◌, ◌&&◌, ◌+◌, ◌<◌, ◌≤◌, eqb, leb, length, get_or};
-ghost use Rattle.scratch.specs.Lent.{before, after};
 ghost use Rattle.field.specs.Field.{given, lent, variables};
 ghost use Rattle.run.specs.Run as model;
 ghost use Rattle.run.specs.Cells.{cells, Does};
@@ -20,7 +19,7 @@ fn lesser(a: usize, b: usize) -> usize
 fn next_candidate(u: &[u32], from: usize, at: usize, end: usize, b: usize, n: usize) -> Cursor
     requires at_le_end { at ≤ end }
     requires end_in_bounds { from + end ≤ length u.now }
-    ensures { merge.Next merge.always (merge.list_at (before u) from) b at end n result }
+    ensures { merge.Next merge.always (merge.list_at u.now from) b at end n result }
 {
     let mut p = at;
     while p < end {
@@ -37,7 +36,7 @@ fn next_candidate(u: &[u32], from: usize, at: usize, end: usize, b: usize, n: us
 fn picks(near: &[u16], far: &[u16], k: usize, i: usize, b: usize) -> bool
     requires k_in_bounds { k < length near.now }
     requires k_in_bounds_2 { k < length far.now }
-    ensures { result ≡ (eqb (get_or (before near) k 0) i && leb b (get_or (before far) k 0)) }
+    ensures { result ≡ (eqb (get_or near.now k 0) i && leb b (get_or far.now k 0)) }
 {
     if wide_short(near[k]) != i {
         return false;
@@ -58,7 +57,7 @@ pub fn next_place(
     n: usize,
 ) -> Cursor
     requires { merge.Through near.now far.now u.now from at end }
-    ensures { merge.Next (merge.near_at (before near) (before u) from i) (merge.far_at (before far) (before u) from) b at end n result }
+    ensures { merge.Next (merge.near_at near.now u.now from i) (merge.far_at far.now u.now from) b at end n result }
 {
     let mut p = at;
     while p < end {
@@ -88,8 +87,8 @@ pub fn scan_some(
 ) -> usize
     requires { merge.Covers (lent c rows cols q) i many (cells values.old f.now u.old 0) }
     ensures { Does (given c rows cols q) (λ run. model.scan_to run (variables (given c rows cols q)))
-        (cells (before values) (before f) (before u) 0)
-        (cells (after values) (before f) (after u) result) }
+        (cells values.old f.now u.old 0)
+        (cells values.new f.now u.new result) }
 {
     let n = c.len();
     let list = n + 1 + 2 * rows.len() + n;

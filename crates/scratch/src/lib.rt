@@ -1,13 +1,14 @@
 // What every call does with lent memory: a slice set to zeros, and numbers read as sizes.
+#![tactic(auto)]
+
 ghost use Rattle.std.specs.Prelude.{◌≡◌};
 ghost use Rattle.std.specs.Float.{binary64};
 ghost use Rattle.std.specs.Float.Ieee.{of_bits};
-ghost use Rattle.scratch.specs.Lent.{before, after};
 ghost use Rattle.scratch.specs.Cleared.{cleared};
 
 // Writes 0 into every byte of the slice; its length stays as it is.
 pub fn clear_bytes(bytes: &mut [u8])
-    ensures { after bytes ≡ cleared 0 (before bytes) }
+    ensures { bytes.new ≡ cleared 0 bytes.old }
 {
     for i in 0..bytes.len() {
         bytes[i] = 0;
@@ -16,7 +17,7 @@ pub fn clear_bytes(bytes: &mut [u8])
 
 // Writes 0 into every u16 of the slice, as an answer list of variables is left on refusal 9.
 pub fn clear_shorts(shorts: &mut [u16])
-    ensures { after shorts ≡ cleared 0 (before shorts) }
+    ensures { shorts.new ≡ cleared 0 shorts.old }
 {
     for i in 0..shorts.len() {
         shorts[i] = 0;
@@ -25,7 +26,7 @@ pub fn clear_shorts(shorts: &mut [u16])
 
 // Writes 0 into every u32 of the slice, as the lent word scratch is left.
 pub fn clear_words(words: &mut [u32])
-    ensures { after words ≡ cleared 0 (before words) }
+    ensures { words.new ≡ cleared 0 words.old }
 {
     for i in 0..words.len() {
         words[i] = 0;
@@ -34,7 +35,7 @@ pub fn clear_words(words: &mut [u32])
 
 // Writes 0.0 into every f64 of the slice, as the lent float scratch is left.
 pub fn clear_floats(floats: &mut [f64])
-    ensures { after floats ≡ cleared (of_bits binary64 0) (before floats) }
+    ensures { floats.new ≡ cleared (of_bits binary64 0) floats.old }
 {
     for i in 0..floats.len() {
         floats[i] = 0.0;

@@ -3,10 +3,9 @@
 use Rattle.std.specs.Prelude.{ℕ, zero, suc, ◌+◌, ◌<◌, ◌≤◌, Bool, cond, not, List, map, eqb, length, get_or, set, Float}
 use Rattle.std.specs.Float.{nan, binary64}
 use Rattle.std.specs.Float.Ieee.{add, mul}
-use Rattle.std.specs.Borrow.{Bor}
+use Rattle.std.specs.Borrow.{MutBor}
 use denote.Triple.Both.{Both}
 use Rattle.weights.specs.Worth.{half64}
-use Rattle.scratch.specs.Lent.{after}
 use Rattle.scratch.specs.Over.{over}
 use Rattle.field.specs.Field.{Field, field_of, variables, entries, row_end, column_end, quad_of}
 use Rattle.shift.specs.Picked.{picked}
@@ -78,5 +77,5 @@ pub record Closable (k kept : ℕ) (G : Field) : Type 0 where
   pub row_below : row_end G k < variables G
 
 -- a word for contracts: the field behind four slices, after a call
-abbrev pub left_behind : {W X Y Z : Type 0} → Both W (Bor (List Float)) → Both X (Bor (List ℕ)) → Both Y (Bor (List ℕ)) → Both Z (Bor (List Float)) → Field
-left_behind c rows cols q = field_of (after c) (after rows) (after cols) (after q)
+abbrev pub left_behind : {W X Y Z : Type 0} → Both W (MutBor (List Float)) → Both X (MutBor (List ℕ)) → Both Y (MutBor (List ℕ)) → Both Z (MutBor (List Float)) → Field
+left_behind c rows cols q = field_of c.exit.now rows.exit.now cols.exit.now q.exit.now

@@ -1,6 +1,8 @@
 // The public call: the diagonal of a field goes into its linear weights.
+#![tactic(auto)]
+
 ghost use Rattle.std.specs.Prelude.{◌≡◌};
-ghost use Rattle.field.specs.Field.{lent, given};
+ghost use Rattle.field.specs.Field.{field_of, lent, given};
 ghost use Rattle.field.specs.Tests.{Loose};
 ghost use Rattle.shift.specs.Closing.{Closable, closing, close_at as close_at_of, closed, left_behind};
 ghost use Rattle.shift.specs.Call.{left, shift_call};
@@ -16,8 +18,8 @@ fn close_at(
     k: usize,
     kept: usize,
 ) -> usize
-    requires { Closable k kept (lent c rows cols q) }
-    ensures { closing (left_behind c rows cols q) result ≡ close_at_of k (closing (given c rows cols q) kept) }
+    requires { Closable k kept (field_of c.old rows.old cols.old q.old) }
+    ensures { closing (left_behind c rows cols q) result ≡ close_at_of k (closing (field_of c.old rows.old cols.old q.old) kept) }
 {
     let r = scratch::wide_short(rows[k]);
     if r == scratch::wide_short(cols[k]) {
@@ -32,8 +34,8 @@ fn close_at(
 
 // The entries off the diagonal close up in place, in order; hands back how many they are.
 fn close_up(c: &mut [f64], rows: &mut [u16], cols: &mut [u16], q: &mut [f64]) -> usize
-    requires { Loose (lent c rows cols q) }
-    ensures { closing (left_behind c rows cols q) result ≡ closed (given c rows cols q) }
+    requires { Loose (field_of c.old rows.old cols.old q.old) }
+    ensures { closing (left_behind c rows cols q) result ≡ closed (field_of c.old rows.old cols.old q.old) }
 {
     let mut kept: usize = 0;
     for k in 0..q.len() {
@@ -44,7 +46,7 @@ fn close_up(c: &mut [f64], rows: &mut [u16], cols: &mut [u16], q: &mut [f64]) ->
 
 // Entries close up in place and half of a diagonal goes into c; the answer has the new number of entries.
 pub fn shift(c: &mut [f64], rows: &mut [u16], cols: &mut [u16], q: &mut [f64]) -> Counted
-    ensures { left result (left_behind c rows cols q) ≡ shift_call (given c rows cols q) }
+    ensures { left result (left_behind c rows cols q) ≡ shift_call (field_of c.old rows.old cols.old q.old) }
 {
     let checked = field::tests::loose(c, rows, cols, q);
     if let Checked::Failed(refusal) = checked {

@@ -1,8 +1,9 @@
 // One probe alone: its rows, made in one pass over the entries, and the run from them.
+#![tactic(auto)]
+
 mod making;
 
 ghost use Rattle.std.specs.Prelude.{◌≡◌, length};
-ghost use Rattle.scratch.specs.Lent.{before, after};
 ghost use Rattle.field.specs.Field.{lent, given, variables};
 ghost use Rattle.run.specs.First.{Closable, Closes};
 ghost use Rattle.rows.specs.Stored.{Filled};
@@ -23,7 +24,7 @@ fn run_on(
 )
     requires closable { Closable (lent c rows cols q) values.old (length f.old) (length u.old) }
     requires filled { Filled (lent c rows cols q) values.old f.old f.old }
-    ensures { Closes (given c rows cols q) (before values) (before f) (after values) (after f) }
+    ensures { Closes (given c rows cols q) values.old f.old values.new f.new }
 {
     let from = run::queue::first(values, f);
     if from >= values.len() {
@@ -49,7 +50,7 @@ pub fn work(
 )
     requires probable { Probable (lent c rows cols q) start.now variable value (length f.old) (length u.old) }
     requires values_len { length values.old ≡ variables (lent c rows cols q) }
-    ensures { after values ≡ cold (given c rows cols q) (before start) variable value }
+    ensures { values.new ≡ cold (given c rows cols q) start.now variable value }
 {
     make(c, rows, cols, q, start, variable, value, f);
     assume(start, variable, value, values);

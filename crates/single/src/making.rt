@@ -2,7 +2,6 @@
 // its neighbours are made afresh; no other row has such an entry, and is the one at the start values.
 ghost use Rattle.std.specs.Prelude.{◌≡◌, ℕ, ◌+◌, ◌<◌, ◌≤◌, length, get_or, set};
 ghost use Rattle.std.specs.Float.{nan};
-ghost use Rattle.scratch.specs.Lent.{before, after};
 ghost use Rattle.field.specs.Field.{given, lent, entries, column_end};
 ghost use Rattle.rows.specs.Row.{start_row};
 ghost use Rattle.rows.specs.Stored.{row_on, put_row as put_row_of, add_at as add_at_of, add_entry as add_entry_of, Written, Fillable, Filled};
@@ -13,7 +12,7 @@ use rows::store::{put_row, row_at};
 // The value of j where i has the value v, and every other variable its start value.
 fn value_at(start: &[u8], i: usize, v: u8, j: usize) -> u8
     requires { j < length start.now }
-    ensures { result ≡ get_or (set (before start) i v) j 0 }
+    ensures { result ≡ get_or (set start.now i v) j 0 }
 {
     if j == i { v } else { start[j] }
 }
@@ -21,7 +20,7 @@ fn value_at(start: &[u8], i: usize, v: u8, j: usize) -> u8
 // Every row at its start.
 fn begin(c: &[f64], f: &mut [f64])
     requires { length c.now + length c.now ≤ length f.old }
-    ensures { Written (length (before c)) (λ t. start_row (get_or (before c) t nan)) (before f) (after f) (length (before c)) }
+    ensures { Written (length c.now) (λ t. start_row (get_or c.now t nan)) f.old f.new (length c.now) }
 {
     let n = c.len();
     for t in 0..n {
@@ -32,7 +31,7 @@ fn begin(c: &[f64], f: &mut [f64])
 // A term goes into row t.
 fn add_at(f: &mut [f64], n: usize, t: usize, coeff: f64, value: u8)
     requires { n + t < length f.old }
-    ensures { after f ≡ add_at_of (before f) n t coeff value }
+    ensures { f.new ≡ add_at_of f.old n t coeff value }
 {
     let row = row_at(f, n, t);
     put_row(f, n, t, row.add_term(coeff, value));
@@ -52,7 +51,7 @@ fn add_entry(
 )
     requires fillable { Fillable (lent c rows cols q) start.now f.old }
     requires k_bound { k < entries (lent c rows cols q) }
-    ensures { after f ≡ add_entry_of (given c rows cols q) (set (before start) i v) (before f) k }
+    ensures { f.new ≡ add_entry_of (given c rows cols q) (set start.now i v) f.old k }
 {
     let n = c.len();
     let coeff = weights::half(q[k]);
@@ -75,7 +74,7 @@ fn add_entries(
 )
     requires fillable { Fillable (lent c rows cols q) start.now f.old }
     requires by_index { (t : ℕ) → t < length c.now → row_on f.old (length c.now) t ≡ start_row (get_or c.now t nan) }
-    ensures { Filled (given c rows cols q) (set (before start) i v) (before f) (after f) }
+    ensures { Filled (given c rows cols q) (set start.now i v) f.old f.new }
 {
     for k in 0..q.len() {
         add_entry(c, rows, cols, q, start, i, v, f, k);
@@ -98,8 +97,8 @@ fn hold_entry(
 ) -> Row
     requires fillable { Fillable (lent c rows cols q) start.now f.old }
     requires j_in_bounds { (j < length c.now) × (k < entries (lent c rows cols q)) }
-    ensures { put_row_of (after f) (length (before c)) (column_end (given c rows cols q) k) result
-        ≡ add_entry_of (given c rows cols q) (set (before start) i v) (put_row_of (before f) (length (before c)) j row) k }
+    ensures { put_row_of f.new (length c.now) (column_end (given c rows cols q) k) result
+        ≡ add_entry_of (given c rows cols q) (set start.now i v) (put_row_of f.old (length c.now) j row) k }
 {
     let n = c.len();
     let coeff = weights::half(q[k]);
@@ -127,7 +126,7 @@ fn add_columns(
 )
     requires fillable { Fillable (lent c rows cols q) start.now f.old }
     requires by_index { (t : ℕ) → t < length c.now → row_on f.old (length c.now) t ≡ start_row (get_or c.now t nan) }
-    ensures { Filled (given c rows cols q) (set (before start) i v) (before f) (after f) }
+    ensures { Filled (given c rows cols q) (set start.now i v) f.old f.new }
 {
     if q.len() == 0 {
         return;
@@ -154,7 +153,7 @@ pub fn make(
     f: &mut [f64],
 )
     requires { Fillable (lent c rows cols q) start.now f.old }
-    ensures { Filled (given c rows cols q) (set (before start) i v) (before f) (after f) }
+    ensures { Filled (given c rows cols q) (set start.now i v) f.old f.new }
 {
     begin(c, f);
     if q.len() / 6 >= c.len() {

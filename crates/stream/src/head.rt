@@ -1,6 +1,5 @@
 // The head of a case: the call's code, the lengths of its lists and the numbers that it takes.
 ghost use Rattle.std.specs.Prelude.{◌≡◌, true, ◌↔◌, ◌+◌, ◌*◌, ◌≤◌, min, max, length};
-ghost use Rattle.scratch.specs.Lent.{before};
 ghost use Rattle.endian.specs.Bytes.{number_at};
 ghost use Rattle.stream.specs.Heads.{head_of, list_of, contents_of, Lists, Lent, Fits};
 
@@ -23,7 +22,7 @@ pub const FLOATS: usize = 163_900;
 pub const WORDS: usize = 589_900;
 
 // The head of a case: the call's code, the length of each list and scratch, and the call's other numbers.
-#[derive(Drop)]
+#[derive(Clone, Copy)]
 pub struct Head {
     pub code: u8,
     pub linear: usize,
@@ -45,14 +44,14 @@ pub struct Head {
 
 fn size(bytes: &[u8], at: usize) -> usize
     requires { at + 4 ≤ length bytes.now }
-    ensures { result ≡ number_at 4 (before bytes) at }
+    ensures { result ≡ number_at 4 bytes.now at }
 {
     wide_word(word(bytes, at))
 }
 
 fn long(bytes: &[u8], at: usize) -> usize
     requires { at + 8 ≤ length bytes.now }
-    ensures { result ≡ number_at 8 (before bytes) at }
+    ensures { result ≡ number_at 8 bytes.now at }
 {
     number(bytes, at, 8) as usize
 }
@@ -67,7 +66,7 @@ fn byte(x: usize) -> u8
 // Reads the head of a case from its 77 bytes; a probed value above 255 is read as 255.
 pub fn parse(bytes: &[u8]) -> Head
     requires { 77 ≤ length bytes.now }
-    ensures { result ≡ head_of (before bytes) }
+    ensures { result ≡ head_of bytes.now }
 {
     Head {
         code: bytes[0],

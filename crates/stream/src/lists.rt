@@ -4,7 +4,6 @@ ghost use Rattle.std.specs.Float.Ieee.{eq};
 ghost use Rattle.std.specs.Float.{nan};
 ghost use Rattle.scratch.specs.All.{all_below};
 ghost use Rattle.scratch.specs.Cleared.{cleared};
-ghost use Rattle.scratch.specs.Lent.{before, after};
 ghost use Rattle.rows.specs.Stored.{up_to};
 ghost use Rattle.endian.specs.Bytes.{number_at, float_at};
 ghost use Rattle.stream.specs.Lists.{same_weight as same_weight_of};
@@ -14,7 +13,7 @@ use endian::{float, short};
 // Fills a list with the bytes of a case that stand from index `at` on.
 pub fn take_bytes(bytes: &[u8], at: usize, list: &mut [u8])
     requires { at + length list.old ≤ length bytes.now }
-    ensures { after list ≡ up_to (λ i. get_or (before bytes) (at + i) 0) (length (before list)) }
+    ensures { list.new ≡ up_to (λ i. get_or bytes.now (at + i) 0) (length list.old) }
 {
     for i in 0..list.len() {
         list[i] = bytes[at + i];
@@ -24,7 +23,7 @@ pub fn take_bytes(bytes: &[u8], at: usize, list: &mut [u8])
 // Fills a list with the little-endian u16 that stand from index `at` on.
 pub fn take_shorts(bytes: &[u8], at: usize, list: &mut [u16])
     requires { at + 2 * length list.old ≤ length bytes.now }
-    ensures { after list ≡ up_to (λ i. number_at 2 (before bytes) (at + 2 * i)) (length (before list)) }
+    ensures { list.new ≡ up_to (λ i. number_at 2 bytes.now (at + 2 * i)) (length list.old) }
 {
     for i in 0..list.len() {
         list[i] = short(bytes, at + 2 * i);
@@ -34,7 +33,7 @@ pub fn take_shorts(bytes: &[u8], at: usize, list: &mut [u16])
 // Fills a list with the little-endian f64 that stand from index `at` on, bit for bit.
 pub fn take_floats(bytes: &[u8], at: usize, list: &mut [f64])
     requires { at + 8 * length list.old ≤ length bytes.now }
-    ensures { after list ≡ up_to (λ i. float_at (before bytes) (at + 8 * i)) (length (before list)) }
+    ensures { list.new ≡ up_to (λ i. float_at bytes.now (at + 8 * i)) (length list.old) }
 {
     for i in 0..list.len() {
         list[i] = float(bytes, at + 8 * i);
@@ -43,7 +42,7 @@ pub fn take_floats(bytes: &[u8], at: usize, list: &mut [f64])
 
 // Writes the byte x into every place of the slice, as lent lists begin a case.
 pub fn fill_bytes(bytes: &mut [u8], x: u8)
-    ensures { after bytes ≡ cleared x (before bytes) }
+    ensures { bytes.new ≡ cleared x bytes.old }
 {
     for i in 0..bytes.len() {
         bytes[i] = x;
@@ -52,7 +51,7 @@ pub fn fill_bytes(bytes: &mut [u8], x: u8)
 
 // Writes the u16 x into every place of the slice, as lent lists begin a case.
 pub fn fill_shorts(shorts: &mut [u16], x: u16)
-    ensures { after shorts ≡ cleared x (before shorts) }
+    ensures { shorts.new ≡ cleared x shorts.old }
 {
     for i in 0..shorts.len() {
         shorts[i] = x;
@@ -61,7 +60,7 @@ pub fn fill_shorts(shorts: &mut [u16], x: u16)
 
 // Writes the u32 x into every place of the slice, as lent scratch begins a case.
 pub fn fill_words(words: &mut [u32], x: u32)
-    ensures { after words ≡ cleared x (before words) }
+    ensures { words.new ≡ cleared x words.old }
 {
     for i in 0..words.len() {
         words[i] = x;
@@ -70,7 +69,7 @@ pub fn fill_words(words: &mut [u32], x: u32)
 
 // Writes the f64 x into every place of the slice, as lent scratch begins a case.
 pub fn fill_floats(floats: &mut [f64], x: f64)
-    ensures { after floats ≡ cleared x (before floats) }
+    ensures { floats.new ≡ cleared x floats.old }
 {
     for i in 0..floats.len() {
         floats[i] = x;
@@ -80,7 +79,7 @@ pub fn fill_floats(floats: &mut [f64], x: f64)
 // Whether the list is what stands in the bytes from `at` on.
 pub fn same_bytes(bytes: &[u8], at: usize, list: &[u8]) -> bool
     requires { at + length list.now ≤ length bytes.now }
-    ensures { result ≡ all_below (λ i. eqb (get_or (before list) i 0) (get_or (before bytes) (at + i) 0)) (length (before list)) }
+    ensures { result ≡ all_below (λ i. eqb (get_or list.now i 0) (get_or bytes.now (at + i) 0)) (length list.now) }
 {
     let mut i: usize = 0;
     while i < list.len() {
@@ -95,7 +94,7 @@ pub fn same_bytes(bytes: &[u8], at: usize, list: &[u8]) -> bool
 // Whether a list still holds the u16 that stand in the bytes from index `at` on.
 pub fn same_shorts(bytes: &[u8], at: usize, list: &[u16]) -> bool
     requires { at + 2 * length list.now ≤ length bytes.now }
-    ensures { result ≡ all_below (λ i. eqb (get_or (before list) i 0) (number_at 2 (before bytes) (at + 2 * i))) (length (before list)) }
+    ensures { result ≡ all_below (λ i. eqb (get_or list.now i 0) (number_at 2 bytes.now (at + 2 * i))) (length list.now) }
 {
     let mut i: usize = 0;
     while i < list.len() {
@@ -123,7 +122,7 @@ fn same_weight(x: f64, y: f64) -> bool
 // Whether a list still holds the weights that stand in the bytes from index `at` on, bit for bit.
 pub fn same_floats(bytes: &[u8], at: usize, list: &[f64]) -> bool
     requires { at + 8 * length list.now ≤ length bytes.now }
-    ensures { result ≡ all_below (λ i. same_weight_of (get_or (before list) i nan) (float_at (before bytes) (at + 8 * i))) (length (before list)) }
+    ensures { result ≡ all_below (λ i. same_weight_of (get_or list.now i nan) (float_at bytes.now (at + 8 * i))) (length list.now) }
 {
     let mut i: usize = 0;
     while i < list.len() {
@@ -137,7 +136,7 @@ pub fn same_floats(bytes: &[u8], at: usize, list: &[f64]) -> bool
 
 // Whether every byte of the slice is x, as a list that must be left unchanged or cleared.
 pub fn all_bytes(bytes: &[u8], x: u8) -> bool
-    ensures { result ≡ all_below (λ i. eqb (get_or (before bytes) i 0) x) (length (before bytes)) }
+    ensures { result ≡ all_below (λ i. eqb (get_or bytes.now i 0) x) (length bytes.now) }
 {
     let mut i: usize = 0;
     while i < bytes.len() {
@@ -151,7 +150,7 @@ pub fn all_bytes(bytes: &[u8], x: u8) -> bool
 
 // Whether every u16 of the slice is x, as a list that must be left unchanged or cleared.
 pub fn all_shorts(shorts: &[u16], x: u16) -> bool
-    ensures { result ≡ all_below (λ i. eqb (get_or (before shorts) i 0) x) (length (before shorts)) }
+    ensures { result ≡ all_below (λ i. eqb (get_or shorts.now i 0) x) (length shorts.now) }
 {
     let mut i: usize = 0;
     while i < shorts.len() {
@@ -165,7 +164,7 @@ pub fn all_shorts(shorts: &[u16], x: u16) -> bool
 
 // Whether every u32 of the slice is x, as scratch that must be left unchanged or cleared.
 pub fn all_words(words: &[u32], x: u32) -> bool
-    ensures { result ≡ all_below (λ i. eqb (get_or (before words) i 0) x) (length (before words)) }
+    ensures { result ≡ all_below (λ i. eqb (get_or words.now i 0) x) (length words.now) }
 {
     let mut i: usize = 0;
     while i < words.len() {
@@ -179,7 +178,7 @@ pub fn all_words(words: &[u32], x: u32) -> bool
 
 // Whether every u64 of the slice is x, as scratch that must be left unchanged or cleared.
 pub fn all_longs(longs: &[u64], x: u64) -> bool
-    ensures { result ≡ all_below (λ i. eqb (get_or (before longs) i 0) x) (length (before longs)) }
+    ensures { result ≡ all_below (λ i. eqb (get_or longs.now i 0) x) (length longs.now) }
 {
     let mut i: usize = 0;
     while i < longs.len() {
@@ -199,7 +198,7 @@ fn equal(x: f64, y: f64) -> bool
 
 // Whether every f64 of the slice is equal to x, as scratch that must be left unchanged or cleared.
 pub fn all_floats(floats: &[f64], x: f64) -> bool
-    ensures { result ≡ all_below (λ i. eq (get_or (before floats) i nan) x) (length (before floats)) }
+    ensures { result ≡ all_below (λ i. eq (get_or floats.now i nan) x) (length floats.now) }
 {
     let mut i: usize = 0;
     while i < floats.len() {

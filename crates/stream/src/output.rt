@@ -1,6 +1,5 @@
 // Output gathers in a lent buffer, of which `used` bytes are used, and is written when that is full.
 ghost use Rattle.std.specs.Prelude.{◌≡◌, cond, ◌+◌, ◌≤◌, ltb, length};
-ghost use Rattle.scratch.specs.Lent.{after};
 
 use libc::STDOUT_FILENO;
 
@@ -24,7 +23,7 @@ pub fn flush(out: &[u8], used: usize) -> usize
 
 // Writes one byte behind those used, after the buffer has been sent to standard output where it is full.
 pub fn put(out: &mut [u8], used: usize, byte: u8) -> usize
-    ensures { result ≤ length (after out) }
+    ensures { result ≤ length out.new }
 {
     if used < out.len() {
         out[used] = byte;
@@ -40,7 +39,7 @@ pub fn put(out: &mut [u8], used: usize, byte: u8) -> usize
 
 // Writes these bytes behind those used, through `put`, and answers how many are used then.
 pub fn put_text(out: &mut [u8], used: usize, text: &[u8]) -> usize
-    ensures { result ≤ length (after out) }
+    ensures { result ≤ length out.new }
 {
     let mut at = least(used, out.len());
     let mut i: usize = 0;
@@ -53,7 +52,7 @@ pub fn put_text(out: &mut [u8], used: usize, text: &[u8]) -> usize
 
 // Writes a number in decimal digits behind the bytes used, through `put_text`.
 pub fn put_number(out: &mut [u8], used: usize, n: usize) -> usize
-    ensures { result ≤ length (after out) }
+    ensures { result ≤ length out.new }
 {
     let mut digits = [0u8; 20];
     let k = io::decimal(n as u64, &mut digits);
@@ -62,7 +61,7 @@ pub fn put_number(out: &mut [u8], used: usize, n: usize) -> usize
 
 // The 16 hex digits of a weight's bits; all NaN are one word.
 pub fn put_weight(out: &mut [u8], used: usize, x: f64) -> usize
-    ensures { result ≤ length (after out) }
+    ensures { result ≤ length out.new }
 {
     if x != x {
         return put_text(out, used, b"nan");
@@ -81,7 +80,7 @@ fn digit(value: u8) -> u8
 
 // A digit for each value.
 fn put_each(out: &mut [u8], used: usize, values: &[u8]) -> usize
-    ensures { result ≤ length (after out) }
+    ensures { result ≤ length out.new }
 {
     let mut at = least(used, out.len());
     let mut i: usize = 0;
@@ -94,7 +93,7 @@ fn put_each(out: &mut [u8], used: usize, values: &[u8]) -> usize
 
 // A digit for each value, or a dash where there is none.
 pub fn put_digits(out: &mut [u8], used: usize, values: &[u8]) -> usize
-    ensures { result ≤ length (after out) }
+    ensures { result ≤ length out.new }
 {
     if values.len() == 0 {
         return put(out, used, b'-');
@@ -104,7 +103,7 @@ pub fn put_digits(out: &mut [u8], used: usize, values: &[u8]) -> usize
 
 // Between two elements stands a comma, between two triples a semicolon.
 fn put_mark(out: &mut [u8], used: usize, i: usize, in_triples: bool) -> usize
-    ensures { result ≤ length (after out) }
+    ensures { result ≤ length out.new }
 {
     if i == 0 {
         return put_text(out, used, b"");
@@ -119,14 +118,14 @@ fn put_mark(out: &mut [u8], used: usize, i: usize, in_triples: bool) -> usize
 }
 
 fn put_element(out: &mut [u8], used: usize, x: u16, i: usize, in_triples: bool) -> usize
-    ensures { result ≤ length (after out) }
+    ensures { result ≤ length out.new }
 {
     let marked = put_mark(out, used, i, in_triples);
     put_number(out, marked, scratch::wide_short(x))
 }
 
 fn put_elements(out: &mut [u8], used: usize, list: &[u16], in_triples: bool) -> usize
-    ensures { result ≤ length (after out) }
+    ensures { result ≤ length out.new }
 {
     let mut at = least(used, out.len());
     let mut i: usize = 0;
@@ -139,7 +138,7 @@ fn put_elements(out: &mut [u8], used: usize, list: &[u16], in_triples: bool) -> 
 
 // The elements with marks between them, or a dash where there is none.
 pub fn put_list(out: &mut [u8], used: usize, list: &[u16], in_triples: bool) -> usize
-    ensures { result ≤ length (after out) }
+    ensures { result ≤ length out.new }
 {
     if list.len() == 0 {
         return put(out, used, b'-');
@@ -148,14 +147,14 @@ pub fn put_list(out: &mut [u8], used: usize, list: &[u16], in_triples: bool) -> 
 }
 
 fn put_next_weight(out: &mut [u8], used: usize, x: f64, i: usize) -> usize
-    ensures { result ≤ length (after out) }
+    ensures { result ≤ length out.new }
 {
     let marked = put_mark(out, used, i, false);
     put_weight(out, marked, x)
 }
 
 fn put_each_weight(out: &mut [u8], used: usize, weights: &[f64]) -> usize
-    ensures { result ≤ length (after out) }
+    ensures { result ≤ length out.new }
 {
     let mut at = least(used, out.len());
     let mut i: usize = 0;
@@ -168,7 +167,7 @@ fn put_each_weight(out: &mut [u8], used: usize, weights: &[f64]) -> usize
 
 // The weights with commas between them, or a dash where there is none.
 pub fn put_weights(out: &mut [u8], used: usize, weights: &[f64]) -> usize
-    ensures { result ≤ length (after out) }
+    ensures { result ≤ length out.new }
 {
     if weights.len() == 0 {
         return put(out, used, b'-');
@@ -177,7 +176,7 @@ pub fn put_weights(out: &mut [u8], used: usize, weights: &[f64]) -> usize
 }
 
 fn put_entry(out: &mut [u8], used: usize, row: u16, column: u16, weight: f64, k: usize) -> usize
-    ensures { result ≤ length (after out) }
+    ensures { result ≤ length out.new }
 {
     let marked = put_mark(out, used, 3 * least(k, 1), true);
     let row_put = put_number(out, marked, scratch::wide_short(row));
@@ -190,7 +189,7 @@ fn put_entry(out: &mut [u8], used: usize, row: u16, column: u16, weight: f64, k:
 fn put_each_entry(out: &mut [u8], used: usize, rows: &[u16], cols: &[u16], q: &[f64]) -> usize
     requires rows_in_bounds { length rows.now ≤ length cols.now }
     requires rows_in_bounds_2 { length rows.now ≤ length q.now }
-    ensures { result ≤ length (after out) }
+    ensures { result ≤ length out.new }
 {
     let mut at = least(used, out.len());
     let mut k: usize = 0;
@@ -205,7 +204,7 @@ fn put_each_entry(out: &mut [u8], used: usize, rows: &[u16], cols: &[u16], q: &[
 pub fn put_entries(out: &mut [u8], used: usize, rows: &[u16], cols: &[u16], q: &[f64]) -> usize
     requires rows_in_bounds { length rows.now ≤ length cols.now }
     requires rows_in_bounds_2 { length rows.now ≤ length q.now }
-    ensures { result ≤ length (after out) }
+    ensures { result ≤ length out.new }
 {
     if rows.len() == 0 {
         return put(out, used, b'-');
@@ -215,7 +214,7 @@ pub fn put_entries(out: &mut [u8], used: usize, rows: &[u16], cols: &[u16], q: &
 
 // Writes what was promised under its name, if it was found so.
 pub fn put_promise(out: &mut [u8], used: usize, promise: &[u8], is_kept: bool) -> usize
-    ensures { result ≤ length (after out) }
+    ensures { result ≤ length out.new }
 {
     if is_kept {
         return put_text(out, used, promise);

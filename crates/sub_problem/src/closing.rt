@@ -2,10 +2,9 @@
 ghost use Rattle.std.specs.Prelude.{◌≡◌, map as mapped, ◌≤◌, length, take};
 ghost use Rattle.std.specs.Float.{binary64};
 ghost use Rattle.std.specs.Float.Ieee.{of_bits};
-ghost use Rattle.scratch.specs.Lent.{before, after};
 ghost use Rattle.scratch.specs.Cleared.{cleared};
 ghost use Rattle.scratch.specs.Over.{over};
-ghost use Rattle.field.specs.Field.{given, lent, entries};
+ghost use Rattle.field.specs.Field.{field_of, given, lent, entries};
 ghost use Rattle.sub_problem.specs.Working.{Usable, Numbers, Rising, sum_at, entries_of, close_at as close_at_of, closed_to, closed_entries, Closable};
 ghost use Rattle.sub_problem.specs.Call.{closed_up};
 
@@ -13,7 +12,7 @@ ghost use Rattle.sub_problem.specs.Call.{closed_up};
 pub fn close_linear(c: &mut [f64], map: &[u16], f: &[f64], count: usize)
     requires rising { Rising (length c.old) map.now count }
     requires c_in_bounds { length c.old ≤ length f.now }
-    ensures { after c ≡ over (mapped (sum_at (before f) (before c)) (take count (before map))) (before c) }
+    ensures { c.new ≡ over (mapped (sum_at f.now c.old) (take count map.now)) c.old }
 {
     for t in 0..count {
         let i = scratch::wide_short(map[t]);
@@ -33,7 +32,7 @@ fn close_at(
 ) -> usize
     requires closable { Closable start.now k kept rows.old cols.old q.old }
     requires numbers { Numbers start.now u.now }
-    ensures { entries_of (after rows) (after cols) (after q) result ≡ close_at_of (before start) k (entries_of (before rows) (before cols) (before q) kept) }
+    ensures { entries_of rows.new cols.new q.new result ≡ close_at_of start.now k (entries_of rows.old cols.old q.old kept) }
 {
     let i = scratch::wide_short(rows[k]);
     if start[i] != 2 {
@@ -58,9 +57,9 @@ pub fn close_entries(
     start: &[u8],
     u: &[u32],
 ) -> usize
-    requires usable { Usable (lent c rows cols q) start.now }
+    requires usable { Usable (field_of c.now rows.old cols.old q.old) start.now }
     requires numbers { Numbers start.now u.now }
-    ensures { entries_of (after rows) (after cols) (after q) result ≡ closed_to (given c rows cols q) (before start) (entries (given c rows cols q)) }
+    ensures { entries_of rows.new cols.new q.new result ≡ closed_to (field_of c.now rows.old cols.old q.old) start.now (entries (field_of c.now rows.old cols.old q.old)) }
 {
     let mut kept: usize = 0;
     for k in 0..q.len() {
@@ -72,7 +71,7 @@ pub fn close_entries(
 // Writes 0.0 into every f64 from index `from` on: the places behind the weights that stay.
 pub fn clear_floats_from(floats: &mut [f64], from: usize)
     requires { from ≤ length floats.old }
-    ensures { after floats ≡ over (take from (before floats)) (cleared (of_bits binary64 0) (before floats)) }
+    ensures { floats.new ≡ over (take from floats.old) (cleared (of_bits binary64 0) floats.old) }
 {
     for i in from..floats.len() {
         floats[i] = 0.0;
@@ -82,7 +81,7 @@ pub fn clear_floats_from(floats: &mut [f64], from: usize)
 // Writes 0 into every u16 from index `from` on: the places behind the entries that stay.
 pub fn clear_shorts_from(shorts: &mut [u16], from: usize)
     requires { from ≤ length shorts.old }
-    ensures { after shorts ≡ over (take from (before shorts)) (cleared 0 (before shorts)) }
+    ensures { shorts.new ≡ over (take from shorts.old) (cleared 0 shorts.old) }
 {
     for i in from..shorts.len() {
         shorts[i] = 0;
@@ -93,7 +92,7 @@ pub fn clear_shorts_from(shorts: &mut [u16], from: usize)
 pub fn close_weights(c: &mut [f64], map: &[u16], f: &[f64], count: usize)
     requires rising { Rising (length c.old) map.now count }
     requires c_in_bounds { length c.old ≤ length f.now }
-    ensures { after c ≡ closed_up (of_bits binary64 0) (mapped (sum_at (before f) (before c)) (take count (before map))) (before c) }
+    ensures { c.new ≡ closed_up (of_bits binary64 0) (mapped (sum_at f.now c.old) (take count map.now)) c.old }
 {
     close_linear(c, map, f, count);
     clear_floats_from(c, count);
@@ -108,9 +107,9 @@ pub fn close_all(
     start: &[u8],
     u: &[u32],
 ) -> usize
-    requires usable { Usable (lent c rows cols q) start.now }
+    requires usable { Usable (field_of c.now rows.old cols.old q.old) start.now }
     requires numbers { Numbers start.now u.now }
-    ensures { entries_of (after rows) (after cols) (after q) result ≡ closed_entries (given c rows cols q) (before start) }
+    ensures { entries_of rows.new cols.new q.new result ≡ closed_entries (field_of c.now rows.old cols.old q.old) start.now }
 {
     let kept = close_entries(c, rows, cols, q, start, u);
     clear_shorts_from(rows, kept);

@@ -3,7 +3,6 @@ ghost use Rattle.std.specs.Prelude.{◌≡◌, cond, ◌≤◌, ◌<◌, length,
 ghost use Rattle.std.specs.Float.{nan, binary64};
 ghost use Rattle.std.specs.Float.Ieee.{add, mul, of_bits};
 ghost use Rattle.meaning.specs.Free.{is_free};
-ghost use Rattle.scratch.specs.Lent.{before, after};
 ghost use Rattle.field.specs.Field.{given, lent, variables, entries};
 ghost use Rattle.sub_problem.specs.Reduced.{value_of, with_given};
 ghost use Rattle.sub_problem.specs.Working.{Usable, Blank, Taken, Gathers};
@@ -11,7 +10,7 @@ ghost use Rattle.sub_problem.specs.Working.{Usable, Blank, Taken, Gathers};
 // The first n floats become 0.0.
 pub fn blank(f: &mut [f64], n: usize)
     requires { n ≤ length f.old }
-    ensures { Blank n (after f) }
+    ensures { Blank n f.new }
 {
     for i in 0..n {
         f[i] = 0.0;
@@ -32,7 +31,7 @@ fn gather_at(
     requires usable { Usable (lent c rows cols q) start.now }
     requires k_bound { k < entries (lent c rows cols q) }
     requires q_in_bounds { variables (lent c rows cols q) ≤ length f.old }
-    ensures { Taken (given c rows cols q) (before start) k (before f) sum (after f) result }
+    ensures { Taken (given c rows cols q) start.now k f.old sum f.new result }
 {
     let i = scratch::wide_short(rows[k]);
     let j = scratch::wide_short(cols[k]);
@@ -57,7 +56,7 @@ fn gather_at(
 pub fn gather(c: &[f64], rows: &[u16], cols: &[u16], q: &[f64], start: &[u8], f: &mut [f64]) -> f64
     requires usable { Usable (lent c rows cols q) start.now }
     requires gathers { Gathers (lent c rows cols q) start.now 0 f.old (of_bits binary64 0) }
-    ensures { Gathers (given c rows cols q) (before start) (entries (given c rows cols q)) (after f) result }
+    ensures { Gathers (given c rows cols q) start.now (entries (given c rows cols q)) f.new result }
 {
     let mut sum: f64 = 0.0;
     for k in 0..q.len() {
@@ -70,7 +69,7 @@ pub fn gather(c: &[f64], rows: &[u16], cols: &[u16], q: &[f64], start: &[u8], f:
 fn add_given(c: &[f64], start: &[u8], i: usize, sum: f64) -> f64
     requires i_in_bounds { i < length c.now }
     requires i_in_bounds_2 { i < length start.now }
-    ensures { result ≡ cond (is_free (before start) i) sum (add binary64 sum (mul binary64 (get_or (before c) i nan) (value_of (before start) i))) }
+    ensures { result ≡ cond (is_free start.now i) sum (add binary64 sum (mul binary64 (get_or c.now i nan) (value_of start.now i))) }
 {
     let v = start[i];
     if v == 2 {
@@ -82,7 +81,7 @@ fn add_given(c: &[f64], start: &[u8], i: usize, sum: f64) -> f64
 // The sum x with c times value of every given variable added, rising.
 pub fn add_all_given(c: &[f64], start: &[u8], from: f64) -> f64
     requires { length start.now ≡ length c.now }
-    ensures { result ≡ with_given (before c) (before start) from (length (before c)) }
+    ensures { result ≡ with_given c.now start.now from (length c.now) }
 {
     let mut sum = from;
     for i in 0..c.len() {

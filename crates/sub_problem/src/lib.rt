@@ -1,11 +1,12 @@
 // The public call: the field without its given variables.
+#![tactic(auto)]
+
 mod closing;
 mod gathering;
 mod numbers;
 
 ghost use Rattle.std.specs.Prelude.{◌≡◌, ◌≤◌, length};
-ghost use Rattle.scratch.specs.Lent.{before, after};
-ghost use Rattle.field.specs.Field.{given, lent, variables};
+ghost use Rattle.field.specs.Field.{field_of, given, lent, variables};
 ghost use Rattle.field.specs.Grade.{grade_of};
 ghost use Rattle.shift.specs.Closing.{left_behind};
 ghost use Rattle.sub_problem.specs.Working.{Usable, Numbered, Listed, Weighed};
@@ -15,7 +16,7 @@ use field::tests::admitted;
 use field::{Checked, Grade, Refusal};
 
 // What the call answers: done, with the grade of the field as it was given, the new n, the new m and the constant, or a refusal.
-#[derive(Drop)]
+#[derive(Clone, Copy)]
 pub enum Reduced {
     Done(Grade, usize, usize, f64),
     Refused(Refusal),
@@ -32,10 +33,10 @@ fn weigh(
     f: &mut [f64],
     count: usize,
 ) -> f64
-    requires usable { Usable (lent c rows cols q) start.now }
+    requires usable { Usable (field_of c.old rows.now cols.now q.now) start.now }
     requires listed { Listed start.now map.now count }
-    requires q_in_bounds { variables (lent c rows cols q) ≤ length f.old }
-    ensures { Weighed (given c rows cols q) (before start) (after c) result }
+    requires q_in_bounds { variables (field_of c.old rows.now cols.now q.now) ≤ length f.old }
+    ensures { Weighed (field_of c.old rows.now cols.now q.now) start.now c.new result }
 {
     gathering::blank(f, c.len());
     let pairs = gathering::gather(c, rows, cols, q, start, f);
@@ -57,12 +58,12 @@ fn work(
     u: &mut [u32],
     count: usize,
 ) -> Reduced
-    requires usable { Usable (lent c rows cols q) start.now }
-    requires grade_value { grade ≡ grade_of (lent c rows cols q) }
+    requires usable { Usable (field_of c.old rows.old cols.old q.old) start.now }
+    requires grade_value { grade ≡ grade_of (field_of c.old rows.old cols.old q.old) }
     requires numbered { Numbered start.now (length start.now) u.old count }
     requires count_in_bounds { count ≤ length map.old }
-    requires q_in_bounds { variables (lent c rows cols q) ≤ length f.old }
-    ensures { left result (left_behind c rows cols q) (after map) (after f) (after u) ≡ finished (given c rows cols q) (before start) (before map) (before f) (before u) }
+    requires q_in_bounds { variables (field_of c.old rows.old cols.old q.old) ≤ length f.old }
+    ensures { left result (left_behind c rows cols q) map.new f.new u.new ≡ finished (field_of c.old rows.old cols.old q.old) start.now map.old f.old u.old }
 {
     numbers::list_back(start, u, map);
     let constant = weigh(c, rows, cols, q, start, map, f, count);
@@ -83,7 +84,7 @@ pub fn sub_problem(
     f: &mut [f64],
     u: &mut [u32],
 ) -> Reduced
-    ensures { left result (left_behind c rows cols q) (after map) (after f) (after u) ≡ sub_problem_call (given c rows cols q) (before start) (before map) (before f) (before u) }
+    ensures { left result (left_behind c rows cols q) map.new f.new u.new ≡ sub_problem_call (field_of c.old rows.old cols.old q.old) start.now map.old f.old u.old }
 {
     let checked = admitted(c, rows, cols, q, start, f.len(), u.len());
     if let Checked::Failed(refusal) = checked {

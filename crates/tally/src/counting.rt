@@ -1,11 +1,10 @@
 // How many variables of a field are given, forced to 0, forced to 1 and free at the end.
 ghost use Rattle.std.specs.Prelude.{◌≡◌, not, ◌&&◌, ◌≤◌, eqb, length};
-ghost use Rattle.scratch.specs.Lent.{before};
 ghost use Rattle.tally.specs.Pieces.{one as one_of};
 ghost use Rattle.tally.specs.Counting.{fates_of};
 
 // How many variables are given, forced to 0, forced to 1 and free at the end.
-#[derive(Drop)]
+#[derive(Clone, Copy)]
 pub struct Fates {
     pub given: u64,
     pub zero: u64,
@@ -39,7 +38,7 @@ fn forced(was: u8, is: u8, value: u8) -> u64
 pub fn count(start: &[u8], values: &[u8]) -> Fates
     requires values_len { length values.now ≡ length start.now }
     requires start_len_bound { length start.now ≤ 256 }
-    ensures { result ≡ fates_of (before start) (before values) (length (before start)) }
+    ensures { result ≡ fates_of start.now values.now (length start.now) }
 {
     let mut given: u64 = 0;
     let mut zero: u64 = 0;

@@ -1,9 +1,10 @@
 // The tally of many fields: what each adds to eight totals, one field a step, and the text of the totals.
+#![tactic(auto)]
+
 mod counting;
 mod writing;
 
 ghost use Rattle.std.specs.Prelude.{◌≡◌, ◌≤◌, length};
-ghost use Rattle.scratch.specs.Lent.{before};
 ghost use Rattle.field.specs.Field.{lent, given as given_field};
 ghost use Rattle.records.specs.Parsing.{lists_of, Room};
 ghost use Rattle.tally.specs.Pieces.{fault};
@@ -17,7 +18,7 @@ use text::put_bytes;
 pub use writing::write;
 
 // How many fields were read, exact, inexact and refused, and how many variables of those that were read are given, forced to 0, forced to 1 and free at the end.
-#[derive(Drop)]
+#[derive(Clone, Copy)]
 pub struct Totals {
     pub read: u64,
     pub exact: u64,
@@ -30,7 +31,7 @@ pub struct Totals {
 }
 
 // How the reading ends: behind a ZZ or on an empty input, at a malformed record, or before a total would pass the limit.
-#[derive(Drop)]
+#[derive(Clone, Copy)]
 pub enum Ending {
     Whole,
     Malformed,
@@ -38,14 +39,14 @@ pub enum Ending {
 }
 
 // What stands at the front of an input: a field, with what it adds and the index behind its ZZ, or what is malformed.
-#[derive(Drop)]
+#[derive(Clone, Copy)]
 pub enum Met {
     Field(Totals, usize),
     Malformed,
 }
 
 // After a field: on behind it, or the end.
-#[derive(Drop)]
+#[derive(Clone, Copy)]
 pub enum Stepped {
     On(Totals, usize),
     Over(Ending, Totals),
@@ -71,7 +72,7 @@ pub fn nothing() -> Totals
 fn read_field(grade: Grade, start: &[u8], values: &[u8]) -> Totals
     requires values_len { length values.now ≡ length start.now }
     requires start_len_bound { length start.now ≤ 256 }
-    ensures { result ≡ read_counts grade (before start) (before values) }
+    ensures { result ≡ read_counts grade start.now values.now }
 {
     let fates = count(start, values);
     match grade {
@@ -125,7 +126,7 @@ fn count_field(
     u: &mut [u32],
 ) -> Totals
     requires { Lends (lent c rows cols q) start.now (length values.old) (length f.old) (length u.old) }
-    ensures { result ≡ field_counts (given_field c rows cols q) (before start) }
+    ensures { result ≡ field_counts (given_field c rows cols q) start.now }
 {
     put_bytes(values, 0, start);
     let answer = closure::closure(c, rows, cols, q, values, f, u);
@@ -149,7 +150,7 @@ fn meet(
 ) -> Met
     requires room { Room (lists_of c.old rows.old cols.old q.old start.old) }
     requires few { Few (length values.old) (length f.old) (length u.old) }
-    ensures { result ≡ met (before bytes) }
+    ensures { result ≡ met bytes.now }
 {
     let parsed = parse(bytes, c, rows, cols, q, start);
     match parsed {
@@ -255,7 +256,7 @@ pub fn step(
     requires room { Room (lists_of c.old rows.old cols.old q.old start.old) }
     requires few { Few (length values.old) (length f.old) (length u.old) }
     requires small { Small t }
-    ensures { result ≡ stepped most t (before bytes) }
+    ensures { result ≡ stepped most t bytes.now }
 {
     let found = meet(bytes, c, rows, cols, q, start, values, f, u);
     add(found, t, most)

@@ -1,6 +1,5 @@
 // The text of a tally, written into lent bytes.
 ghost use Rattle.std.specs.Prelude.{◌+◌, ◌*◌, ◌^◌, ◌≤◌, [], ◌∷◌, ◌++◌, length};
-ghost use Rattle.scratch.specs.Lent.{before, after};
 ghost use Rattle.text.specs.Text.{decimal, space, Wrote, Written};
 ghost use Rattle.tally.specs.Tally.{tally, Small};
 ghost use Rattle.tally.specs.Text.{each_text, rate_text, line_of, ending_text, tally_text};
@@ -12,7 +11,7 @@ use text::{put_bytes, put_decimal, write_refused};
 fn put_total(out: &mut [u8], at: usize, n: u64) -> usize
     requires n_bound { n ≤ 2 ^ 53 }
     requires at_in_bounds { at + 17 ≤ length out.old }
-    ensures wrote { Wrote (decimal n ++ space) (before out) at (after out) result }
+    ensures wrote { Wrote (decimal n ++ space) out.old at out.new result }
     ensures upper_bound { result ≤ at + 17 }
 {
     let next = put_decimal(out, at, n);
@@ -25,7 +24,7 @@ fn put_four(out: &mut [u8], at: usize, a: u64, b: u64, c: u64, d: u64) -> usize
     requires c_bound { c ≤ 2 ^ 53 }
     requires d_bound { d ≤ 2 ^ 53 }
     requires at_in_bounds { at + 68 ≤ length out.old }
-    ensures wrote { Wrote (each_text (a ∷ b ∷ c ∷ d ∷ [])) (before out) at (after out) result }
+    ensures wrote { Wrote (each_text (a ∷ b ∷ c ∷ d ∷ [])) out.old at out.new result }
     ensures upper_bound { result ≤ at + 68 }
 {
     let first = put_total(out, at, a);
@@ -40,7 +39,7 @@ fn put_rate(out: &mut [u8], at: usize, forced: u64, rest: u64) -> usize
     requires forced_le_rest { forced ≤ rest }
     requires rest_bound { rest ≤ 3 * 2 ^ 53 }
     requires at_in_bounds { at + 22 ≤ length out.old }
-    ensures wrote { Wrote (rate_text forced rest) (before out) at (after out) result }
+    ensures wrote { Wrote (rate_text forced rest) out.old at out.new result }
     ensures upper_bound { result ≤ at + 22 }
 {
     if rest == 0 {
@@ -54,7 +53,7 @@ fn put_rate(out: &mut [u8], at: usize, forced: u64, rest: u64) -> usize
 fn put_line(out: &mut [u8], at: usize, t: Totals) -> usize
     requires small { Small t }
     requires at_in_bounds { at + 159 ≤ length out.old }
-    ensures wrote { Wrote (line_of t) (before out) at (after out) result }
+    ensures wrote { Wrote (line_of t) out.old at out.new result }
     ensures upper_bound { result ≤ at + 159 }
 {
     let fields = put_four(out, at, t.read, t.exact, t.inexact, t.refused);
@@ -67,7 +66,7 @@ fn put_line(out: &mut [u8], at: usize, t: Totals) -> usize
 // The line of a refusal, or nothing.
 fn put_ending(ending: Ending, out: &mut [u8]) -> usize
     requires { 12 ≤ length out.old }
-    ensures wrote { Wrote (ending_text ending) (before out) 0 (after out) result }
+    ensures wrote { Wrote (ending_text ending) out.old 0 out.new result }
     ensures upper_bound { result ≤ 12 }
 {
     match ending {
@@ -80,7 +79,7 @@ fn put_ending(ending: Ending, out: &mut [u8]) -> usize
 fn write_in(ending: Ending, t: Totals, out: &mut [u8]) -> usize
     requires small { Small t }
     requires in_bounds { 171 ≤ length out.old }
-    ensures { Written (tally_text (tally ending t)) (before out) (after out) result }
+    ensures { Written (tally_text (tally ending t)) out.old out.new result }
 {
     let at = put_ending(ending, out);
     put_line(out, at, t)
@@ -89,7 +88,7 @@ fn write_in(ending: Ending, t: Totals, out: &mut [u8]) -> usize
 // The text of a tally, at the front of `out`, which has room for the longest: twelve bytes for a refusal, seventeen for each total, and the rate.
 pub fn write(ending: Ending, t: Totals, out: &mut [u8; 192]) -> usize
     requires { Small t }
-    ensures { Written (tally_text (tally ending t)) (before out) (after out) result }
+    ensures { Written (tally_text (tally ending t)) out.old out.new result }
 {
     write_in(ending, t, out)
 }

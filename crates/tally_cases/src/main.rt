@@ -1,6 +1,7 @@
 // Tallies many inputs, made by tools/tally_cases: each stands behind its length and the size of its reads, two bytes each, the lower first, and its limit, one byte, where 0 is 2^53.
+#![tactic(auto)]
+
 ghost use Rattle.std.specs.Prelude.{◌+◌, ◌^◌, ◌<◌, ◌≤◌, length};
-ghost use Rattle.scratch.specs.Lent.{before, after};
 ghost use Rattle.records.specs.WellFormed.{longest_input};
 
 use libc::STDIN_FILENO;
@@ -29,8 +30,8 @@ fn least(a: usize, b: usize) -> usize
 fn read_more(buffer: &mut [u8], held: usize, input: &[u8], at: usize, size: usize) -> usize
     requires held_in_bounds { held < length buffer.old }
     requires at_in_bounds { at ≤ length input.now }
-    ensures result_in_bounds { held + result ≤ length (after buffer) }
-    ensures result_in_bounds_2 { at + result ≤ length (before input) }
+    ensures result_in_bounds { held + result ≤ length buffer.new }
+    ensures result_in_bounds_2 { at + result ≤ length input.now }
 {
     let n = least(size, least(input.len() - at, buffer.len() - held));
     put_bytes(buffer, held, &input[at..at + n]);

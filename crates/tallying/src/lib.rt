@@ -1,6 +1,7 @@
 // The tally of an input that is read in parts into a bounded buffer: all but the read itself.
+#![tactic(auto)]
+
 ghost use Rattle.std.specs.Prelude.{◌≡◌, ◌+◌, ◌-◌, ◌^◌, ◌<◌, ◌≤◌, length, take, drop};
-ghost use Rattle.scratch.specs.Lent.{before, after};
 ghost use Rattle.scratch.specs.Over.{over};
 ghost use Rattle.records.specs.Parsing.{lists_of, Room};
 ghost use Rattle.records.specs.WellFormed.{longest_input};
@@ -12,7 +13,7 @@ ghost use Rattle.tallying.specs.Taking.{is_enough as is_enough_of, Takes};
 use tally::{Ending, Stepped, Totals, step};
 
 // On, with an index or with the number of bytes that are held, or the tally.
-#[derive(Drop)]
+#[derive(Clone, Copy)]
 pub enum Turned {
     On(Totals, usize),
     Over(Ending, Totals),
@@ -47,7 +48,7 @@ fn take_in(
     requires few { Few (length values.old) (length f.old) (length u.old) }
     requires small { Small t }
     requires most_bound { most ≤ 2 ^ 53 }
-    ensures { Takes last most t (before bytes) result }
+    ensures { Takes last most t bytes.now result }
 {
     let mut totals = t;
     let mut at: usize = 0;
@@ -81,7 +82,7 @@ fn take_in(
 fn take_fields(bytes: &[u8], last: bool, t: Totals, most: u64) -> Turned
     requires small { Small t }
     requires most_bound { most ≤ 2 ^ 53 }
-    ensures { Takes last most t (before bytes) result }
+    ensures { Takes last most t bytes.now result }
 {
     let mut c = [0.0; 256];
     let mut rows = [0u16; 1024];
@@ -112,7 +113,7 @@ fn move_front(buffer: &mut [u8], at: usize, held: usize) -> usize
     requires at_le_held { at ≤ held }
     requires held_in_bounds { held ≤ length buffer.old }
     ensures value { result ≡ held - at }
-    ensures buffer_value { after buffer ≡ over (drop at (take held (before buffer))) (before buffer) }
+    ensures buffer_value { buffer.new ≡ over (drop at (take held buffer.old)) buffer.old }
 {
     let mut i: usize = 0;
     while at + i < held {
@@ -126,8 +127,8 @@ fn move_front(buffer: &mut [u8], at: usize, held: usize) -> usize
 fn end(bytes: &[u8], t: Totals, most: u64) -> Turned
     requires small { Small t }
     requires most_bound { most ≤ 2 ^ 53 }
-    ensures value { result ≡ over_of (tally_on most t (before bytes)) }
-    ensures small_2 { Small (tally_on most t (before bytes)).totals }
+    ensures value { result ≡ over_of (tally_on most t bytes.now) }
+    ensures small_2 { Small (tally_on most t bytes.now).totals }
 {
     let taken = take_fields(bytes, true, t, most);
     match taken {
@@ -142,8 +143,8 @@ pub fn turn(buffer: &mut [u8], held: usize, n: usize, t: Totals, most: u64) -> T
     requires n_in_bounds { held + n ≤ length buffer.old }
     requires small { Small t }
     requires most_bound { most ≤ 2 ^ 53 }
-    ensures turns { Turns most t (take held (before buffer)) (take n (drop held (before buffer))) result (after buffer) }
-    ensures goes { Goes (length (before buffer)) t held result }
+    ensures turns { Turns most t (take held buffer.old) (take n (drop held buffer.old)) result buffer.new }
+    ensures goes { Goes (length buffer.old) t held result }
 {
     if n == 0 {
         return end(&buffer[..held], t, most);

@@ -1,13 +1,14 @@
 // The text of an answer, written into lent bytes.
+#![tactic(auto)]
+
 ghost use Rattle.std.specs.Prelude.{◌≡◌, ◌+◌, ◌*◌, ◌<◌, ◌≤◌, [], ◌∷◌, length};
-ghost use Rattle.scratch.specs.Lent.{before, after};
 ghost use Rattle.text.specs.Text.{decimal, refused_text, grade_line, forced_line, end_line, forced_at, forced, answer_text, Wrote, Shows, Written};
 
 use field::Grade;
 
 fn put(out: &mut [u8], at: usize, byte: u8) -> usize
     requires { at < length out.old }
-    ensures { Wrote (byte ∷ []) (before out) at (after out) result }
+    ensures { Wrote (byte ∷ []) out.old at out.new result }
 {
     out[at] = byte;
     at + 1
@@ -16,7 +17,7 @@ fn put(out: &mut [u8], at: usize, byte: u8) -> usize
 // Writes these bytes from index `at` on, and answers the index behind them.
 pub fn put_bytes(out: &mut [u8], at: usize, text: &[u8]) -> usize
     requires { at + length text.now ≤ length out.old }
-    ensures { Wrote (before text) (before out) at (after out) result }
+    ensures { Wrote text.now out.old at out.new result }
 {
     let mut i: usize = 0;
     while i < text.len() {
@@ -36,7 +37,7 @@ fn digit(n: u64) -> u8
 // The digits of a number, the highest first.
 pub fn put_decimal(out: &mut [u8], at: usize, n: u64) -> usize
     requires { at + length (decimal n) ≤ length out.old }
-    ensures { Wrote (decimal n) (before out) at (after out) result }
+    ensures { Wrote (decimal n) out.old at out.new result }
 {
     if n < 10 {
         return put(out, at, digit(n));
@@ -48,7 +49,7 @@ pub fn put_decimal(out: &mut [u8], at: usize, n: u64) -> usize
 fn put_number(out: &mut [u8], at: usize, n: usize) -> usize
     requires n_bound { n < 1000 }
     requires at_in_bounds { at + 3 ≤ length out.old }
-    ensures wrote { Wrote (decimal n) (before out) at (after out) result }
+    ensures wrote { Wrote (decimal n) out.old at out.new result }
     ensures upper_bound { result ≤ at + 3 }
 {
     put_decimal(out, at, n as u64)
@@ -56,7 +57,7 @@ fn put_number(out: &mut [u8], at: usize, n: usize) -> usize
 
 fn put_grade(out: &mut [u8], at: usize, grade: Grade) -> usize
     requires { at + 14 ≤ length out.old }
-    ensures wrote { Wrote (grade_line grade) (before out) at (after out) result }
+    ensures wrote { Wrote (grade_line grade) out.old at out.new result }
     ensures upper_bound { result ≤ at + 14 }
 {
     match grade {
@@ -68,7 +69,7 @@ fn put_grade(out: &mut [u8], at: usize, grade: Grade) -> usize
 fn put_forced(out: &mut [u8], at: usize, variable: usize, value: u8) -> usize
     requires variable_bound { variable < 1000 }
     requires at_in_bounds { at + 10 ≤ length out.old }
-    ensures wrote { Wrote (forced_line variable value) (before out) at (after out) result }
+    ensures wrote { Wrote (forced_line variable value) out.old at out.new result }
     ensures upper_bound { result ≤ at + 10 }
 {
     let first = put_bytes(out, at, b"x ");
@@ -81,7 +82,7 @@ fn put_forced(out: &mut [u8], at: usize, variable: usize, value: u8) -> usize
 fn put_end(out: &mut [u8], at: usize, count: usize) -> usize
     requires count_bound { count < 1000 }
     requires at_in_bounds { at + 8 ≤ length out.old }
-    ensures wrote { Wrote (end_line count) (before out) at (after out) result }
+    ensures wrote { Wrote (end_line count) out.old at out.new result }
     ensures upper_bound { result ≤ at + 8 }
 {
     let first = put_bytes(out, at, b"end ");
@@ -90,7 +91,7 @@ fn put_end(out: &mut [u8], at: usize, count: usize) -> usize
 }
 
 // How far the text goes, and how many x lines it has.
-#[derive(Drop)]
+#[derive(Clone, Copy)]
 struct Shown {
     at: usize,
     count: usize,
@@ -103,7 +104,7 @@ fn put_variable(out: &mut [u8], shown: Shown, start: &[u8], values: &[u8], i: us
     requires i_in_bounds_2 { i < length values.now }
     requires count_le_i { shown.count ≤ i }
     requires at_in_bounds { shown.at + 10 ≤ length out.old }
-    ensures { Shows (before values) (forced_at (before start) (before values) i) (before out) shown.at shown.count (after out) result.at result.count 10 }
+    ensures { Shows values.now (forced_at start.now values.now i) out.old shown.at shown.count out.new result.at result.count 10 }
 {
     if start[i] != 2 {
         return shown;
@@ -123,7 +124,7 @@ fn put_variables(out: &mut [u8], from: usize, start: &[u8], values: &[u8]) -> Sh
     requires start_len_bound { length start.now < 1000 }
     requires values_len { length values.now ≡ length start.now }
     requires start_in_bounds { from + 10 * length start.now ≤ length out.old }
-    ensures { Shows (before values) (forced (before start) (before values) (length (before start))) (before out) from 0 (after out) result.at result.count (10 * length (before start)) }
+    ensures { Shows values.now (forced start.now values.now (length start.now)) out.old from 0 out.new result.at result.count (10 * length start.now) }
 {
     let mut shown = Shown { at: from, count: 0 };
     let mut i: usize = 0;
@@ -139,7 +140,7 @@ pub fn write_answer(grade: Grade, start: &[u8], values: &[u8], out: &mut [u8]) -
     requires start_len_bound { length start.now < 1000 }
     requires values_len { length values.now ≡ length start.now }
     requires start_in_bounds { 22 + 10 * length start.now ≤ length out.old }
-    ensures { Written (answer_text grade (before start) (before values)) (before out) (after out) result }
+    ensures { Written (answer_text grade start.now values.now) out.old out.new result }
 {
     let first = put_grade(out, 0, grade);
     let shown = put_variables(out, first, start, values);
@@ -150,7 +151,7 @@ pub fn write_answer(grade: Grade, start: &[u8], values: &[u8], out: &mut [u8]) -
 pub fn write_refused(number: usize, out: &mut [u8]) -> usize
     requires number_bound { number < 1000 }
     requires in_bounds { 12 ≤ length out.old }
-    ensures { Written (refused_text number) (before out) (after out) result }
+    ensures { Written (refused_text number) out.old out.new result }
 {
     let first = put_bytes(out, 0, b"refused ");
     let second = put_number(out, first, number);

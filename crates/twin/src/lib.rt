@@ -1,6 +1,7 @@
 // Both probes of one candidate.
+#![tactic(auto)]
+
 ghost use Rattle.std.specs.Prelude.{◌≡◌};
-ghost use Rattle.scratch.specs.Lent.{before, after};
 ghost use Rattle.field.specs.Field.{given, lent};
 ghost use Rattle.twin.specs.Twin.{Twinnable, EndFor, Halfway, Beside, Twinned};
 
@@ -23,10 +24,10 @@ fn first_probe(
 ) -> usize
     requires twinnable { Twinnable (lent c rows cols q) start.now f.old u.old known variable }
     requires values_value { values.old ≡ start.now }
-    ensures values_value_2 { after values ≡ before start }
-    ensures f_value { after f ≡ before f }
-    ensures halfway { Halfway (given c rows cols q) (before start) (before f) (after u) known variable result }
-    ensures beside { Beside (given c rows cols q) (before u) (after u) }
+    ensures values_value_2 { values.new ≡ start.now }
+    ensures f_value { f.new ≡ f.old }
+    ensures halfway { Halfway (given c rows cols q) start.now f.old u.new known variable result }
+    ensures beside { Beside (given c rows cols q) u.old u.new }
 {
     let n = c.len();
     let base = n + 1 + 2 * rows.len();
@@ -57,9 +58,9 @@ fn second_probe(
     requires halfway { Halfway (lent c rows cols q) start.now f.old u.old known variable forced }
     requires end_for { EndFor (lent c rows cols q) u.old end }
     requires values_value { values.old ≡ start.now }
-    ensures values_value_2 { after values ≡ before start }
-    ensures f_value { after f ≡ before f }
-    ensures twinned { Twinned (given c rows cols q) (before start) (before f) known variable (before u) end (after u) result }
+    ensures values_value_2 { values.new ≡ start.now }
+    ensures f_value { f.new ≡ f.old }
+    ensures twinned { Twinned (given c rows cols q) start.now f.old known variable u.old end u.new result }
 {
     let n = c.len();
     let base = n + 1 + 2 * rows.len();
@@ -91,9 +92,9 @@ pub fn twin(
     requires twinnable { Twinnable (lent c rows cols q) start.now f.old u.old known variable }
     requires end_for { EndFor (lent c rows cols q) u.old end }
     requires values_value { values.old ≡ start.now }
-    ensures values_value_2 { after values ≡ before start }
-    ensures f_value { after f ≡ before f }
-    ensures twinned { Twinned (given c rows cols q) (before start) (before f) known variable (before u) end (after u) result }
+    ensures values_value_2 { values.new ≡ start.now }
+    ensures f_value { f.new ≡ f.old }
+    ensures twinned { Twinned (given c rows cols q) start.now f.old known variable u.old end u.new result }
 {
     let forced = first_probe(c, rows, cols, q, start, values, f, u, known, variable);
     second_probe(

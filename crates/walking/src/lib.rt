@@ -1,6 +1,7 @@
 // The walk over the candidates: both probes of each, found constraints gathered and flushed.
+#![tactic(auto)]
+
 ghost use Rattle.std.specs.Prelude.{◌≡◌, ◌+◌, ◌<◌, ◌≤◌};
-ghost use Rattle.scratch.specs.Lent.{before, after};
 ghost use Rattle.scratch.specs.Region.{region};
 ghost use Rattle.sorting.specs.Numbers.{Keys};
 ghost use Rattle.found.specs.Joint.{Held};
@@ -25,7 +26,7 @@ pub fn make_room(
 ) -> Merged
     requires held { Held held list.old }
     requires keys { Keys lo hi u.old }
-    ensures { left result (after list) (after u) ≡ roomed (before list) held (before u) lo hi n }
+    ensures { left result list.new u.new ≡ roomed list.old held u.old lo hi n }
 {
     if n <= u.len() - hi {
         return Merged::Holds(held);
@@ -70,8 +71,8 @@ pub fn walk(
 ) -> Merged
     requires walkable { Walkable (lent c rows cols q) start.now f.old u.old known count }
     requires values_value { values.old ≡ start.now }
-    ensures values_value_2 { after values ≡ before start }
-    ensures walked { Walked (given c rows cols q) (before start) (region (candidates_at (given c rows cols q)) count (before u)) (before list) result (after list) (after u) }
+    ensures values_value_2 { values.new ≡ start.now }
+    ensures walked { Walked (given c rows cols q) start.now (region (candidates_at (given c rows cols q)) count u.old) list.old result list.new u.new }
 {
     let n = c.len();
     let at = n + 1 + 2 * rows.len() + n + n + n + n;
@@ -106,9 +107,9 @@ pub fn walk_values(
 )
     requires walkable { Walkable (lent c rows cols q) start.now f.old u.old known count }
     requires values_value { values.old ≡ start.now }
-    ensures values_value_2 { after values ≡ before start }
-    ensures valued { Valued (given c rows cols q) (before start) (region (candidates_at (given c rows cols q)) count (before u)) (after u) }
-    ensures adjacent { Adjacent (variables (given c rows cols q)) (before rows) (before cols) (after u) }
+    ensures values_value_2 { values.new ≡ start.now }
+    ensures valued { Valued (given c rows cols q) start.now (region (candidates_at (given c rows cols q)) count u.old) u.new }
+    ensures adjacent { Adjacent (variables (given c rows cols q)) rows.now cols.now u.new }
 {
     let n = c.len();
     let at = n + 1 + 2 * rows.len() + n + n + n + n;

@@ -177,7 +177,7 @@ module _ (u : ℕ) (l : 64 < u) (h : u < 2067) where
   pattern_is (inf s) n = absurd n
   pattern_is (fin s m e) n = mod-pow-add (to_bits binary64 (fin s m e)) 11 52
 
-  of_fields : (x : Float) → T (fits binary64 x) → T (finite x) → of_fields binary64 (leb (top binary64) (to_bits binary64 x)) (exponent x) (digits x) ≡ x
+  of_fields_lem : (x : Float) → T (fits binary64 x) → T (finite x) → of_fields binary64 (leb (top binary64) (to_bits binary64 x)) (exponent x) (digits x) ≡ x
   unfolding of_bits
   of_fields x t n = ap (λ (k : ℕ). of_fields binary64 (leb (top binary64) (to_bits binary64 x)) k (digits x)) (sym (field (to_bits binary64 x) 11 52)) ∙ of_bits-to_bits binary64 x t
 
@@ -185,7 +185,7 @@ module _ (u : ℕ) (l : 64 < u) (h : u < 2067) where
   finite_weighs x t n =
       let s = leb (top binary64) (to_bits binary64 x) in
       let small : digits x < lead = mod-lt (to_bits binary64 x) (lit< tt) in
-      let same = of_fields x t n in
+      let same = of_fields_lem x t n in
       let g : whole_in binary64 u x ≡ leb u (from_fields (exponent x) (digits x)) = grain_whole binary64 u x t n (omega arith) ∙ ap (leb u) (grain_bits x t n) in
       let b = fields_beyond (exponent x) (digits x) u small l (omega arith) in
       rw (pattern_is x n)

@@ -1,4 +1,6 @@
 // What is asked of one weight: of every f64 its half, its magnitude and whether it is finite; of a finite one its bits without the sign, and from them the units of which it is a whole number.
+#![tactic(auto)]
+
 ghost use Rattle.std.specs.Prelude.{◌≡◌, T};
 ghost use Rattle.std.specs.Float.{binary64};
 ghost use Rattle.std.specs.Float.Ieee.{mul};

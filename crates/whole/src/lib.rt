@@ -1,1 +1,2 @@
 // Whole numbers as ledgers: definitions and laws alone, and no code.
+#![tactic(auto)]

@@ -1,6 +1,5 @@
 // The workspace for many probes: the rows at the start values with a copy, and the candidates.
 ghost use Rattle.std.specs.Prelude.{◌≡◌, length};
-ghost use Rattle.scratch.specs.Lent.{before, after};
 ghost use Rattle.field.specs.Field.{given, lent, variables};
 ghost use Rattle.field.specs.Tests.{Ready};
 ghost use Rattle.field.specs.Grade.{grade_of};
@@ -29,8 +28,8 @@ pub fn remember(
     requires values_value { values.old ≡ start.now }
     requires grade_value { grade ≡ grade_of (lent c rows cols q) }
     requires adjacent { Adjacent (variables (lent c rows cols q)) rows.now cols.now u.old }
-    ensures values_value_2 { after values ≡ before start }
-    ensures remembers { Remembers (given c rows cols q) (before start) (after f) (after u) result }
+    ensures values_value_2 { values.new ≡ start.now }
+    ensures remembers { Remembers (given c rows cols q) start.now f.new u.new result }
 {
     let n = c.len();
     let from = n + 1 + 2 * rows.len();

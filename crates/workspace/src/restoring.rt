@@ -1,6 +1,5 @@
 // What a probe touched is put back: rows from their copy, and values from the start values.
 ghost use Rattle.std.specs.Prelude.{◌≡◌, ◌+◌, ◌<◌, ◌≤◌, length};
-ghost use Rattle.scratch.specs.Lent.{before, after};
 ghost use Rattle.field.specs.Field.{given, lent};
 ghost use Rattle.rows.specs.Stored.{Filled};
 ghost use Rattle.run.specs.Cells.{cells};
@@ -15,7 +14,7 @@ use scratch::wide_word;
 fn back_at(f: &mut [f64], n: usize, t: usize)
     requires t_lt_n { t < n }
     requires n_in_bounds { n + n + (n + n) ≤ length f.old }
-    ensures { after f ≡ model.back_at_of n (before f) t }
+    ensures { f.new ≡ model.back_at_of n f.old t }
 {
     let low = n + n + t;
     let high = n + n + (n + t);
@@ -30,7 +29,7 @@ fn back_at(f: &mut [f64], n: usize, t: usize)
 fn back(rows: &[u16], cols: &[u16], f: &mut [f64], u: &[u32], n: usize, x: usize)
     requires backable { model.Backable n rows.now cols.now f.old u.now }
     requires x_lt_n { x < n }
-    ensures { after f ≡ model.back n (before rows) (before cols) x (before f) }
+    ensures { f.new ≡ model.back n rows.now cols.now x f.old }
 {
     let start = wide_word(u[x]);
     let end = wide_word(u[x + 1]);
@@ -43,7 +42,7 @@ fn back(rows: &[u16], cols: &[u16], f: &mut [f64], u: &[u32], n: usize, x: usize
 // The variables of a list in u have their start values again.
 pub fn undo(start: &[u8], values: &mut [u8], u: &[u32], from: usize, count: usize)
     requires { model.Undoable start.now values.old u.now from count }
-    ensures { after values ≡ before start }
+    ensures { values.new ≡ start.now }
 {
     for h in 0..count {
         let x = wide_word(u[from + h]);
@@ -64,7 +63,7 @@ fn back_list(
     count: usize,
 )
     requires { model.Rowable (lent c rows cols q) start.now u.now from count f.old }
-    ensures { Filled (given c rows cols q) (before start) (before f) (after f) }
+    ensures { Filled (given c rows cols q) start.now f.old f.new }
 {
     let n = c.len();
     for h in 0..count {
@@ -88,8 +87,8 @@ pub fn restore(
     count: usize,
 )
     requires { model.Touched (lent c rows cols q) start.now variable (cells values.old f.old u.now count) }
-    ensures values_value { after values ≡ before start }
-    ensures filled { Filled (given c rows cols q) (before start) (before f) (after f) }
+    ensures values_value { values.new ≡ start.now }
+    ensures filled { Filled (given c rows cols q) start.now f.old f.new }
 {
     let n = c.len();
     let from = n + 1 + 2 * rows.len();

@@ -1,0 +1,10 @@
+-- `contradicts` asks two bits. Assumes nothing.
+use Rattle.allow.proofs.Choosing.{both_yes, both_not}
+use borrow.Author.Rules.{rules}
+use Rattle.allow.proofs.reading.contradicts.Goals as goal
+
+pub returns-then-has : goal.returns-then-has
+returns-then-has c = both_yes _ _ c.has.ensures c.if-has.true c.has-then-has.ensures
+
+pub returns : goal.returns
+returns c = both_not _ _ c.has.ensures c.if-has.false

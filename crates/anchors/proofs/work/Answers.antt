@@ -1,0 +1,49 @@
+-- `work` builds the places, opens every variable, and searches from each start. Assumes nothing.
+use native.Mathlib.Omega.{arith}
+use Rattle.places.proofs.Shape.{ends_below}
+use Rattle.parts.proofs.Calls.{begun_placed}
+use borrow.Author.Rules.{rules}
+use Rattle.anchors.proofs.work.Goals as goal
+
+pub build-requires : goal.build-requires
+build-requires c =     record { ends_below = ends_below c.requires.admitted.shaped; rows_in_bounds = (
+  omega (
+    arith,
+    c.requires.admitted.words_room,
+    c.requires.admitted.shaped.rows_long,
+  ),
+) }
+
+pub begin-requires : goal.begin-requires
+begin-requires c =     record { shaped = c.requires.admitted.shaped; values_len = (
+    c.requires.admitted.start.long,
+    omega (
+      arith,
+      c.requires.admitted.words_room,
+      c.requires.admitted.shaped.rows_long,
+      c.build.ensures.long,
+    ),
+  ); q_in_bounds =  }
+
+pub search-requires : goal.search-requires
+search-requires c =
+    let admitted = c.requires.admitted in
+    let built = c.build.ensures in
+    let both = let begun = c.begin.ensures in (
+      record {
+        placed = begun_placed admitted.shaped built.adjacent (omega (arith, admitted.words_room, admitted.shaped.rows_long, built.long)) begun;
+        start_long = admitted.start.long;
+        floats_room = omega (arith, admitted.floats_room);
+      },
+      (begun.marks, c.requires.grade_value),
+    ) in
+    record { standing = both.0; u_value = both.1.0; grade_value = both.1.1 }
+
+pub shape_of-list : goal.shape_of-list
+shape_of-list c = c.search.auto.list
+
+pub shape_of-f : goal.shape_of-f
+shape_of-f c = c.search.auto.f
+
+pub returns : goal.returns
+returns c = c.search.ensures

@@ -1,0 +1,43 @@
+-- `answer_field` works on a copy of the start values, and writes the answer or the refusal. Assumes nothing.
+use mathlib.Core.Path.{ap, ◌∙◌}
+use Rattle.text.specs.Text.{refused_text}
+use Rattle.text.proofs.Writes.{as_written, copied}
+use Rattle.answering.proofs.Answers.{refusal_small, done_text, refused_text}
+use native.Mathlib.Omega.{arith}
+use borrow.Author.Rules.{rules}
+use Rattle.answering.proofs.answer_field.Goals as goal
+
+pub write_refused-requires : goal.write_refused-requires
+write_refused-requires c =     record { number_bound = refusal_small c.in-Refuses.is (c.wide_word.ensures ∙ c.number.ensures); in_bounds = (
+  omega (arith, c.requires.enough.text),
+) }
+
+pub returns-in-Counts : goal.returns-in-Counts
+returns-in-Counts c =
+    as_written (done_text _ _
+    c.requires.fits
+    c.requires.enough
+    (copied c.put_bytes.ensures
+    (omega (
+      arith,
+      c.requires.fits.start_long,
+      c.requires.fits.values_long,
+    )))
+    c.closure-answer.ensures
+    c.in-Counts.is)
+    c.write_answer.ensures
+
+pub returns-in-Refuses : goal.returns-in-Refuses
+returns-in-Refuses c =
+    as_written (ap refused_text (c.wide_word.ensures ∙ c.number.ensures) ∙ refused_text _ _
+    c.requires.fits
+    c.requires.enough
+    (copied c.put_bytes.ensures
+    (omega (
+      arith,
+      c.requires.fits.start_long,
+      c.requires.fits.values_long,
+    )))
+    c.closure-answer.ensures
+    c.in-Refuses.is)
+    c.write_refused.ensures

@@ -1,0 +1,8 @@
+-- `pass` takes one variable a turn. Assumes nothing.
+use Prim.Native.Nat.{◌-◌}
+use Rattle.cold.proofs.Passed.{Passing, passing_start, passing_long, passing_asks, passing_turn, passing_done}
+use borrow.Author.Rules.{rules}
+use Rattle.cold.proofs.twice.pass.Given as goal
+
+abbrev pub invariant-loop-j : goal.invariant-loop-j
+invariant-loop-j l = Passing l.start l.values l.i l.first l.at l.end l.initial.u l.u l.last l.j

@@ -1,0 +1,23 @@
+-- `first_fault` looks at one entry a turn. Assumes nothing.
+use Prim.Native.Nat.{◌-◌}
+use lib.ListN.{length}
+use mathlib.Core.Path.{sym, ◌∙◌}
+use borrow.Author.Tests.{not-true, not-false}
+use Rattle.field.specs.Tests.{is_fine}
+use Rattle.scratch.specs.All.{Passing}
+use Rattle.scratch.proofs.All.{all_start, all_turn}
+use Rattle.field.proofs.Faults.{first_stop, first_end}
+use borrow.Author.Rules.{rules}
+use Rattle.field.proofs.entries.first_fault.Goals as goal
+
+pub loop-k-init : goal.loop-k-init
+loop-k-init c = all_start _ _
+
+pub returns-then-not-is_fine : goal.returns-then-not-is_fine
+returns-then-not-is_fine c = first_stop _ c.loop-k.invariant (search rules) (sym c.is_fine.ensures ∙ not-true _ c.if-not-is_fine.true)
+
+pub loop-k-preserved : goal.loop-k-preserved
+loop-k-preserved c = all_turn _ c.loop-k.invariant (search rules) (sym c.is_fine.ensures ∙ not-false _ c.if-not-is_fine.false)
+
+pub returns : goal.returns
+returns c = first_end _ c.loop-k.invariant (search rules)

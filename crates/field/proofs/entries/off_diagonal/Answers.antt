@@ -1,0 +1,21 @@
+-- `off_diagonal` tests one entry a turn. Assumes nothing.
+use Prim.Native.Nat.{◌-◌}
+use mathlib.Core.Path.{refl}
+use mathlib.Core.Bool.{not}
+use lib.Dec.{eqb}
+use lib.ListN.{length, get_or}
+use Rattle.field.specs.Tests.{off_diagonal}
+use Rattle.scratch.specs.All.{Testing}
+use Rattle.scratch.proofs.All.{testing_start, testing_turn, testing_done}
+use borrow.Author.Rules.{rules}
+use Rattle.field.proofs.entries.off_diagonal.Goals as goal
+
+pub loop-k-init : goal.loop-k-init
+loop-k-init c = testing_start _ _
+
+pub loop-k-preserved : goal.loop-k-preserved
+loop-k-preserved c = testing_turn _ c.loop-k.invariant (search rules) refl
+
+pub returns : goal.returns
+unfolding off_diagonal
+returns c = testing_done _ c.loop-k.invariant (search rules)

@@ -1,0 +1,11 @@
+-- `flush` merges the distinct words. Assumes nothing.
+use Rattle.found.proofs.Settled.{flush_climbed, flush_is}
+use borrow.Author.Rules.{rules}
+use Rattle.found.proofs.flush.Goals as goal
+
+pub merge-requires : goal.merge-requires
+merge-requires c = record { held = c.requires.held; climbed = flush_climbed c.requires.keys c.distinct-end.ensures.value c.distinct-end.ensures.u_value }
+
+pub returns : goal.returns
+returns c =
+    flush_is c.requires.keys c.distinct-end.ensures.value c.distinct-end.ensures.u_value c.args.held c.args.list.now c.requires.held c.merge.ensures

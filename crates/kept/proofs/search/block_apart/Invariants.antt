@@ -1,0 +1,15 @@
+-- `block_apart` tests one entry a turn. Assumes nothing.
+use Prim.Native.Nat.{◌+◌, ◌-◌}
+use mathlib.Core.Bool.{not}
+use native.Mathlib.Omega.{arith}
+use Rattle.scratch.specs.All.{Testing}
+use Rattle.scratch.proofs.All.{testing_start, testing_turn, testing_done}
+use Rattle.kept.specs.Kept.{meets}
+use borrow.Author.Rules.{rules}
+use Rattle.kept.proofs.search.block_apart.Given as goal
+
+abbrev pub invariant-loop-k : goal.invariant-loop-k
+invariant-loop-k l = Testing (λ j. not (meets l.rows l.cols l.i (l.from + j))) 64 l.k l.apart
+
+abbrev pub decreases-loop-k : goal.decreases-loop-k
+decreases-loop-k l = 64 - l.k

@@ -1,0 +1,15 @@
+-- `may_release` makes the two parts of test 7 in turn. Assumes nothing.
+use mathlib.Core.Path.{refl}
+use borrow.Author.Tests.{lt-ltb, le-ltb}
+use Rattle.scratch.proofs.All.{and_yes, and_no}
+use Rattle.kept.specs.Calls.{may_release}
+use borrow.Author.Rules.{rules}
+use Rattle.kept.proofs.testing.may_release.Goals as goal
+
+pub returns-then-variable-n : goal.returns-then-variable-n
+unfolding may_release
+returns-then-variable-n c = and_no _ (le-ltb _ _ c.if-variable-n.true)
+
+pub returns : goal.returns
+unfolding may_release
+returns c = and_yes (lt-ltb _ _ c.if-variable-n.false) refl

@@ -1,0 +1,25 @@
+-- `releasable` makes tests 1 to 6, then 7. Assumes nothing.
+use mathlib.Core.Path.{sym, ◌∙◌}
+use borrow.Author.Tests.{not-true, not-false}
+use Rattle.field.proofs.Table.{test_no, test_ok, none_left, group_no, group_ok}
+use Rattle.kept.specs.Calls.{release_tests}
+use Rattle.kept.proofs.Tests.{record_passes}
+use borrow.Author.Rules.{rules}
+use Rattle.kept.proofs.testing.releasable.Goals as goal
+
+pub returns-in-Failed : goal.returns-in-Failed
+unfolding release_tests
+returns-in-Failed c = group_no _ _ (sym c.recorded-checked.ensures ∙ c.in-Failed.is)
+
+pub may_release-requires : goal.may_release-requires
+may_release-requires c = ((record_passes _ _ _).0 (sym c.recorded-checked.ensures ∙ c.in_default.is)).sound.start.long
+
+pub returns-then-not-may_release : goal.returns-then-not-may_release
+unfolding release_tests
+returns-then-not-may_release c =
+    group_ok _ _ (sym c.recorded-checked.ensures ∙ c.in_default.is) (test_no _ _ (sym c.may_release.ensures ∙ not-true _ c.if-not-may_release.true))
+
+pub returns : goal.returns
+unfolding release_tests
+returns c =
+    group_ok _ _ (sym c.recorded-checked.ensures ∙ c.in_default.is) (test_ok _ _ (sym c.may_release.ensures ∙ not-false _ c.if-not-may_release.false) none_left)

@@ -1,0 +1,14 @@
+-- `hopeless` asks for the sum, then for the difference. Assumes nothing.
+use mathlib.Core.Path.{sym, ◌∙◌}
+use Rattle.scratch.proofs.All.{and_yes, and_no}
+use Rattle.margins.specs.Model.{hopeless}
+use borrow.Author.Rules.{rules}
+use Rattle.margins.proofs.bounds.hopeless.Goals as goal
+
+pub returns-then-between : goal.returns-then-between
+unfolding hopeless
+returns-then-between c = and_yes (sym c.between.ensures ∙ c.if-between.true) c.between-then-between.ensures
+
+pub returns : goal.returns
+unfolding hopeless
+returns c = and_no _ (sym c.between.ensures ∙ c.if-between.false)

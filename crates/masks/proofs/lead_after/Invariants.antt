@@ -1,0 +1,15 @@
+-- `lead_after` goes through masks of the block, rising. Assumes nothing.
+use Prim.Native.Nat.{◌-◌}
+use mathlib.Core.Logic.{⊎_elim}
+use native.Mathlib.Omega.{arith}
+use Rattle.masks.specs.Masks.{objective}
+use Rattle.masks.specs.Listed.{terms_on}
+use Rattle.masks.proofs.Least.{Leading, lead_start, lead_taken, lead_kept, lead_done}
+use borrow.Author.Rules.{rules}
+use Rattle.masks.proofs.lead_after.Given as goal
+
+abbrev pub invariant-loop-l : goal.invariant-loop-l
+invariant-loop-l l = Leading (objective (terms_on l.values l.required l.end)) l.base l.count l.l l.best l.mask
+
+abbrev pub decreases-loop-l : goal.decreases-loop-l
+decreases-loop-l l = l.count - l.l

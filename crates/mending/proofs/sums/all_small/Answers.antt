@@ -1,0 +1,25 @@
+-- `all_small` tests one weight a turn. Assumes nothing.
+use Prim.Native.Nat.{◌-◌}
+use mathlib.Core.Path.{ap}
+use lib.ListN.{length, get_or}
+use lib.Ieee.{Float, nan, le, nan_bits}
+use Rattle.weights.specs.Worth.{magnitude}
+use Rattle.scratch.specs.All.{Testing}
+use Rattle.scratch.proofs.All.{testing_start, testing_turn, testing_done}
+use Rattle.mending.specs.Sums.{limit64, all_small}
+use borrow.Author.Rules.{rules}
+use Rattle.mending.proofs.sums.all_small.Goals as goal
+
+pub float_from_bits-limit : goal.float_from_bits-limit
+unfolding nan_bits
+float_from_bits-limit c = tt
+
+pub loop-k-init : goal.loop-k-init
+loop-k-init c = testing_start _ _
+
+pub loop-k-preserved : goal.loop-k-preserved
+loop-k-preserved c = testing_turn _ c.loop-k.invariant (search rules) (ap (λ (x : Float). le x limit64) c.magnitude.ensures)
+
+pub returns : goal.returns
+unfolding all_small
+returns c = testing_done _ c.loop-k.invariant (search rules)

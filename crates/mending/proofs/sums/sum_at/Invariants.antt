@@ -1,0 +1,12 @@
+-- `sum_at` takes one entry a turn. Assumes nothing.
+use Prim.Native.Nat.{◌-◌, ◌≤◌}
+use mathlib.Core.Path.{◌≡◌, refl}
+use native.Mathlib.Omega.{arith}
+use lib.ListN.{length}
+use Rattle.field.specs.Field.{field_of}
+use Rattle.mending.proofs.Tested.{part_to, part_start, part_turn, part_done}
+use borrow.Author.Rules.{rules}
+use Rattle.mending.proofs.sums.sum_at.Given as goal
+
+abbrev pub invariant-loop-k : goal.invariant-loop-k
+invariant-loop-k l = (l.k ≤ length l.q) × (l.part ≡ part_to (field_of l.c l.rows l.cols l.q) l.p l.k)

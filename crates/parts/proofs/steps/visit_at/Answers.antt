@@ -1,0 +1,16 @@
+-- `visit_at` passes over an entry that does not join, and visits the other end of one that does. Assumes nothing.
+use Rattle.places.proofs.Shape.{other_end_below}
+use Rattle.parts.proofs.Moves.{passes_by, visits_end}
+use borrow.Author.Rules.{rules}
+use Rattle.parts.proofs.steps.visit_at.Goals as goal
+
+pub returns-then-not-joins_by : goal.returns-then-not-joins_by
+returns-then-not-joins_by c =
+    passes_by c.requires.placed _ c.requires.k_bound c.args.zeros c.joins_by.ensures c.if-not-joins_by.true
+
+pub visit-requires : goal.visit-requires
+visit-requires c = record { placed = c.requires.placed; j_bound = other_end_below c.requires.placed.shaped _ c.requires.k_bound c.requires.j_value }
+
+pub returns : goal.returns
+returns c =
+    visits_end c.requires.placed _ c.requires.k_bound c.args.zeros c.joins_by.ensures c.if-not-joins_by.false c.requires.j_value c.visit.ensures

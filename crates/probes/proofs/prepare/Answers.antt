@@ -1,0 +1,21 @@
+-- `prepare` grades, copies the start values, builds the places, and makes the workspace. Assumes nothing.
+use native.Mathlib.Omega.{arith}
+use Rattle.calls.proofs.Values.{ready_loose}
+use Rattle.workspace.proofs.Begun.{begin_places}
+use borrow.Author.Rules.{rules}
+use Rattle.probes.proofs.prepare.Goals as goal
+
+pub graded-grade-requires : goal.graded-grade-requires
+graded-grade-requires c = ready_loose c.requires.ready
+
+pub build-requires : goal.build-requires
+build-requires c =     let both = begin_places c.args.f.now c.args.u.now c.requires.ready in
+    record { ends_below = both.0; rows_in_bounds = both.1 }
+
+pub remember-requires : goal.remember-requires
+remember-requires c = let ready = c.requires.ready in      let rest =  in
+    record { ready = record { sound = ready.sound; floats_room = ready.floats_room; words_room = omega (arith, ready.words_room, c.build.ensures.long) }; values_value = (c.copy.ensures, (c.graded-grade.ensures, c.build.ensures.adjacent)); grade_value = rest.0; adjacent = rest.1 }
+
+pub returns : goal.returns
+returns c =     let both = c.remember.ensures in
+    record { values_value = both.0; remembers = both.1 }

@@ -1,0 +1,14 @@
+-- `tally_all` reads on, and each read comes nearer to the end. Assumes nothing.
+use native.Mathlib.Omega.{arith}
+use lib.ListN.{length}
+use Rattle.tallying.specs.Reads.{to_go}
+use Rattle.record_program.proofs.Loop.{Reading, reading_none, reading_again, reading_less, over_small}
+use Rattle.record_program.specs.Handed.{a_tally}
+use borrow.Author.Rules.{rules}
+use Rattle.record_program.proofs.tally_all.Given as goal
+
+abbrev pub invariant-loop-next : goal.invariant-loop-next
+invariant-loop-next l = Reading l.initial.buffer l.buffer l.held l.totals
+
+abbrev pub decreases-loop-next : goal.decreases-loop-next
+decreases-loop-next l = to_go (length l.initial.buffer) l.totals l.held

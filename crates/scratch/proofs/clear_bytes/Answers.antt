@@ -1,0 +1,15 @@
+-- `clear_bytes` sets one element a turn. Assumes nothing.
+use Prim.Native.Nat.{◌-◌}
+use native.Mathlib.Omega.{arith}
+use Rattle.scratch.specs.Cleared.{ClearedTo}
+use Rattle.scratch.proofs.Cleared.{clear_start, clear_turn, clear_done}
+use Rattle.scratch.proofs.clear_bytes.Goals as goal
+
+pub loop-i-init : goal.loop-i-init
+loop-i-init c = clear_start 0 _
+
+pub loop-i-preserved : goal.loop-i-preserved
+loop-i-preserved c = clear_turn 0 _ c.loop-i.invariant (omega arith)
+
+pub returns : goal.returns
+returns c = clear_done 0 _ c.loop-i.invariant (omega arith)

@@ -1,0 +1,16 @@
+-- `clear_floats` sets one element a turn. Assumes nothing.
+use Prim.Native.Nat.{◌-◌}
+use native.Mathlib.Omega.{arith}
+use lib.Ieee.{binary64, of_bits}
+use Rattle.scratch.specs.Cleared.{ClearedTo}
+use Rattle.scratch.proofs.Cleared.{clear_start, clear_turn, clear_done}
+use Rattle.scratch.proofs.clear_floats.Goals as goal
+
+pub loop-i-init : goal.loop-i-init
+loop-i-init c = clear_start (of_bits binary64 0) _
+
+pub loop-i-preserved : goal.loop-i-preserved
+loop-i-preserved c = clear_turn (of_bits binary64 0) _ c.loop-i.invariant (omega arith)
+
+pub returns : goal.returns
+returns c = clear_done (of_bits binary64 0) _ c.loop-i.invariant (omega arith)

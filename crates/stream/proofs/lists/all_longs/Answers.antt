@@ -1,0 +1,21 @@
+-- `all_longs` tests one element a turn. Assumes nothing.
+use Prim.Native.Nat.{◌-◌}
+use lib.Dec.{eqb}
+use borrow.Author.Tests.{eq-eqb, ne_eqb}
+use lib.ListN.{length, get_or}
+use Rattle.scratch.specs.All.{Passing}
+use Rattle.scratch.proofs.All.{all_start, all_turn, all_stop, all_done}
+use borrow.Author.Rules.{rules}
+use Rattle.stream.proofs.lists.all_longs.Goals as goal
+
+pub loop-i-init : goal.loop-i-init
+loop-i-init c = all_start _ _
+
+pub returns-then-longs-i : goal.returns-then-longs-i
+returns-then-longs-i c = all_stop _ _ (search rules) (ne_eqb _ _ c.if-longs-i.true)
+
+pub loop-i-preserved : goal.loop-i-preserved
+loop-i-preserved c = all_turn _ c.loop-i.invariant (search rules) (eq-eqb _ _ c.if-longs-i.false)
+
+pub returns : goal.returns
+returns c = all_done _ c.loop-i.invariant (search rules)

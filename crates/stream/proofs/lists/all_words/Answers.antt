@@ -1,0 +1,21 @@
+-- `all_words` tests one element a turn. Assumes nothing.
+use Prim.Native.Nat.{◌-◌}
+use lib.Dec.{eqb}
+use borrow.Author.Tests.{eq-eqb, ne_eqb}
+use lib.ListN.{length, get_or}
+use Rattle.scratch.specs.All.{Passing}
+use Rattle.scratch.proofs.All.{all_start, all_turn, all_stop, all_done}
+use borrow.Author.Rules.{rules}
+use Rattle.stream.proofs.lists.all_words.Goals as goal
+
+pub loop-i-init : goal.loop-i-init
+loop-i-init c = all_start _ _
+
+pub returns-then-words-i : goal.returns-then-words-i
+returns-then-words-i c = all_stop _ _ (search rules) (ne_eqb _ _ c.if-words-i.true)
+
+pub loop-i-preserved : goal.loop-i-preserved
+loop-i-preserved c = all_turn _ c.loop-i.invariant (search rules) (eq-eqb _ _ c.if-words-i.false)
+
+pub returns : goal.returns
+returns c = all_done _ c.loop-i.invariant (search rules)

@@ -1,0 +1,13 @@
+-- `put_variables` goes through one variable a turn. Assumes nothing.
+use Prim.Native.Nat.{◌-◌}
+use native.Mathlib.Omega.{arith}
+use lib.ListN.{length}
+use Rattle.text.proofs.Writes.{Showing, show_start, show_turn, show_done}
+use borrow.Author.Rules.{rules}
+use Rattle.text.proofs.put_variables.Given as goal
+
+abbrev pub invariant-loop-i : goal.invariant-loop-i
+invariant-loop-i l = Showing l.start l.values l.initial.out l.from l.out l.shown.at l.shown.count l.i
+
+abbrev pub decreases-loop-i : goal.decreases-loop-i
+decreases-loop-i l = length l.start - l.i

@@ -1,0 +1,12 @@
+-- `copy_floats` copies one element a turn. Assumes nothing.
+use Prim.Native.Nat.{◌-◌}
+use lib.Ieee.{nan}
+use Rattle.workspace.proofs.Shifting.{Shifting, shift_start, shift_turn, shift_done}
+use borrow.Author.Rules.{rules}
+use Rattle.workspace.proofs.copying.copy_floats.Given as goal
+
+abbrev pub invariant-loop-t : goal.invariant-loop-t
+invariant-loop-t l = Shifting nan l.from l.to l.count l.t l.initial.f l.f
+
+abbrev pub decreases-loop-t : goal.decreases-loop-t
+decreases-loop-t l = l.count - l.t

@@ -1,0 +1,7 @@
+-- `back_at` reads the copy, and stores it. Assumes nothing.
+use Rattle.workspace.proofs.Backed.{copy_read}
+use borrow.Author.Rules.{rules}
+use Rattle.workspace.proofs.restoring.back_at.Goals as goal
+
+pub returns : goal.returns
+returns c = let a = c.args in copy_read a.n a.t a.f.now c.put_row.ensures
