@@ -179,7 +179,7 @@ module _ (u : ℕ) (l : 64 < u) (h : u < 2067) where
 
   of_fields_lem : (x : Float) → T (fits binary64 x) → T (finite x) → of_fields binary64 (leb (top binary64) (to_bits binary64 x)) (exponent x) (digits x) ≡ x
   unfolding of_bits
-  of_fields x t n = ap (λ (k : ℕ). of_fields binary64 (leb (top binary64) (to_bits binary64 x)) k (digits x)) (sym (field (to_bits binary64 x) 11 52)) ∙ of_bits-to_bits binary64 x t
+  of_fields_lem x t n = ap (λ (k : ℕ). of_fields binary64 (leb (top binary64) (to_bits binary64 x)) k (digits x)) (sym (field (to_bits binary64 x) 11 52)) ∙ of_bits-to_bits binary64 x t
 
   finite_weighs : (x : Float) → T (fits binary64 x) → T (finite x) → ((u < beyond (pattern x)) × (pattern x ≤ limit_of u)) ↔ (T (whole_in binary64 u x) × Fits u x)
   finite_weighs x t n =

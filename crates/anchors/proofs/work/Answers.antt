@@ -6,24 +6,19 @@ use borrow.Author.Rules.{rules}
 use Rattle.anchors.proofs.work.Goals as goal
 
 pub build-requires : goal.build-requires
-build-requires c =     record { ends_below = ends_below c.requires.admitted.shaped; rows_in_bounds = (
-  omega (
+build-requires c =     record { ends_below = ends_below c.requires.admitted.shaped; rows_in_bounds = omega (
     arith,
     c.requires.admitted.words_room,
     c.requires.admitted.shaped.rows_long,
-  ),
-) }
+  ) }
 
 pub begin-requires : goal.begin-requires
-begin-requires c =     record { shaped = c.requires.admitted.shaped; values_len = (
-    c.requires.admitted.start.long,
-    omega (
+begin-requires c =     record { shaped = c.requires.admitted.shaped; values_len = c.requires.admitted.start.long; q_in_bounds = omega (
       arith,
       c.requires.admitted.words_room,
       c.requires.admitted.shaped.rows_long,
       c.build.ensures.long,
-    ),
-  ); q_in_bounds =  }
+    ) }
 
 pub search-requires : goal.search-requires
 search-requires c =

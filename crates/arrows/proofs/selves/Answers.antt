@@ -10,7 +10,7 @@ pub loop-a-init : goal.loop-a-init
 loop-a-init c = selving_start _ _
 
 pub mark-requires : goal.mark-requires
-mark-requires c = let long = c.loop-a.invariant.held.long in record { b_bound = omega arith; a_in_bounds = omega arith }
+mark-requires c = let long = c.loop-a.invariant.held.long in      record { b_bound = omega arith; a_in_bounds = omega arith }
 
 pub loop-a-preserved : goal.loop-a-preserved
 loop-a-preserved c = selving_turn c.loop-a-test.true c.loop-a.invariant c.mark.ensures

@@ -16,9 +16,7 @@ pub bit-size-requires : goal.bit-size-requires
 bit-size-requires c = c.requires.small.few
 
 pub lowest-requires : goal.lowest-requires
-lowest-requires c =     record { room = all_fit _ _ _ _ _ c.requires.small.few c.requires.small.room refl c.requires.room c.list_linear-linear.ensures c.list_pairs-end.ensures; size_bound = (
-  size_most c.requires.small.few c.bit-size.ensures,
-) }
+lowest-requires c =     record { room = all_fit _ _ _ _ _ c.requires.small.few c.requires.small.room refl c.requires.room c.list_linear-linear.ensures c.list_pairs-end.ensures; size_bound = size_most c.requires.small.few c.bit-size.ensures }
 
 pub shape_of-terms : goal.shape_of-terms
 shape_of-terms c = c.list_pairs-end.ensures.values_long ∙ c.list_linear-linear.ensures.values_long

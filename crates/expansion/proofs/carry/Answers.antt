@@ -16,7 +16,7 @@ bounds-parts-i c = omega (arith, c.loop-i.invariant.long, c.loop-i.invariant.roo
 pub returns-then-not-is_finite : goal.returns-then-not-is_finite
 returns-then-not-is_finite c =
     carry_stop c.loop-i.invariant _ c.loop-i-test.true c.two_sum-split.ensures
-    (sym c.is_finite.ensures ∙ not-true _ c.if-not-is_finite.true)
+    (sym c.is_finite.ensures ∙ c.if-not-is_finite.true)
 
 pub keep-kept-requires : goal.keep-kept-requires
 keep-kept-requires c =
@@ -32,7 +32,7 @@ pub loop-i-preserved : goal.loop-i-preserved
 loop-i-preserved c =
     carry_turn c.loop-i.invariant c.loop-i-test.true
     c.two_sum-split.ensures
-    (sym c.is_finite.ensures ∙ not-false _ c.if-not-is_finite.false) c.keep-kept.auto.parts
+    (sym c.is_finite.ensures ∙ c.if-not-is_finite.false) c.keep-kept.auto.parts
     c.keep-kept.ensures
 
 pub keep-requires : goal.keep-requires

@@ -18,7 +18,7 @@ is_exact-requires c = sound_loose ((lent_passes _ _ _ _ _).0 (sym c.lendable-che
 pub returns-then-not-is_exact : goal.returns-then-not-is_exact
 returns-then-not-is_exact c =
     inexact_make _ _ _ _ _ _ _ _ (sym c.lendable-checked.ensures ∙ c.in_default.is) c.clear_floats.ensures refl c.clear_words.ensures refl
-    (sym c.is_exact.ensures ∙ not-true _ c.if-not-is_exact.true)
+    (sym c.is_exact.ensures ∙ c.if-not-is_exact.true)
 
 pub begin-requires : goal.begin-requires
 begin-requires c =
@@ -29,4 +29,4 @@ pub returns : goal.returns
 returns c =
     done_make _ _ _ _ c.args.f.now c.args.u.now (length c.begin.new.f) _ (sym c.lendable-checked.ensures ∙ c.in_default.is)
     c.clear_floats-2.ensures c.begin.auto.f c.clear_words-2.ensures refl
-    (sym c.is_exact.ensures ∙ not-false _ c.if-not-is_exact.false) c.begin.ensures
+    (sym c.is_exact.ensures ∙ c.if-not-is_exact.false) c.begin.ensures

@@ -9,7 +9,7 @@ use borrow.Author.Rules.{rules}
 use Rattle.masks.proofs.lead_after.Goals as goal
 
 pub block-sums-requires : goal.block-sums-requires
-block-sums-requires c = record { room = c.requires.room; base_bound = c.requires.base_bound; base_value = c.requires.base_value }
+block-sums-requires c =     record { room = c.requires.room; base_bound = c.requires.base_bound; base_value = c.requires.base_value }
 
 pub loop-l-init : goal.loop-l-init
 loop-l-init c = lead_start c.requires.leads

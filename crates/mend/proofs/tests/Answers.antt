@@ -18,7 +18,7 @@ floats_fit-requires c = let l = ((sum_passes _).0 (sym c.sum_tests-summed.ensure
 pub returns-then-not-floats_fit : goal.returns-then-not-floats_fit
 unfolding mend_tests
 returns-then-not-floats_fit c =
-    group_ok _ _ (sym c.sum_tests-summed.ensures ∙ c.in_default.is) (test_no _ _ (sym c.floats_fit.ensures ∙ not-true _ c.if-not-floats_fit.true))
+    group_ok _ _ (sym c.sum_tests-summed.ensures ∙ c.in_default.is) (test_no _ _ (sym c.floats_fit.ensures ∙ c.if-not-floats_fit.true))
 
 pub words_fit-requires : goal.words_fit-requires
 words_fit-requires c =
@@ -28,9 +28,9 @@ words_fit-requires c =
 pub returns-then-not-words_fit : goal.returns-then-not-words_fit
 unfolding mend_tests
 returns-then-not-words_fit c =
-    group_ok _ _ (sym c.sum_tests-summed.ensures ∙ c.in_default.is) (test_ok _ _ (sym c.floats_fit.ensures ∙ not-false _ c.if-not-floats_fit.false) (test_no _ _ (sym c.words_fit.ensures ∙ not-true _ c.if-not-words_fit.true)))
+    group_ok _ _ (sym c.sum_tests-summed.ensures ∙ c.in_default.is) (test_ok _ _ (sym c.floats_fit.ensures ∙ c.if-not-floats_fit.false) (test_no _ _ (sym c.words_fit.ensures ∙ c.if-not-words_fit.true)))
 
 pub returns : goal.returns
 unfolding mend_tests
 returns c =
-    group_ok _ _ (sym c.sum_tests-summed.ensures ∙ c.in_default.is) (test_ok _ _ (sym c.floats_fit.ensures ∙ not-false _ c.if-not-floats_fit.false) (test_ok _ _ (sym c.words_fit.ensures ∙ not-false _ c.if-not-words_fit.false) (none_left)))
+    group_ok _ _ (sym c.sum_tests-summed.ensures ∙ c.in_default.is) (test_ok _ _ (sym c.floats_fit.ensures ∙ c.if-not-floats_fit.false) (test_ok _ _ (sym c.words_fit.ensures ∙ c.if-not-words_fit.false) (none_left)))

@@ -20,9 +20,9 @@ words_fit-requires c =
 pub returns-then-not-words_fit : goal.returns-then-not-words_fit
 unfolding word_tests
 returns-then-not-words_fit c =
-    group_ok _ _ (sym c.loose-loose.ensures ∙ c.in_default.is) (test_no _ _ (sym c.words_fit.ensures ∙ not-true _ c.if-not-words_fit.true))
+    group_ok _ _ (sym c.loose-loose.ensures ∙ c.in_default.is) (test_no _ _ (sym c.words_fit.ensures ∙ c.if-not-words_fit.true))
 
 pub returns : goal.returns
 unfolding word_tests
 returns c =
-    group_ok _ _ (sym c.loose-loose.ensures ∙ c.in_default.is) (test_ok _ _ (sym c.words_fit.ensures ∙ not-false _ c.if-not-words_fit.false) none_left)
+    group_ok _ _ (sym c.loose-loose.ensures ∙ c.in_default.is) (test_ok _ _ (sym c.words_fit.ensures ∙ c.if-not-words_fit.false) none_left)

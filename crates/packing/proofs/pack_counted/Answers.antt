@@ -6,7 +6,7 @@ use Rattle.packing.specs.Layout.{packed_counted, count_of}
 use Rattle.packing.proofs.pack_counted.Goals as goal
 
 pub pack_done-requires : goal.pack_done-requires
-pack_done-requires c = let both = omega (arith, ap count_of c.in-Counts.is) in
+pack_done-requires c =     let both = omega (arith, ap count_of c.in-Counts.is) in
     record { count_bound = both.0; pairs_bound = both.1 }
 
 pub pack_refusal-requires : goal.pack_refusal-requires

@@ -17,20 +17,15 @@ merge-requires c =
     work_laid c.args.f.now c.args.u.now c.requires c.build.ensures c.parts.auto.f
 
 pub list_free-k-requires : goal.list_free-k-requires
-list_free-k-requires c =     record { values_len_bound = omega (arith, c.requires.sound.start.long, c.requires.sound.shaped.few_variables); values_in_bounds = (
-      free_room c.args.f.now c.args.u.now c.requires (omega (
+list_free-k-requires c =     record { values_len_bound = omega (arith, c.requires.sound.start.long, c.requires.sound.shaped.few_variables); values_in_bounds = free_room c.args.f.now c.args.u.now c.requires (omega (
         arith,
         c.merge.ensures.kept.words_long,
         c.build.ensures.long,
-      )),
-    ) }
+      )) }
 
 pub walk_pairs-requires : goal.walk_pairs-requires
-walk_pairs-requires c =     record { prepared = work_prepared c.parts.ensures c.merge.ensures c.list_free-k.ensures; freed = (
-        work_freed c.list_free-k.ensures,
-        free_room c.args.f.now
-            c.args.u.now c.requires (omega (arith, c.list_free-k.ensures.long, c.merge.ensures.kept.words_long, c.build.ensures.long)),
-      ); values_in_bounds =  }
+walk_pairs-requires c =     record { prepared = work_prepared c.parts.ensures c.merge.ensures c.list_free-k.ensures; freed = work_freed c.list_free-k.ensures; values_in_bounds = free_room c.args.f.now
+            c.args.u.now c.requires (omega (arith, c.list_free-k.ensures.long, c.merge.ensures.kept.words_long, c.build.ensures.long)) }
 
 pub shape_of-u : goal.shape_of-u
 shape_of-u c =

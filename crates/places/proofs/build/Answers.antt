@@ -25,19 +25,10 @@ pub count-requires : goal.count-requires
 count-requires c =     record { ends_below = c.requires.ends_below; n_in_bounds = omega (arith, c.requires.rows_in_bounds, (zeroed c).long); begins = (zeroed c).zeros }
 
 pub sums-requires : goal.sums-requires
-sums-requires c =     record { n_in_bounds = omega (arith, c.requires.rows_in_bounds, c.count.auto.u, (zeroed c).long); n_bound = (
-      sums_small c.requires.ends_below c.count.new.u c.count.ensures.begins_2,
-    ) }
+sums-requires c =     record { n_in_bounds = omega (arith, c.requires.rows_in_bounds, c.count.auto.u, (zeroed c).long); n_bound = sums_small c.requires.ends_below c.count.new.u c.count.ensures.begins_2 }
 
 pub place-requires : goal.place-requires
-place-requires c =     let rest =  in
-    record { ends_below = c.requires.ends_below; rows_in_bounds = (
-        omega (arith, c.requires.rows_in_bounds, c.sums.auto.u, c.count.auto.u, (zeroed c).long),
-        (
-          ends_stand c.requires.ends_below c.count.new.u c.count.ensures.begins_2 c.sums.new.u c.sums.ensures.begins,
-          last_stands c.requires.ends_below c.count.new.u c.count.ensures.begins_2 c.sums.ensures.n_value,
-        ),
-      ); begins = rest.0; n_value = rest.1 }
+place-requires c =     record { ends_below = c.requires.ends_below; rows_in_bounds = omega (arith, c.requires.rows_in_bounds, c.sums.auto.u, c.count.auto.u, (zeroed c).long); begins = ends_stand c.requires.ends_below c.count.new.u c.count.ensures.begins_2 c.sums.new.u c.sums.ensures.begins; n_value = last_stands c.requires.ends_below c.count.new.u c.count.ensures.begins_2 c.sums.ensures.n_value }
 
 pub shape_of-u : goal.shape_of-u
 shape_of-u c =

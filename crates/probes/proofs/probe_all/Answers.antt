@@ -19,9 +19,7 @@ list_free-count-requires c =     let both = free_room c.requires.ready c.prepare
 
 pub settle-requires : goal.settle-requires
 settle-requires c =     record { standing = free_standing c.requires.ready c.list_free-count.ensures {f = c.prepare-known.new.f}
-          c.prepare-known.ensures.remembers c.prepare-known.auto.u; values_value = (
-      c.prepare-known.ensures.values_value,
-    ) }
+          c.prepare-known.ensures.remembers c.prepare-known.auto.u; values_value = c.prepare-known.ensures.values_value }
 
 pub returns : goal.returns
 returns c =

@@ -11,7 +11,7 @@ use borrow.Author.Rules.{rules}
 use Rattle.probes.proofs.probe_some.Goals as goal
 
 pub prepare-known-requires : goal.prepare-known-requires
-prepare-known-requires c = let both = c.requires in
+prepare-known-requires c =     let both = c.requires in
     record { ready = both.0; values_len = both.1 }
 
 pub choose-count-requires : goal.choose-count-requires

@@ -10,7 +10,7 @@ pub loop-i-init : goal.loop-i-init
 loop-i-init c = show_start _ _ _ _
 
 pub put_variable-shown-requires : goal.put_variable-shown-requires
-put_variable-shown-requires c = let both = omega (arith, c.loop-i.invariant.shows.short) in
+put_variable-shown-requires c =     let both = omega (arith, c.loop-i.invariant.shows.short) in
     record { i_bound = both.0; i_in_bounds = both.1.0; i_in_bounds_2 = both.1.1.0; count_le_i = both.1.1.1.0; at_in_bounds = both.1.1.1.1 }
 
 pub loop-i-preserved : goal.loop-i-preserved

@@ -74,31 +74,24 @@ shape_of-u c =
     c.lay.ensures).long
 
 pub returns : goal.returns
-returns c =     let rest =  in
-    record { values_value_2 = c.restore.ensures.values_value; f_value = (
-    half_floats
+returns c =     record { values_value_2 = c.restore.ensures.values_value; f_value = half_floats
         c.requires.twinnable
         (from_start
         c.requires.values_value
         c.probe-forced.ensures)
         c.keep.ensures
         c.lay.ensures
-        c.restore.ensures.filled,
-    (
-      half_done
+        c.restore.ensures.filled; halfway = half_done
           c.requires.twinnable
           (from_start
           c.requires.values_value
           c.probe-forced.ensures)
           c.keep.ensures
           c.lay.ensures
-          c.restore.ensures.filled,
-      half_beside
+          c.restore.ensures.filled; beside = half_beside
           c.requires.twinnable
           (from_start
           c.requires.values_value
           c.probe-forced.ensures)
           c.keep.ensures
-          c.lay.ensures,
-    ),
-  ); halfway = rest.0; beside = rest.1 }
+          c.lay.ensures }

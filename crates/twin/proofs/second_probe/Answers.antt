@@ -93,8 +93,7 @@ shape_of-u c =
     c.emit_list-last.ensures
 
 pub returns : goal.returns
-returns c =     record { values_value_2 = c.restore.ensures.values_value; f_value = (
-    second_floats
+returns c =     record { values_value_2 = c.restore.ensures.values_value; f_value = second_floats
         c.requires.halfway
         c.requires.end_for
         (from_start
@@ -102,8 +101,7 @@ returns c =     record { values_value_2 = c.restore.ensures.values_value; f_valu
         c.probe-again.ensures)
         c.emit_list-both.ensures
         c.emit_list-last.ensures
-        c.restore.ensures.filled,
-    second_done
+        c.restore.ensures.filled; twinned = second_done
         c.requires.halfway
         c.requires.end_for
         (from_start
@@ -112,5 +110,4 @@ returns c =     record { values_value_2 = c.restore.ensures.values_value; f_valu
         c.emit_list-both.ensures
         c.emit_list-last.ensures
         c.restore.ensures.filled
-        c.lay.ensures,
-  ); twinned =  }
+        c.lay.ensures }

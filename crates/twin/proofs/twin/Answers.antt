@@ -9,12 +9,9 @@ first_probe-forced-requires c =     record { twinnable = c.requires.twinnable; v
 pub second_probe-requires : goal.second_probe-requires
 second_probe-requires c =     record { halfway = half_again
       c.first_probe-forced.ensures.f_value
-      c.first_probe-forced.ensures.halfway; end_for = (
-    end_beside
+      c.first_probe-forced.ensures.halfway; end_for = end_beside
         c.requires.end_for
-        c.first_probe-forced.ensures.beside,
-    c.first_probe-forced.ensures.values_value_2,
-  ); values_value =  }
+        c.first_probe-forced.ensures.beside; values_value = c.first_probe-forced.ensures.values_value_2 }
 
 pub shape_of-values : goal.shape_of-values
 shape_of-values c =
@@ -32,11 +29,8 @@ shape_of-u c =
     ∙ c.first_probe-forced.auto.u
 
 pub returns : goal.returns
-returns c =     record { values_value_2 = c.second_probe.ensures.values_value_2; f_value = (
-    c.second_probe.ensures.f_value
-        ∙ c.first_probe-forced.ensures.f_value,
-    twin_done
+returns c =     record { values_value_2 = c.second_probe.ensures.values_value_2; f_value = c.second_probe.ensures.f_value
+        ∙ c.first_probe-forced.ensures.f_value; twinned = twin_done
         c.first_probe-forced.ensures.f_value
         c.first_probe-forced.ensures.beside
-        c.second_probe.ensures.twinned,
-  ); twinned =  }
+        c.second_probe.ensures.twinned }

@@ -35,12 +35,10 @@ pub shape_of-u-in-Full : goal.shape_of-u-in-Full
 shape_of-u-in-Full c = c.make_room-merged.auto.u ∙ c.loop-h.invariant.going.words_long
 
 pub returns-in-Full : goal.returns-in-Full
-returns-in-Full c =     record { values_value_2 = c.loop-h.invariant.same; walked = (
-  walking_full
+returns-in-Full c =     record { values_value_2 = c.loop-h.invariant.same; walked = walking_full
       c.loop-h.invariant
       c.make_room-merged.ensures
-      c.in-Full.is,
-) }
+      c.in-Full.is }
 
 pub twin-end-requires : goal.twin-end-requires
 twin-end-requires c =     let both = walking_twin
@@ -98,9 +96,7 @@ pub shape_of-u : goal.shape_of-u
 shape_of-u c = c.flush.auto.u ∙ c.loop-h.invariant.going.words_long
 
 pub returns : goal.returns
-returns c =     record { values_value_2 = c.loop-h.invariant.same; walked = (
-  walking_done
+returns c =     record { values_value_2 = c.loop-h.invariant.same; walked = walking_done
       c.loop-h.invariant
       c.loop-h-test.false
-      c.flush.ensures,
-) }
+      c.flush.ensures }

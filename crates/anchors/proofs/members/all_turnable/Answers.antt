@@ -36,14 +36,11 @@ returns-then-start-i-ne2 c = turning_fixed c.loop-h.invariant.0 c.loop-h-test.tr
 
 pub is_balanced-requires : goal.is_balanced-requires
 is_balanced-requires c =     record { walkable = member_walkable c.requires.members
-      c.loop-h.h c.loop-h-test.true c.wide_word-i.ensures; q_in_bounds = (
-    omega (
+      c.loop-h.h c.loop-h-test.true c.wide_word-i.ensures; q_in_bounds = omega (
       arith,
       c.requires.q_in_bounds,
       c.loop-h.invariant.1,
-    ),
-    c.requires.grade_value,
-  ); grade_value =  }
+    ); grade_value = c.requires.grade_value }
 
 pub shape_of-f-then-not-is_balanced : goal.shape_of-f-then-not-is_balanced
 shape_of-f-then-not-is_balanced c = c.is_balanced.auto.f ∙ c.loop-h.invariant.1
@@ -52,7 +49,7 @@ pub returns-then-not-is_balanced : goal.returns-then-not-is_balanced
 returns-then-not-is_balanced c =
     turning_tilted c.loop-h.invariant.0
     c.loop-h-test.true c.wide_word-i.ensures
-    c.if-start-i-ne2.false c.is_balanced.ensures (not-true _ c.if-not-is_balanced.true)
+    c.if-start-i-ne2.false c.is_balanced.ensures c.if-not-is_balanced.true
 
 pub loop-h-smaller : goal.loop-h-smaller
 loop-h-smaller c = omega (arith, c.loop-h-test.true)
@@ -61,7 +58,7 @@ pub loop-h-preserved : goal.loop-h-preserved
 loop-h-preserved c = (
   turning_next c.loop-h.invariant.0
       c.loop-h-test.true c.wide_word-i.ensures
-      c.if-start-i-ne2.false c.is_balanced.ensures (not-false _ c.if-not-is_balanced.false),
+      c.if-start-i-ne2.false c.is_balanced.ensures c.if-not-is_balanced.false,
   c.is_balanced.auto.f ∙ c.loop-h.invariant.1,
 )
 

@@ -5,7 +5,7 @@ use borrow.Author.Rules.{rules}
 use Rattle.cold.proofs.twice.both.Goals as goal
 
 pub probe_afresh-requires : goal.probe_afresh-requires
-probe_afresh-requires c = record { afresh = c.requires.afresh; variable_bound = c.requires.variable_bound }
+probe_afresh-requires c =     record { afresh = c.requires.afresh; variable_bound = c.requires.variable_bound }
 
 pub lay-requires : goal.lay-requires
 lay-requires c =

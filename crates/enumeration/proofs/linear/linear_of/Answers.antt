@@ -33,7 +33,7 @@ pub add_end-sum-requires : goal.add_end-sum-requires
 add_end-sum-requires c =
     let turn = walk_turn c.loop-p.invariant.along.walk c.loop-p-test.true in
     let ek = c.entry_in-k.ensures in
-    record { valued = record { shaped = c.requires.held.placed.shaped; values_long = c.requires.held.values_long }; k_bound = (omega (arith, turn_entry turn ek, c.requires.held.placed.shaped.rows_long), turn_other turn ek c.end_in-t.ensures); t_value =  }
+    record { valued = record { shaped = c.requires.held.placed.shaped; values_long = c.requires.held.values_long }; k_bound = omega (arith, turn_entry turn ek, c.requires.held.placed.shaped.rows_long); t_value = turn_other turn ek c.end_in-t.ensures }
 
 pub loop-p-preserved : goal.loop-p-preserved
 loop-p-preserved c = sum_turn c.loop-p.invariant c.loop-p-test.true c.entry_in-k.ensures c.add_end-sum.ensures

@@ -28,9 +28,7 @@ pub bit-requires : goal.bit-requires
 bit-requires c = omega (arith, c.loop-b-test.true, c.requires.small.few)
 
 pub list_term-end-requires : goal.list_term-end-requires
-list_term-end-requires c =     record { room = room_after 1 c.loop-b.invariant.listed (linear_few _ _ _ _) c.requires.room (omega (arith, c.loop-b-test.true, c.requires.small.few)); bits_bound = (
-  bit_fits c.requires.small.few c.loop-b-test.true c.bit.ensures,
-) }
+list_term-end-requires c =     record { room = room_after 1 c.loop-b.invariant.listed (linear_few _ _ _ _) c.requires.room (omega (arith, c.loop-b-test.true, c.requires.small.few)); bits_bound = bit_fits c.requires.small.few c.loop-b-test.true c.bit.ensures }
 
 pub loop-b-preserved : goal.loop-b-preserved
 loop-b-preserved c =

@@ -14,10 +14,10 @@ pub loop-k-init : goal.loop-k-init
 loop-k-init c = all_start _ _
 
 pub returns-then-not-is_fine : goal.returns-then-not-is_fine
-returns-then-not-is_fine c = first_stop _ c.loop-k.invariant (search rules) (sym c.is_fine.ensures ∙ not-true _ c.if-not-is_fine.true)
+returns-then-not-is_fine c = first_stop _ c.loop-k.invariant (search rules) (sym c.is_fine.ensures ∙ c.if-not-is_fine.true)
 
 pub loop-k-preserved : goal.loop-k-preserved
-loop-k-preserved c = all_turn _ c.loop-k.invariant (search rules) (sym c.is_fine.ensures ∙ not-false _ c.if-not-is_fine.false)
+loop-k-preserved c = all_turn _ c.loop-k.invariant (search rules) (sym c.is_fine.ensures ∙ c.if-not-is_fine.false)
 
 pub returns : goal.returns
 returns c = first_end _ c.loop-k.invariant (search rules)

@@ -16,7 +16,7 @@ pub returns-then-not-start_fits : goal.returns-then-not-start_fits
 unfolding open_tests
 returns-then-not-start_fits c =
     group_ok _ _ (sym c.loose-shaped.ensures ∙ c.in_default.is)
-    (test_no _ _ (sym c.start_fits.ensures ∙ not-true _ c.if-not-start_fits.true))
+    (test_no _ _ (sym c.start_fits.ensures ∙ c.if-not-start_fits.true))
 
 pub floats_fit-requires : goal.floats_fit-requires
 floats_fit-requires c =
@@ -27,8 +27,8 @@ pub returns-then-not-floats_fit : goal.returns-then-not-floats_fit
 unfolding open_tests
 returns-then-not-floats_fit c =
     group_ok _ _ (sym c.loose-shaped.ensures ∙ c.in_default.is)
-    (test_ok _ _ (sym c.start_fits.ensures ∙ not-false _ c.if-not-start_fits.false)
-    (test_no _ _ (sym c.floats_fit.ensures ∙ not-true _ c.if-not-floats_fit.true)))
+    (test_ok _ _ (sym c.start_fits.ensures ∙ c.if-not-start_fits.false)
+    (test_no _ _ (sym c.floats_fit.ensures ∙ c.if-not-floats_fit.true)))
 
 pub words_fit-requires : goal.words_fit-requires
 words_fit-requires c =
@@ -39,14 +39,14 @@ pub returns-then-not-words_fit : goal.returns-then-not-words_fit
 unfolding open_tests
 returns-then-not-words_fit c =
     group_ok _ _ (sym c.loose-shaped.ensures ∙ c.in_default.is)
-    (test_ok _ _ (sym c.start_fits.ensures ∙ not-false _ c.if-not-start_fits.false)
-    (test_ok _ _ (sym c.floats_fit.ensures ∙ not-false _ c.if-not-floats_fit.false)
-    (test_no _ _ (sym c.words_fit.ensures ∙ not-true _ c.if-not-words_fit.true))))
+    (test_ok _ _ (sym c.start_fits.ensures ∙ c.if-not-start_fits.false)
+    (test_ok _ _ (sym c.floats_fit.ensures ∙ c.if-not-floats_fit.false)
+    (test_no _ _ (sym c.words_fit.ensures ∙ c.if-not-words_fit.true))))
 
 pub returns : goal.returns
 unfolding open_tests
 returns c =
     group_ok _ _ (sym c.loose-shaped.ensures ∙ c.in_default.is)
-    (test_ok _ _ (sym c.start_fits.ensures ∙ not-false _ c.if-not-start_fits.false)
-    (test_ok _ _ (sym c.floats_fit.ensures ∙ not-false _ c.if-not-floats_fit.false)
-    (test_ok _ _ (sym c.words_fit.ensures ∙ not-false _ c.if-not-words_fit.false) none_left)))
+    (test_ok _ _ (sym c.start_fits.ensures ∙ c.if-not-start_fits.false)
+    (test_ok _ _ (sym c.floats_fit.ensures ∙ c.if-not-floats_fit.false)
+    (test_ok _ _ (sym c.words_fit.ensures ∙ c.if-not-words_fit.false) none_left)))

@@ -14,11 +14,11 @@ pub returns-then-not-weights_finite : goal.returns-then-not-weights_finite
 unfolding loose_tests
 returns-then-not-weights_finite c =
     let shaped = sym c.shape-shaped.ensures ∙ c.in_default.is in
-    group_ok _ _ shaped (test_no _ _ (sym c.weights_finite.ensures ∙ not-true _ c.if-not-weights_finite.true))
+    group_ok _ _ shaped (test_no _ _ (sym c.weights_finite.ensures ∙ c.if-not-weights_finite.true))
 
 pub returns : goal.returns
 unfolding loose_tests
 returns c =
     let shaped = sym c.shape-shaped.ensures ∙ c.in_default.is in
-    let finite = sym c.weights_finite.ensures ∙ not-false _ c.if-not-weights_finite.false in
+    let finite = sym c.weights_finite.ensures ∙ c.if-not-weights_finite.false in
     group_ok _ _ shaped (test_ok _ _ finite none_left)

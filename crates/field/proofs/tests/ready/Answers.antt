@@ -20,7 +20,7 @@ pub returns-then-not-floats_fit : goal.returns-then-not-floats_fit
 unfolding ready_tests
 returns-then-not-floats_fit c =
     let sound = sym c.standard-sound.ensures ∙ c.in_default.is in
-    group_ok _ _ sound (test_no _ _ (sym c.floats_fit.ensures ∙ not-true _ c.if-not-floats_fit.true))
+    group_ok _ _ sound (test_no _ _ (sym c.floats_fit.ensures ∙ c.if-not-floats_fit.true))
 
 pub words_fit-requires : goal.words_fit-requires
 words_fit-requires c = let shaped = ((standard_passes _ _).0 (sym c.standard-sound.ensures ∙ c.in_default.is)).shaped in (shaped.few_variables, omega (arith, shaped.few_entries))
@@ -29,13 +29,13 @@ pub returns-then-not-words_fit : goal.returns-then-not-words_fit
 unfolding ready_tests
 returns-then-not-words_fit c =
     let sound = sym c.standard-sound.ensures ∙ c.in_default.is in
-    let floats = sym c.floats_fit.ensures ∙ not-false _ c.if-not-floats_fit.false in
-    group_ok _ _ sound (test_ok _ _ floats (test_no _ _ (sym c.words_fit.ensures ∙ not-true _ c.if-not-words_fit.true)))
+    let floats = sym c.floats_fit.ensures ∙ c.if-not-floats_fit.false in
+    group_ok _ _ sound (test_ok _ _ floats (test_no _ _ (sym c.words_fit.ensures ∙ c.if-not-words_fit.true)))
 
 pub returns : goal.returns
 unfolding ready_tests
 returns c =
     let sound = sym c.standard-sound.ensures ∙ c.in_default.is in
-    let floats = sym c.floats_fit.ensures ∙ not-false _ c.if-not-floats_fit.false in
-    let words = sym c.words_fit.ensures ∙ not-false _ c.if-not-words_fit.false in
+    let floats = sym c.floats_fit.ensures ∙ c.if-not-floats_fit.false in
+    let words = sym c.words_fit.ensures ∙ c.if-not-words_fit.false in
     group_ok _ _ sound (test_ok _ _ floats (test_ok _ _ words none_left))

@@ -18,28 +18,28 @@ pub returns-then-not-off_diagonal : goal.returns-then-not-off_diagonal
 unfolding standard_tests
 returns-then-not-off_diagonal c =
     let shaped = sym c.shape-shaped.ensures ∙ c.in_default.is in
-    group_ok _ _ shaped (test_no _ _ (sym c.off_diagonal.ensures ∙ not-true _ c.if-not-off_diagonal.true))
+    group_ok _ _ shaped (test_no _ _ (sym c.off_diagonal.ensures ∙ c.if-not-off_diagonal.true))
 
 pub returns-then-not-weights_finite : goal.returns-then-not-weights_finite
 unfolding standard_tests
 returns-then-not-weights_finite c =
     let shaped = sym c.shape-shaped.ensures ∙ c.in_default.is in
-    let standard = sym c.off_diagonal.ensures ∙ not-false _ c.if-not-off_diagonal.false in
-    group_ok _ _ shaped (test_ok _ _ standard (test_no _ _ (sym c.weights_finite.ensures ∙ not-true _ c.if-not-weights_finite.true)))
+    let standard = sym c.off_diagonal.ensures ∙ c.if-not-off_diagonal.false in
+    group_ok _ _ shaped (test_ok _ _ standard (test_no _ _ (sym c.weights_finite.ensures ∙ c.if-not-weights_finite.true)))
 
 pub returns-then-not-start_fits : goal.returns-then-not-start_fits
 unfolding standard_tests
 returns-then-not-start_fits c =
     let shaped = sym c.shape-shaped.ensures ∙ c.in_default.is in
-    let standard = sym c.off_diagonal.ensures ∙ not-false _ c.if-not-off_diagonal.false in
-    let finite = sym c.weights_finite.ensures ∙ not-false _ c.if-not-weights_finite.false in
-    group_ok _ _ shaped (test_ok _ _ standard (test_ok _ _ finite (test_no _ _ (sym c.start_fits.ensures ∙ not-true _ c.if-not-start_fits.true))))
+    let standard = sym c.off_diagonal.ensures ∙ c.if-not-off_diagonal.false in
+    let finite = sym c.weights_finite.ensures ∙ c.if-not-weights_finite.false in
+    group_ok _ _ shaped (test_ok _ _ standard (test_ok _ _ finite (test_no _ _ (sym c.start_fits.ensures ∙ c.if-not-start_fits.true))))
 
 pub returns : goal.returns
 unfolding standard_tests
 returns c =
     let shaped = sym c.shape-shaped.ensures ∙ c.in_default.is in
-    let standard = sym c.off_diagonal.ensures ∙ not-false _ c.if-not-off_diagonal.false in
-    let finite = sym c.weights_finite.ensures ∙ not-false _ c.if-not-weights_finite.false in
-    let fits = sym c.start_fits.ensures ∙ not-false _ c.if-not-start_fits.false in
+    let standard = sym c.off_diagonal.ensures ∙ c.if-not-off_diagonal.false in
+    let finite = sym c.weights_finite.ensures ∙ c.if-not-weights_finite.false in
+    let fits = sym c.start_fits.ensures ∙ c.if-not-start_fits.false in
     group_ok _ _ shaped (test_ok _ _ standard (test_ok _ _ finite (test_ok _ _ fits none_left)))

@@ -25,9 +25,7 @@ overflow_add-high c =
     omega (arith, c.loop-step-test.true, c.loop-step.invariant.0.within, c.loop-step.invariant.1, c.requires.fits, div-mul-le_self (length c.args.list.now) 3)
 
 pub search-requires : goal.search-requires
-search-requires c = let l = c.loop-step in      record { held = held_fewer l.high c.args.items c.args.list.now l.invariant.0.within c.requires; between = (
-      between_first (between_raise l.invariant.0 c.requires c.key_at.ensures (omega (arith, c.loop-step-test.true, l.invariant.1)) c.if-key_at-y.true),
-    ) }
+search-requires c = let l = c.loop-step in      record { held = held_fewer l.high c.args.items c.args.list.now l.invariant.0.within c.requires; between = between_first (between_raise l.invariant.0 c.requires c.key_at.ensures (omega (arith, c.loop-step-test.true, l.invariant.1)) c.if-key_at-y.true) }
 
 pub returns-then-key_at-y : goal.returns-then-key_at-y
 returns-then-key_at-y c = between_all c.loop-step.invariant.0 c.search.ensures

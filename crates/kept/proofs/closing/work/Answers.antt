@@ -34,6 +34,4 @@ flat_rows-requires c =
     omega (arith, placed.values_long, placed.floats_room)
 
 pub returns : goal.returns
-returns c =     record { list_value = ran_values c.propagate.ensures _ _ _ c.copy.ensures c.copy_bounds.ensures c.requires.lendable.long; value = (
-      ran_flat c.propagate.ensures _ _ _ c.copy.ensures c.copy_bounds.ensures c.requires.lendable.long c.flat_rows.ensures,
-    ) }
+returns c =     record { list_value = ran_values c.propagate.ensures _ _ _ c.copy.ensures c.copy_bounds.ensures c.requires.lendable.long; value = ran_flat c.propagate.ensures _ _ _ c.copy.ensures c.copy_bounds.ensures c.requires.lendable.long c.flat_rows.ensures }

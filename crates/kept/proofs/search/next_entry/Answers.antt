@@ -10,7 +10,7 @@ use borrow.Author.Rules.{rules}
 use Rattle.kept.proofs.search.next_entry.Goals as goal
 
 pub skip-k-requires : goal.skip-k-requires
-skip-k-requires c = let both = c.requires in
+skip-k-requires c =     let both = c.requires in
     record { rows_len = both.0; rows_len_bound = both.1.0; from_in_bounds = both.1.1 }
 
 pub loop-k-init : goal.loop-k-init
@@ -20,7 +20,7 @@ pub bounds-cols-k : goal.bounds-cols-k
 bounds-cols-k c = omega (arith, c.loop-k-test.true, c.requires.rows_len)
 
 pub returns-then-not-is_apart : goal.returns-then-not-is_apart
-returns-then-not-is_apart c = next_found c.loop-k.invariant (sym c.is_apart.ensures ∙ not-true _ c.if-not-is_apart.true)
+returns-then-not-is_apart c = next_found c.loop-k.invariant (sym c.is_apart.ensures ∙ c.if-not-is_apart.true)
 
 pub overflow_add-k : goal.overflow_add-k
 overflow_add-k c = omega (arith, c.loop-k-test.true)
@@ -30,7 +30,7 @@ loop-k-smaller c = omega (arith, c.loop-k-test.true)
 
 pub loop-k-preserved : goal.loop-k-preserved
 loop-k-preserved c =
-    skip_one c.loop-k.invariant c.loop-k-test.true (sym c.is_apart.ensures ∙ not-false _ c.if-not-is_apart.false)
+    skip_one c.loop-k.invariant c.loop-k-test.true (sym c.is_apart.ensures ∙ c.if-not-is_apart.false)
 
 pub returns : goal.returns
 returns c = next_none c.loop-k.invariant c.loop-k-test.false

@@ -15,7 +15,7 @@ pub overflow_add-k : goal.overflow_add-k
 overflow_add-k c = omega (arith, c.loop-k.invariant.within, c.requires.rows_len_bound)
 
 pub block_apart-requires : goal.block_apart-requires
-block_apart-requires c = record { rows_len = c.requires.rows_len; from_in_bounds = c.loop-k-test.true }
+block_apart-requires c =     record { rows_len = c.requires.rows_len; from_in_bounds = c.loop-k-test.true }
 
 pub returns-then-not-block_apart : goal.returns-then-not-block_apart
 returns-then-not-block_apart c = c.loop-k.invariant
@@ -27,7 +27,7 @@ pub loop-k-smaller : goal.loop-k-smaller
 loop-k-smaller c = omega (arith, c.loop-k-test.true)
 
 pub loop-k-preserved : goal.loop-k-preserved
-loop-k-preserved c = skip_block c.loop-k.invariant c.loop-k-test.true (sym c.block_apart.ensures ∙ not-false _ c.if-not-block_apart.false)
+loop-k-preserved c = skip_block c.loop-k.invariant c.loop-k-test.true (sym c.block_apart.ensures ∙ c.if-not-block_apart.false)
 
 pub returns : goal.returns
 returns c = c.loop-k.invariant

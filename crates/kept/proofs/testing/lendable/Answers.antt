@@ -18,7 +18,7 @@ floats_fit-requires c = let shaped = ((record_passes _ _ _).0 (sym c.recorded-ch
 pub returns-then-not-floats_fit : goal.returns-then-not-floats_fit
 unfolding lent_tests
 returns-then-not-floats_fit c =
-    group_ok _ _ (sym c.recorded-checked.ensures ∙ c.in_default.is) (test_no _ _ (sym c.floats_fit.ensures ∙ not-true _ c.if-not-floats_fit.true))
+    group_ok _ _ (sym c.recorded-checked.ensures ∙ c.in_default.is) (test_no _ _ (sym c.floats_fit.ensures ∙ c.if-not-floats_fit.true))
 
 pub words_fit-requires : goal.words_fit-requires
 words_fit-requires c =
@@ -29,10 +29,10 @@ pub returns-then-not-words_fit : goal.returns-then-not-words_fit
 unfolding lent_tests
 returns-then-not-words_fit c =
     group_ok _ _ (sym c.recorded-checked.ensures ∙ c.in_default.is)
-    (test_ok _ _ (sym c.floats_fit.ensures ∙ not-false _ c.if-not-floats_fit.false) (test_no _ _ (sym c.words_fit.ensures ∙ not-true _ c.if-not-words_fit.true)))
+    (test_ok _ _ (sym c.floats_fit.ensures ∙ c.if-not-floats_fit.false) (test_no _ _ (sym c.words_fit.ensures ∙ c.if-not-words_fit.true)))
 
 pub returns : goal.returns
 unfolding lent_tests
 returns c =
     group_ok _ _ (sym c.recorded-checked.ensures ∙ c.in_default.is)
-    (test_ok _ _ (sym c.floats_fit.ensures ∙ not-false _ c.if-not-floats_fit.false) (test_ok _ _ (sym c.words_fit.ensures ∙ not-false _ c.if-not-words_fit.false) none_left))
+    (test_ok _ _ (sym c.floats_fit.ensures ∙ c.if-not-floats_fit.false) (test_ok _ _ (sym c.words_fit.ensures ∙ c.if-not-words_fit.false) none_left))

@@ -17,9 +17,9 @@ may_pin-requires c = ((record_passes _ _ _).0 (sym c.recorded-checked.ensures �
 pub returns-then-not-may_pin : goal.returns-then-not-may_pin
 unfolding pin_tests
 returns-then-not-may_pin c =
-    group_ok _ _ (sym c.recorded-checked.ensures ∙ c.in_default.is) (test_no _ _ (sym c.may_pin.ensures ∙ not-true _ c.if-not-may_pin.true))
+    group_ok _ _ (sym c.recorded-checked.ensures ∙ c.in_default.is) (test_no _ _ (sym c.may_pin.ensures ∙ c.if-not-may_pin.true))
 
 pub returns : goal.returns
 unfolding pin_tests
 returns c =
-    group_ok _ _ (sym c.recorded-checked.ensures ∙ c.in_default.is) (test_ok _ _ (sym c.may_pin.ensures ∙ not-false _ c.if-not-may_pin.false) none_left)
+    group_ok _ _ (sym c.recorded-checked.ensures ∙ c.in_default.is) (test_ok _ _ (sym c.may_pin.ensures ∙ c.if-not-may_pin.false) none_left)

@@ -17,9 +17,9 @@ may_release-requires c = ((record_passes _ _ _).0 (sym c.recorded-checked.ensure
 pub returns-then-not-may_release : goal.returns-then-not-may_release
 unfolding release_tests
 returns-then-not-may_release c =
-    group_ok _ _ (sym c.recorded-checked.ensures ∙ c.in_default.is) (test_no _ _ (sym c.may_release.ensures ∙ not-true _ c.if-not-may_release.true))
+    group_ok _ _ (sym c.recorded-checked.ensures ∙ c.in_default.is) (test_no _ _ (sym c.may_release.ensures ∙ c.if-not-may_release.true))
 
 pub returns : goal.returns
 unfolding release_tests
 returns c =
-    group_ok _ _ (sym c.recorded-checked.ensures ∙ c.in_default.is) (test_ok _ _ (sym c.may_release.ensures ∙ not-false _ c.if-not-may_release.false) none_left)
+    group_ok _ _ (sym c.recorded-checked.ensures ∙ c.in_default.is) (test_ok _ _ (sym c.may_release.ensures ∙ c.if-not-may_release.false) none_left)

@@ -13,7 +13,7 @@ pub returns-then-value-ne2 : goal.returns-then-value-ne2
 returns-then-value-ne2 c = c.start.ensures ∙ sym (stored_fixed _ c.if-value-ne2.true)
 
 pub own_row-requires : goal.own_row-requires
-own_row-requires c = let both = c.requires in
+own_row-requires c =     let both = c.requires in
     record { sound = both.0; i_bound = both.1 }
 
 pub returns : goal.returns

@@ -16,7 +16,7 @@ pub overflow_mul-at : goal.overflow_mul-at
 overflow_mul-at c = omega (arith, c.requires.n_bound)
 
 pub mine-requires : goal.mine-requires
-mine-requires c = record { list_len = c.requires.listed.whole; x_bound = c.loop-x-test.true }
+mine-requires c =     record { list_len = c.requires.listed.whole; x_bound = c.loop-x-test.true }
 
 pub overflow_add-at : goal.overflow_add-at
 overflow_add-at c = let pre = c.requires in omega (arith, pre.n_bound, c.mine.ensures, mine_below _ pre.listed _ c.loop-x-test.true)

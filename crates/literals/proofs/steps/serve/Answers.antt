@@ -17,18 +17,8 @@ pub loop-p-init : goal.loop-p-init
 loop-p-init c = let pre = c.requires in serve_start pre.listed pre.valued pre.going c.wide_word-p.ensures
 
 pub serve_end-step-requires : goal.serve_end-step-requires
-serve_end-step-requires c = let pre = c.requires in let now = c.loop-p.invariant in      let rest =  in
-    record { listed = pre.listed; start_len_bound = (
-    pre.start_len_bound,
-    (
-      now.served.going,
-      (
-        omega (arith, now.within, c.loop-p-test.true),
-        serve_own pre.listed pre.valued now
-            c.loop-p-test.true,
-      ),
-    ),
-  ); going = rest.0; x_bound = rest.1.0; valued = rest.1.1 }
+serve_end-step-requires c = let pre = c.requires in let now = c.loop-p.invariant in      record { listed = pre.listed; start_len_bound = pre.start_len_bound; going = now.served.going; x_bound = omega (arith, now.within, c.loop-p-test.true); valued = serve_own pre.listed pre.valued now
+            c.loop-p-test.true }
 
 pub returns-in_default : goal.returns-in_default
 returns-in_default c =

@@ -15,13 +15,13 @@ pub loop-k-init : goal.loop-k-init
 loop-k-init c = all_start _ _
 
 pub finite_at-requires : goal.finite_at-requires
-finite_at-requires c = record { listed = c.requires; k_bound = c.loop-k-test.true }
+finite_at-requires c =     record { listed = c.requires; k_bound = c.loop-k-test.true }
 
 pub returns-then-not-finite_at : goal.returns-then-not-finite_at
-returns-then-not-finite_at c = all_stop _ _ c.loop-k-test.true (sym c.finite_at.ensures ∙ not-true _ c.if-not-finite_at.true)
+returns-then-not-finite_at c = all_stop _ _ c.loop-k-test.true (sym c.finite_at.ensures ∙ c.if-not-finite_at.true)
 
 pub loop-k-preserved : goal.loop-k-preserved
-loop-k-preserved c = all_turn _ c.loop-k.invariant c.loop-k-test.true (sym c.finite_at.ensures ∙ not-false _ c.if-not-finite_at.false)
+loop-k-preserved c = all_turn _ c.loop-k.invariant c.loop-k-test.true (sym c.finite_at.ensures ∙ c.if-not-finite_at.false)
 
 pub returns : goal.returns
 returns c = all_done _ c.loop-k.invariant (omega arith)

@@ -8,7 +8,7 @@ use borrow.Author.Rules.{rules}
 use Rattle.mending.proofs.sums.finite_at.Goals as goal
 
 pub place_at-p-requires : goal.place_at-p-requires
-place_at-p-requires c = record { listed = c.requires.listed; k_bound = c.requires.k_bound }
+place_at-p-requires c =     record { listed = c.requires.listed; k_bound = c.requires.k_bound }
 
 pub overflow_mul-c : goal.overflow_mul-c
 overflow_mul-c c = omega (arith, square_few _ c.requires.listed.few_variables)

@@ -12,7 +12,7 @@ pub loop-k-init : goal.loop-k-init
 loop-k-init c = (omega arith, part_start _ _ refl)
 
 pub part_with-part-requires : goal.part_with-part-requires
-part_with-part-requires c = record { listed = c.requires; k_bound = c.loop-k-test.true }
+part_with-part-requires c =     record { listed = c.requires; k_bound = c.loop-k-test.true }
 
 pub loop-k-preserved : goal.loop-k-preserved
 loop-k-preserved c = (omega arith, part_turn _ _ _ c.loop-k.invariant.1 c.part_with-part.ensures)

@@ -11,7 +11,7 @@ pub returns-then-at-list : goal.returns-then-at-list
 returns-then-at-list c = appended_full c.if-key-eq0.false c.if-at-list.true
 
 pub put_key-requires : goal.put_key-requires
-put_key-requires c = record { at_in_bounds = (has_room c.args.list.now c.args.at).0 c.if-at-list.false; key_bound = c.requires.key_bound }
+put_key-requires c =     record { at_in_bounds = (has_room c.args.list.now c.args.at).0 c.if-at-list.false; key_bound = c.requires.key_bound }
 
 pub returns : goal.returns
 returns c =

@@ -9,7 +9,7 @@ returns-then-not-joins_by c =
     passes_by c.requires.placed _ c.requires.k_bound c.args.zeros c.joins_by.ensures c.if-not-joins_by.true
 
 pub visit-requires : goal.visit-requires
-visit-requires c = record { placed = c.requires.placed; j_bound = other_end_below c.requires.placed.shaped _ c.requires.k_bound c.requires.j_value }
+visit-requires c =     record { placed = c.requires.placed; j_bound = other_end_below c.requires.placed.shaped _ c.requires.k_bound c.requires.j_value }
 
 pub returns : goal.returns
 returns c =

@@ -18,7 +18,7 @@ may_probe-requires c = ((standard_passes _ _).0 (sym c.standard-sound.ensures �
 pub returns-then-not-may_probe : goal.returns-then-not-may_probe
 unfolding probe_tests
 returns-then-not-may_probe c =
-    group_ok _ _ (sym c.standard-sound.ensures ∙ c.in_default.is) (test_no _ _ (sym c.may_probe.ensures ∙ not-true _ c.if-not-may_probe.true))
+    group_ok _ _ (sym c.standard-sound.ensures ∙ c.in_default.is) (test_no _ _ (sym c.may_probe.ensures ∙ c.if-not-may_probe.true))
 
 pub floats_fit-requires : goal.floats_fit-requires
 floats_fit-requires c =
@@ -27,8 +27,8 @@ floats_fit-requires c =
 pub returns-then-not-floats_fit : goal.returns-then-not-floats_fit
 unfolding probe_tests
 returns-then-not-floats_fit c =
-    group_ok _ _ (sym c.standard-sound.ensures ∙ c.in_default.is) (test_ok _ _ (sym c.may_probe.ensures ∙ not-false _ c.if-not-may_probe.false)
-    (test_no _ _ (sym c.floats_fit.ensures ∙ not-true _ c.if-not-floats_fit.true)))
+    group_ok _ _ (sym c.standard-sound.ensures ∙ c.in_default.is) (test_ok _ _ (sym c.may_probe.ensures ∙ c.if-not-may_probe.false)
+    (test_no _ _ (sym c.floats_fit.ensures ∙ c.if-not-floats_fit.true)))
 
 pub words_fit-requires : goal.words_fit-requires
 words_fit-requires c =
@@ -37,11 +37,11 @@ words_fit-requires c =
 pub returns-then-not-words_fit : goal.returns-then-not-words_fit
 unfolding probe_tests
 returns-then-not-words_fit c =
-    group_ok _ _ (sym c.standard-sound.ensures ∙ c.in_default.is) (test_ok _ _ (sym c.may_probe.ensures ∙ not-false _ c.if-not-may_probe.false)
-    (test_ok _ _ (sym c.floats_fit.ensures ∙ not-false _ c.if-not-floats_fit.false) (test_no _ _ (sym c.words_fit.ensures ∙ not-true _ c.if-not-words_fit.true))))
+    group_ok _ _ (sym c.standard-sound.ensures ∙ c.in_default.is) (test_ok _ _ (sym c.may_probe.ensures ∙ c.if-not-may_probe.false)
+    (test_ok _ _ (sym c.floats_fit.ensures ∙ c.if-not-floats_fit.false) (test_no _ _ (sym c.words_fit.ensures ∙ c.if-not-words_fit.true))))
 
 pub returns : goal.returns
 unfolding probe_tests
 returns c =
-    group_ok _ _ (sym c.standard-sound.ensures ∙ c.in_default.is) (test_ok _ _ (sym c.may_probe.ensures ∙ not-false _ c.if-not-may_probe.false)
-    (test_ok _ _ (sym c.floats_fit.ensures ∙ not-false _ c.if-not-floats_fit.false) (test_ok _ _ (sym c.words_fit.ensures ∙ not-false _ c.if-not-words_fit.false) none_left)))
+    group_ok _ _ (sym c.standard-sound.ensures ∙ c.in_default.is) (test_ok _ _ (sym c.may_probe.ensures ∙ c.if-not-may_probe.false)
+    (test_ok _ _ (sym c.floats_fit.ensures ∙ c.if-not-floats_fit.false) (test_ok _ _ (sym c.words_fit.ensures ∙ c.if-not-words_fit.false) none_left)))

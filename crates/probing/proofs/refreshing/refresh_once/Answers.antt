@@ -17,12 +17,10 @@ next_place-twin-requires c =
     cursor_reads c.requires.placed c.requires.within
 
 pub returns-then-twin-t : goal.returns-then-twin-t
-returns-then-twin-t c =     record { within_2 = cursor_goes c.requires.placed c.requires.within c.next_place-twin.ensures; once = (
-      inr (
+returns-then-twin-t c =     record { within_2 = cursor_goes c.requires.placed c.requires.within c.next_place-twin.ensures; once = inr (
         does_same c.requires.placed refl,
         paired c.requires.placed c.requires.within c.next_place-twin.ensures c.requires.k_bound c.wide_short-t.ensures c.if-t-i.false c.if-twin-t.true,
-      ),
-    ) }
+      ) }
 
 pub refresh_at-requires-2 : goal.refresh_at-requires-2
 refresh_at-requires-2 c =     record { placed = c.requires.placed; standard = c.requires.standard; k_bound = c.requires.k_bound }

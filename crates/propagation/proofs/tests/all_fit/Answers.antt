@@ -50,7 +50,7 @@ unfolding all_fit
 returns-then-not-fits c =
     all_stop _ _ c.loop-t-test.true
     (rw (← c.wide_short-lower.ensures, ← c.wide_short-higher.ensures, ← c.wide_short-set.ensures)
-    (sym c.fits.ensures ∙ not-true _ c.if-not-fits.true))
+    (sym c.fits.ensures ∙ c.if-not-fits.true))
 
 pub overflow_add-t : goal.overflow_add-t
 overflow_add-t c =
@@ -60,7 +60,7 @@ pub loop-t-preserved : goal.loop-t-preserved
 loop-t-preserved c =
     all_turn _ c.loop-t.invariant c.loop-t-test.true (rw
     (← c.wide_short-lower.ensures, ← c.wide_short-higher.ensures, ← c.wide_short-set.ensures) (sym
-    c.fits.ensures ∙ not-false _ c.if-not-fits.false))
+    c.fits.ensures ∙ c.if-not-fits.false))
 
 pub returns : goal.returns
 unfolding all_fit

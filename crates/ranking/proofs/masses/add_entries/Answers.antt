@@ -11,7 +11,7 @@ pub loop-k-init : goal.loop-k-init
 loop-k-init c = massed_start c.requires.massable c.requires.w_value
 
 pub add_entry-requires : goal.add_entry-requires
-add_entry-requires c = record { massable = c.loop-k.invariant.ready; k_bound = c.loop-k-test.true }
+add_entry-requires c =     record { massable = c.loop-k.invariant.ready; k_bound = c.loop-k-test.true }
 
 pub loop-k-preserved : goal.loop-k-preserved
 loop-k-preserved c = massed_turn c.loop-k.invariant c.loop-k-test.true c.add_entry.ensures

@@ -4,5 +4,5 @@ use borrow.Author.Rules.{rules}
 use Rattle.ranking.proofs.masses.fill.Goals as goal
 
 pub add_entries-requires : goal.add_entries-requires
-add_entries-requires c = let both = fill_ready c.requires c.clear_floats.ensures in
+add_entries-requires c =     let both = fill_ready c.requires c.clear_floats.ensures in
     record { massable = both.0; w_value = both.1 }

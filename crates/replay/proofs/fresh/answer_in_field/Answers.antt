@@ -36,6 +36,4 @@ answer_call-requires c =     record { q_in_bounds = field_stands c.args.head c.r
           (part_kept _ 4100 _ c.take_linear.auto.c c.requires.fits.lists.linear_fits)
           (part_kept _ 32772 _ c.take_rows.auto.rows c.requires.fits.lists.rows_fit)
           (part_kept _ 32772 _ c.take_columns.auto.cols c.requires.fits.lists.columns_fit)
-          (part_kept _ 32772 _ c.take_weights.auto.q c.requires.fits.lists.weights_fit); start_in_bounds = (
-      c.requires.start_in_bounds,
-    ) }
+          (part_kept _ 32772 _ c.take_weights.auto.q c.requires.fits.lists.weights_fit); start_in_bounds = c.requires.start_in_bounds }

@@ -14,10 +14,10 @@ pub loop-i-init : goal.loop-i-init
 loop-i-init c = all_start _ _
 
 pub returns-then-not-passes_at : goal.returns-then-not-passes_at
-returns-then-not-passes_at c = first_stop _ c.loop-i.invariant (search rules) (sym c.passes_at.ensures ∙ not-true _ c.if-not-passes_at.true)
+returns-then-not-passes_at c = first_stop _ c.loop-i.invariant (search rules) (sym c.passes_at.ensures ∙ c.if-not-passes_at.true)
 
 pub loop-i-preserved : goal.loop-i-preserved
-loop-i-preserved c = all_turn _ c.loop-i.invariant (search rules) (sym c.passes_at.ensures ∙ not-false _ c.if-not-passes_at.false)
+loop-i-preserved c = all_turn _ c.loop-i.invariant (search rules) (sym c.passes_at.ensures ∙ c.if-not-passes_at.false)
 
 pub returns : goal.returns
 returns c = first_end _ c.loop-i.invariant (search rules)

@@ -13,10 +13,10 @@ pub loop-i-init : goal.loop-i-init
 loop-i-init c = all_start _ _
 
 pub returns-then-not-equal : goal.returns-then-not-equal
-returns-then-not-equal c = all_stop _ _ (search rules) (sym c.equal.ensures ∙ not-true _ c.if-not-equal.true)
+returns-then-not-equal c = all_stop _ _ (search rules) (sym c.equal.ensures ∙ c.if-not-equal.true)
 
 pub loop-i-preserved : goal.loop-i-preserved
-loop-i-preserved c = all_turn _ c.loop-i.invariant (search rules) (sym c.equal.ensures ∙ not-false _ c.if-not-equal.false)
+loop-i-preserved c = all_turn _ c.loop-i.invariant (search rules) (sym c.equal.ensures ∙ c.if-not-equal.false)
 
 pub returns : goal.returns
 returns c = all_done _ c.loop-i.invariant (search rules)

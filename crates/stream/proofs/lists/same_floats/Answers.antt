@@ -17,11 +17,11 @@ pub loop-i-init : goal.loop-i-init
 loop-i-init c = all_start _ _
 
 pub returns-then-not-same_weight : goal.returns-then-not-same_weight
-returns-then-not-same_weight c = all_stop _ _ (search rules) (sym (c.same_weight.ensures ∙ ap (same_weight _) c.float.ensures) ∙ not-true _ c.if-not-same_weight.true)
+returns-then-not-same_weight c = all_stop _ _ (search rules) (sym (c.same_weight.ensures ∙ ap (same_weight _) c.float.ensures) ∙ c.if-not-same_weight.true)
 
 pub loop-i-preserved : goal.loop-i-preserved
 loop-i-preserved c =
-    all_turn _ c.loop-i.invariant (search rules) (sym (c.same_weight.ensures ∙ ap (same_weight _) c.float.ensures) ∙ not-false _ c.if-not-same_weight.false)
+    all_turn _ c.loop-i.invariant (search rules) (sym (c.same_weight.ensures ∙ ap (same_weight _) c.float.ensures) ∙ c.if-not-same_weight.false)
 
 pub returns : goal.returns
 returns c = all_done _ c.loop-i.invariant (search rules)
