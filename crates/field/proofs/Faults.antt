@@ -315,6 +315,7 @@ module _ (F : Field) where
   fault_by (fails e) L = absurd (true≢false (sym ((few_means (variables F)).1 L.few_variables) ∙ e))
   fault_by (passes _ (fails e)) L = absurd (true≢false (sym ((lists_mean F.rows F.cols F.quad).1 (L.rows_long, (L.cols_long, L.few_entries))) ∙ e))
   fault_by (passes _ (passes _ (fails e))) L = (fault_means (variables F) F.rows F.cols (L.rows_long ∙ sym L.cols_long) _).0 (e, refl)
+  fault_by {r = r} (passes _ (passes _ (passes _ x25))) L = elim x25 [ ]
 
   -- Theorem. 14 to 17: past tests 1 and 2 each is given exactly if every entry before its position is fine, and the entry there has this fault and none tested earlier.
   pub fault_exactly : Listed F → (r : Refusal) → (tested (shape_tests F) ≡ Failed r) ↔ Fault (variables F) F.rows F.cols r
@@ -337,6 +338,7 @@ module _ (F : Field) where
       let lists = (lists_mean F.rows F.cols F.quad).0 l in
       let at = fault_position ((fault_means (variables F) F.rows F.cols (lists.0 ∙ sym lists.1.0) _).0 (e, refl)) in
       omega (arith, at, lists.0, lists.1.1)
+  shape_near {r = r} (passes _ (passes l (passes _ x20))) = elim x20 [ ]
 
 -- ---- the position that a group of tests names
 
