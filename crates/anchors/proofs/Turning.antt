@@ -45,7 +45,7 @@ module _ {u : ℕ} {F : Field} (S : Shaped F) (x : ExactIn u F) {s : List ℕ} (
   inward : (k : ℕ) → k < entries F → (has K (row_end F k) ≡ has K (column_end F k)) ⊎ Zero ((whole_of u F).weight k)
   inward k h =
       bool_cases (ne (quad_of F k) zero64)
-      (λ e. inl (joined_same (record { entry = k; below = h; joining = e; ends = inl (refl, refl) }) (opened_all s (row_end F k) (omega (arith, S.row-Below k h, st.long)))
+      (λ e. inl (joined_same (record { entry = k; below = h; joining = e; ends = inl (refl, refl) }) (opened_all s (row_end F k) (omega (arith, S.row_below k h, st.long)))
       (opened_all s (column_end F k) (omega (arith, S.column_below k h, st.long)))))
       (λ e. inr ((zero_test (quad_worth x k h)).0 e))
 

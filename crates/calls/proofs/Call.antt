@@ -25,6 +25,7 @@ pub never_first : (ts : List Test) (r : Refusal) → without r ts ≡ true → F
 unfolding without
 never_first (t ∷ ts) r e (tests.fails p) = (ne_is (number_of t.refusal) (number_of t.refusal)).0 (both (not (eqb (number_of t.refusal) (number_of t.refusal))) (without t.refusal ts) e).0 refl
 never_first (t ∷ ts) r e (tests.passes p h) = never_first ts r (both (not (eqb (number_of t.refusal) (number_of r))) (without r ts) e).1 h
+never_first [] r e x'' = elim x'' [ ]
 
 -- and is given after the tests exactly if all of them pass
 pub first_later : (ts us : List Test) (r : Refusal) → without r ts ≡ true → FirstToFail (ts ++ us) r ↔ ((tested ts ≡ Passed) × FirstToFail us r)
@@ -51,10 +52,12 @@ module _ {L : Type 0} where
   unfolding table
   first_stops (t ∷ ts) (tests.fails p) = (t.leaves, fails p)
   first_stops (t ∷ ts) (tests.passes p h) = let z = first_stops ts h in (z.0, passes p z.1)
+  first_stops [] {r = r} x' = elim x' [ ]
 
-  stops_leaves : {ts : List (Stage L)} {r : Refusal} {l k : L} → Leave r l ts → Stops ts r k → k ≡ l
+  stops_leaves : {r : Refusal} {l k : L} {ts : List (Stage L)} → Leave r l ts → Stops ts r k → k ≡ l
   stops_leaves (and_stage h hs) (fails p) = h refl
   stops_leaves (and_stage h hs) (passes p s) = stops_leaves hs s
+  stops_leaves {r = r} {l = l} {k = k} no_stage x3 = elim x3 [ ]
 
   -- tests that leave what was given, as a table
   pub table_keeping : (given : L) (ts : List Test) (us : List (Stage L)) → table (keeping given ts ++ us) ≡ ts ++ table us

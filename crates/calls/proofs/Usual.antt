@@ -6,7 +6,7 @@ use mathlib.Core.List.{List, [], ◌∷◌, ◌++◌}
 use Rattle.field.specs.declared.Refusal.{Refusal}
 use Rattle.field.specs.declared.Checked.{Checked}
 use Rattle.field.specs.declared.Checked.TheVariants.{Passed, Failed}
-use Rattle.field.specs.Table.{Test, test, tested, FirstToFail, fails}
+use Rattle.field.specs.Table.{Test, test, tested, FirstToFail, fails, passes}
 use Rattle.calls.specs.Call.{Left, left, Stage, stage, run, called, table, usual, Leave, no_stage, and_stage, Each, without}
 use Rattle.calls.proofs.Call as any
 
@@ -92,5 +92,6 @@ module _ {A L : Type 0} (refuse : Refusal → A) (given : L) (tests : List Test)
       let t = later_when refuse given tests (stage r b l ∷ []) done same apart r w in
       ((λ e. let h = t.0 e in (h.0, only h.1)), λ h. t.1 (h.0, fails h.1))
     where
-      only : FirstToFail (test r b ∷ []) r → b ≡ false
+      only : {x : Refusal} → FirstToFail (test r b ∷ []) x → b ≡ false
       only (fails p) = p
+      only (passes _ x) = elim x [ ]

@@ -52,12 +52,12 @@ module _ (F : Field) (S : Shaped F) where
   -- ---- its places rise
 
   place_is : (k : ℕ) → k < entries F → column_end F k * variables F + row_end F k ≡ place_of F k
-  place_is k h = inside_at F k refl refl (S.row-Below k h) (S.column_below k h)
+  place_is k h = inside_at F k refl refl (S.row_below k h) (S.column_below k h)
 
   next_higher : (k : ℕ) → k + 1 < entries F → place_of F k < place_of F (k + 1)
   next_higher k h =
       rw (sym (place_is k (omega arith)), sym (place_is (k + 1) h))
-      (⊎_elim (λ c. further (variables F) (column_end F k) (column_end F (k + 1)) (row_end F k) (row_end F (k + 1)) (S.row-Below k (omega arith)) c)
+      (⊎_elim (λ c. further (variables F) (column_end F k) (column_end F (k + 1)) (row_end F k) (row_end F (k + 1)) (S.row_below k (omega arith)) c)
       (λ e. omega (arith, e.1, ap (λ (c : ℕ). c * variables F) e.0)) (S.rising k h))
 
   later : (j d : ℕ) → j + suc d < entries F → place_of F j < place_of F (j + suc d)
@@ -95,7 +95,7 @@ module _ (F : Field) (S : Shaped F) where
   opens : (k : ℕ) → k < entries F → {g : Gathered} → Opened k g → Opened (suc k) (take_one F g k)
   unfolding take_one up_to
   opens k h {g} O =
-      let inside : place_of F k < all_places F = rw (sym (place_is k h)) (place_inside (variables F) (row_end F k) (column_end F k) (S.row-Below k h) (S.column_below k h)) in
+      let inside : place_of F k < all_places F = rw (sym (place_is k h)) (place_inside (variables F) (row_end F k) (column_end F k) (S.row_below k h) (S.column_below k h)) in
       let new : is_last_of (place_of F k) g.places ≡ false =
       ap (is_last_of (place_of F k)) O.places
       ∙ last_not (place_of F k) (map (place_of F) (up_to k)) (every_map (place_of F) (place_of F k) (up_to k) (every_as (λ y. y < k) (λ y. place_of F y < place_of F k) (λ y l. rises y k l h) (up_to k) (up_below k))) in
@@ -154,8 +154,8 @@ module _ (F : Field) (S : Shaped F) where
   good_unchanged =
       let n = variables F in
       rw (
-        back (row_in n) F.rows 0 S.rows_long (λ k h. ap (row_in n) (sym (place_is k h)) ∙ (parts_of n (row_end F k) (column_end F k) (S.row-Below k h)).1),
-        back (column_in n) F.cols 0 S.cols_long (λ k h. ap (column_in n) (sym (place_is k h)) ∙ (parts_of n (row_end F k) (column_end F k) (S.row-Below k h)).0),
+        back (row_in n) F.rows 0 S.rows_long (λ k h. ap (row_in n) (sym (place_is k h)) ∙ (parts_of n (row_end F k) (column_end F k) (S.row_below k h)).1),
+        back (column_in n) F.cols 0 S.cols_long (λ k h. ap (column_in n) (sym (place_is k h)) ∙ (parts_of n (row_end F k) (column_end F k) (S.row_below k h)).0),
         sums_are,
         quad_back,
       )

@@ -43,7 +43,7 @@ module _ {n : ℕ} {rows cols u₀ : List ℕ} (E : EndsBelow n rows cols) where
 
   module _ {k r c : ℕ} {u : List ℕ} (M : Marks n rows cols k u₀ u) (h : k < length rows) (er : r ≡ get_or rows k 0) (ec : c ≡ get_or cols k 0) where
     pub row_there : r < length u
-    row_there = omega (arith, E.row-Below k h, M.room)
+    row_there = omega (arith, E.row_below k h, M.room)
 
     pub column_there : c < length u
     column_there = omega (arith, E.column_below k h, M.room)
@@ -58,7 +58,7 @@ module _ {n : ℕ} {rows cols u₀ : List ℕ} (E : EndsBelow n rows cols) where
           mark_one (set u r 1) c i (simp length-set column_there)
           ∙ ap (λ (x : ℕ). cond (not (eqb c i)) x 1) (mark_one u r i row_there ∙ ap (λ (x : ℕ). cond (not (eqb r i)) x 1) (M.at i l))
           ∙ rw (add-one, er, ec) (both_ends (not (eqb (get_or rows k 0) i)) (not (eqb (get_or cols k 0) i)) (all_below (apart_at rows cols i) k));
-      rest = drop-set-lt n (set u r 1) c 1 (omega (arith, E.column_below k h)) ∙ drop-set-lt n u r 1 (omega (arith, E.row-Below k h)) ∙ M.rest;
+      rest = drop-set-lt n (set u r 1) c 1 (omega (arith, E.column_below k h)) ∙ drop-set-lt n u r 1 (omega (arith, E.row_below k h)) ∙ M.rest;
     }
 
   pub marks_done : {k : ℕ} {u : List ℕ} → Marks n rows cols k u₀ u → length rows ≤ k → Marked n rows cols u₀ u

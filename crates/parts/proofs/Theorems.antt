@@ -89,7 +89,7 @@ components_inward {F} S {u} E s {marks} long R start k h = bool_cases (ne (quad_
     joined : ne (quad_of F k) zero64 ≡ true
         → (has (members_from F false marks start) (row_end F k) ≡ has (members_from F false marks start) (column_end F k)) ⊎ Zero ((whole_of u F).weight k)
     joined e = ⊎_elim (λ same. inl same)
-        (⊎_elim (λ barred. absurd (barred (opened_all s _ (omega (arith, S.row-Below k h))))) (λ barred. absurd (barred (opened_all s _ (omega (arith, S.column_below k h))))))
+        (⊎_elim (λ barred. absurd (barred (opened_all s _ (omega (arith, S.row_below k h))))) (λ barred. absurd (barred (opened_all s _ (omega (arith, S.column_below k h))))))
         (resting.rest_closed S R start k h e)
 
     weightless : ne (quad_of F k) zero64 ≡ false → Zero ((whole_of u F).weight k)

@@ -89,12 +89,12 @@ module _ {u : ℕ} {F : Field} (S : Shaped F) (w : WholeIn u F) where
 
       here : moved (row_end F k) ≈ value k (row_end F k) ⊕ read (suc u) (quad_of F k) ⊙ get_or x (row_end F k) 0 ⊙ get_or x (row_end F k) 0
       here =
-          rw (get_or-set_same (linear_to F k) (row_end F k) (add binary64 (get_or (linear_to F k) (row_end F k) nan) (mul binary64 half64 (quad_of F k))) nan (omega (arith, linear_long F k, S.row-Below k h)))
+          rw (get_or-set_same (linear_to F k) (row_end F k) (add binary64 (get_or (linear_to F k) (row_end F k) nan) (mul binary64 half64 (quad_of F k))) nan (omega (arith, linear_long F k, S.row_below k h)))
           (counted _ (read u (get_or (linear_to F k) (row_end F k) nan)) (read (suc u) (quad_of F k)) (get_or x (row_end F k) 0) (full (row_end F k))
-          (half_counts (omega (arith, S.few_entries)) (weighs_to k (omega arith) (row_end F k) (S.row-Below k h)) (w.quad k h)))
+          (half_counts (omega (arith, S.few_entries)) (weighs_to k (omega arith) (row_end F k) (S.row_below k h)) (w.quad k h)))
 
       goes_in : row_end F k ≡ column_end F k → sum (variables F) moved ≈ sum (variables F) (value k) ⊕ term k
-      goes_in e = rw (← e) (omega (arith, sum_update (variables F) moved (value k) (row_end F k) (S.row-Below k h) elsewhere, here))
+      goes_in e = rw (← e) (omega (arith, sum_update (variables F) moved (value k) (row_end F k) (S.row_below k h) elsewhere, here))
 
     -- of the first k entries, those kept and the linear weights count what all of them counted
     same_to : (k : ℕ) → k ≤ entries F

@@ -97,7 +97,7 @@ module _ {u : ℕ} {F : Field} {s : List ℕ} (S : Shaped F) (w : WholeIn u F) (
         new_row F s t h,
         new_column F s t h,
         new_quad F s t h,
-        restrict_new s x (row_end F k) (row_free F s t h) (omega (arith, S.row-Below k (stood F s t h), start.long)),
+        restrict_new s x (row_end F k) (row_free F s t h) (omega (arith, S.row_below k (stood F s t h), start.long)),
         restrict_new s x (column_end F k) (column_free F s t h) (omega (arith, S.column_below k (stood F s t h), start.long)),
       )
 

@@ -67,7 +67,7 @@ pub free_end_below : {F : Field} → Shaped F → (s : List ℕ) (k : ℕ) → k
 free_end_below {F} S s k h = by (is_free s (row_end F k))
   where
     by : (b : Bool) → cond b (row_end F k) (column_end F k) < variables F
-    by true = S.row-Below k h
+    by true = S.row_below k h
     by false = S.column_below k h
 
 module _ {u : ℕ} {F : Field} {s : List ℕ} (S : Shaped F) (w : WholeIn u F) (start : StartFor (variables F) s) where

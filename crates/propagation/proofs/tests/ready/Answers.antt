@@ -23,8 +23,7 @@ pub returns-then-not-constraints_fit : goal.returns-then-not-constraints_fit
 unfolding propagation_tests
 returns-then-not-constraints_fit c =
     test_ok _ _ (sym c.few_variables.ensures ∙ c.if-not-few_variables.false) (test_ok _ _ (sym
-    c.start_fits.ensures ∙ c.if-not-start_fits.false) (test_no _ _ (sym c.constraints_fit.ensures ∙ not-true _
-    c.if-not-constraints_fit.true)))
+    c.start_fits.ensures ∙ c.if-not-start_fits.false) (test_no _ _ (sym c.constraints_fit.ensures ∙ c.if-not-constraints_fit.true)))
 
 pub words_fit-requires : goal.words_fit-requires
 unfolding few_variables
@@ -36,12 +35,10 @@ pub returns-then-not-words_fit : goal.returns-then-not-words_fit
 unfolding propagation_tests
 returns-then-not-words_fit c =
     test_ok _ _ (sym c.few_variables.ensures ∙ c.if-not-few_variables.false) (test_ok _ _ (sym
-    c.start_fits.ensures ∙ c.if-not-start_fits.false) (test_ok _ _ (sym c.constraints_fit.ensures ∙ not-false _
-    c.if-not-constraints_fit.false) (test_no _ _ (sym c.words_fit.ensures ∙ c.if-not-words_fit.true))))
+    c.start_fits.ensures ∙ c.if-not-start_fits.false) (test_ok _ _ (sym c.constraints_fit.ensures ∙ c.if-not-constraints_fit.false) (test_no _ _ (sym c.words_fit.ensures ∙ c.if-not-words_fit.true))))
 
 pub returns : goal.returns
 unfolding propagation_tests
 returns c =
     test_ok _ _ (sym c.few_variables.ensures ∙ c.if-not-few_variables.false) (test_ok _ _ (sym
-    c.start_fits.ensures ∙ c.if-not-start_fits.false) (test_ok _ _ (sym c.constraints_fit.ensures ∙ not-false _
-    c.if-not-constraints_fit.false) (test_ok _ _ (sym c.words_fit.ensures ∙ c.if-not-words_fit.false) none_left)))
+    c.start_fits.ensures ∙ c.if-not-start_fits.false) (test_ok _ _ (sym c.constraints_fit.ensures ∙ c.if-not-constraints_fit.false) (test_ok _ _ (sym c.words_fit.ensures ∙ c.if-not-words_fit.false) none_left)))

@@ -11,8 +11,3 @@ returns-then-self-2 c = simp (c.if-self.false, c.if-self-2.true)
 pub returns-then-self-4 : goal.returns-then-self-4
 returns-then-self-4 c = simp (c.if-self.false, c.if-self-2.false, c.if-self-3.true, c.if-self-4.true)
 
-pub returns : goal.returns
-returns c =
-    let one = c.if-self-2.false in
-    let zero = c.if-self.false in
-    ⊎_elim (λ w. simp (zero, one, w.0.taken, w.2.left)) (λ w. simp (zero, one, w.left)) c.if-self-3.branch

@@ -14,14 +14,6 @@ pub bounds-values-i : goal.bounds-values-i
 bounds-values-i c =
     omega (arith, ends_in c.requires.fillable _ c.requires.j_in_bounds.1, c.wide_short-i.ensures, c.wide_short-t.ensures)
 
-pub returns-then-i-j : goal.returns-then-i-j
-returns-then-i-j c =
-    let a = c.args in
-    held_stays _ a.values.now a.f.now a.j a.k a.row
-    c.wide_short-i.ensures c.wide_short-t.ensures c.half-coeff.ensures
-    c.requires.fillable c.requires.j_in_bounds.1 c.if-t-j.true (eqb-false _ _ (not-true _ c.if-i-j.true))
-    c.add_at.ensures c.add_term.ensures
-
 pub bounds-values-t-2 : goal.bounds-values-t-2
 bounds-values-t-2 c =
     omega (arith, ends_in c.requires.fillable _ c.requires.j_in_bounds.1, c.wide_short-i.ensures, c.wide_short-t.ensures)
@@ -45,3 +37,11 @@ returns c =
     held_moves _ a.values.now a.f.now a.j a.k a.row
     c.wide_short-i.ensures c.wide_short-t.ensures c.half-coeff.ensures
     c.put_row.ensures c.add_at-2.ensures c.row_at.ensures c.add_term-2.ensures
+
+pub returns-then-i-j : goal.returns-then-i-j
+returns-then-i-j c =
+    let a = c.args in
+    held_stays _ a.values.now a.f.now a.j a.k a.row
+    c.wide_short-i.ensures c.wide_short-t.ensures c.half-coeff.ensures
+    c.requires.fillable c.requires.j_in_bounds.1 c.if-t-j.true c.if-i-j.true
+    c.add_at.ensures c.add_term.ensures

@@ -25,7 +25,7 @@ returns-then-r-j c =
     let a = c.args in
     held_stays _ (set a.start.now a.i a.v) a.f.now a.j a.k a.row
     c.wide_short-r.ensures c.wide_short-t.ensures c.half-coeff.ensures
-    (fillable_set a.i a.v c.requires.fillable) c.requires.j_in_bounds.1 c.if-t-j.true (eqb-false _ _ (not-true _ c.if-r-j.true))
+    (fillable_set a.i a.v c.requires.fillable) c.requires.j_in_bounds.1 c.if-t-j.true c.if-r-j.true
     (c.add_at.ensures ∙ ap (add_at _ _ _ _) c.value_at.ensures) (c.add_term.ensures ∙ ap (add_term _ _) c.value_at-then-r-j.ensures)
 
 pub value_at-requires-2 : goal.value_at-requires-2

@@ -14,7 +14,7 @@ returns-then-start-j-ne2 c =
 
 pub overflow_cast-rows : goal.overflow_cast-rows
 overflow_cast-rows c =
-    omega (arith, stored_small c.requires.numbers c.wide_short-i.ensures c.requires.closable.row-Below)
+    omega (arith, stored_small c.requires.numbers c.wide_short-i.ensures c.requires.closable.row_below)
 
 pub overflow_cast-cols : goal.overflow_cast-cols
 overflow_cast-cols c =
@@ -23,5 +23,5 @@ overflow_cast-cols c =
 pub returns : goal.returns
 returns c =
     moves_up _ _ _ _ _ _ c.wide_short-i.ensures c.wide_short-j.ensures c.if-start-i-ne2.false c.if-start-j-ne2.false
-    (stored_new c.requires.numbers c.wide_short-i.ensures c.requires.closable.row-Below)
+    (stored_new c.requires.numbers c.wide_short-i.ensures c.requires.closable.row_below)
     (stored_new c.requires.numbers c.wide_short-j.ensures c.requires.closable.column_below)
