@@ -12,7 +12,7 @@ use borrow.Author.Tests.{eqb-true}
 use Rattle.whole.specs.Whole.{Whole, nothing, ◌⊕◌, only, sum, size, min0, max0, Zero, Under}
 use Rattle.whole.proofs.Sums.{only_under}
 use Rattle.weights.specs.Worth.{Worth, zero64}
-use Rattle.weights.proofs.Worth.{add_worth, times_worth, as_worth, zero_worth, eq_worth, magnitude_worth, above_zero, below_zero}
+use Rattle.weights.proofs.Worth.{add_worth, times_worth, as_worth, zero_worth, eq_worth, magnitude_worth, above_zero, below_zero as below_zero_lem}
 use Rattle.meaning.specs.Gradient.{share}
 use Rattle.meaning.specs.Pair.{merged, settled}
 use Rattle.meaning.proofs.Views.{share_under}
@@ -29,10 +29,10 @@ choice false p q = q tt
 
 module _ {u : ℕ} {x : Float} {a : Whole} (h : Worth u x a) where
   is_below : T (lt x zero64) → a.plus < a.less
-  is_below e = ltb→lt _ _ (subst T (below_zero h) e)
+  is_below e = ltb→lt _ _ (subst T (below_zero_lem h) e)
 
   not_below : T (not (lt x zero64)) → a.less ≤ a.plus
-  not_below e = nltb→le _ _ (subst (λ (i : Bool). T (not i)) (below_zero h) e)
+  not_below e = nltb→le _ _ (subst (λ (i : Bool). T (not i)) (below_zero_lem h) e)
 
   is_above : T (lt zero64 x) → a.less < a.plus
   is_above e = ltb→lt _ _ (subst T (above_zero h) e)

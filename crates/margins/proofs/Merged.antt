@@ -133,8 +133,8 @@ module _ (F : Field) (s : List ℕ) (R : Rows) (a b : ℕ) (row_i : Listed F s R
     finished p q = st.so_far ∙ sym (caught (variables F) st.top (omega arith) (λ r u t. absurd (omega arith)) (λ r u t. absurd (omega arith)))
 
     -- the three steps
-    step_i : w.left < R.end_i → ((p : ℕ) → w.right ≤ p → p < R.end_j → get_or R.keys w.left 0 < get_or R.keys p 0) → Stands (step_i R w) (suc (get_or R.keys w.left 0))
-    step_i h far =
+    step_i_lem : w.left < R.end_i → ((p : ℕ) → w.right ≤ p → p < R.end_j → get_or R.keys w.left 0 < get_or R.keys p 0) → Stands (step_i R w) (suc (get_or R.keys w.left 0))
+    step_i_lem h far =
         let l = w.left in
         let k = get_or R.keys l 0 in
         let u = st.at_i.next l (omega arith) h in
@@ -145,8 +145,8 @@ module _ (F : Field) (s : List ℕ) (R : Rows) (a b : ℕ) (row_i : Listed F s R
         advance k (l + 1) w.right _ _ u t (from_first row_i l K k st.at_i u h) (λ p b c. let r = far p b c in omega arith) f e (sym z)
         (steps row_i l K k st.at_i u h refl) (waits row_j w.right K k st.at_j u far)
 
-    step_j : w.right < R.end_j → ((p : ℕ) → w.left ≤ p → p < R.end_i → get_or R.keys w.right 0 < get_or R.keys p 0) → Stands (step_j R w) (suc (get_or R.keys w.right 0))
-    step_j h far =
+    step_j_lem : w.right < R.end_j → ((p : ℕ) → w.left ≤ p → p < R.end_i → get_or R.keys w.right 0 < get_or R.keys p 0) → Stands (step_j R w) (suc (get_or R.keys w.right 0))
+    step_j_lem h far =
         let l = w.right in
         let k = get_or R.keys l 0 in
         let u = st.at_j.next l (omega arith) h in
@@ -180,21 +180,21 @@ module _ (F : Field) (s : List ℕ) (R : Rows) (a b : ℕ) (row_i : Listed F s R
         go true true true d p q r t h =
             let g = ltb-true w.right R.end_j q in
             let m = ltb-true (get_or R.keys w.left 0) (get_or R.keys w.right 0) r in
-            (_, step_i (ltb-true w.left R.end_i p) (λ y b c. let z = from_first row_j w.right K K st.at_j (omega arith) g y b c in omega arith))
+            (_, step_i_lem (ltb-true w.left R.end_i p) (λ y b c. let z = from_first row_j w.right K K st.at_j (omega arith) g y b c in omega arith))
         go true true false true p q r t h =
             let g = ltb-true w.left R.end_i p in
             let m = ltb-true (get_or R.keys w.right 0) (get_or R.keys w.left 0) t in
-            (_, step_j (ltb-true w.right R.end_j q) (λ y b c. let z = from_first row_i w.left K K st.at_i (omega arith) g y b c in omega arith))
+            (_, step_j_lem (ltb-true w.right R.end_j q) (λ y b c. let z = from_first row_i w.left K K st.at_i (omega arith) g y b c in omega arith))
         go true true false false p q r t h =
             let m = ltb-false (get_or R.keys w.left 0) (get_or R.keys w.right 0) r in
             let n = ltb-false (get_or R.keys w.right 0) (get_or R.keys w.left 0) t in
             (_, step_both (ltb-true w.left R.end_i p) (ltb-true w.right R.end_j q) (omega arith))
         go true false c d p q r t h =
             let g = ltb-false w.right R.end_j q in
-            (_, step_i (ltb-true w.left R.end_i p) (λ y b c. absurd (omega arith)))
+            (_, step_i_lem (ltb-true w.left R.end_i p) (λ y b c. absurd (omega arith)))
         go false true c d p q r t h =
             let g = ltb-false w.left R.end_i p in
-            (_, step_j (ltb-true w.right R.end_j q) (λ y b c. absurd (omega arith)))
+            (_, step_j_lem (ltb-true w.right R.end_j q) (λ y b c. absurd (omega arith)))
         go false false c d p q r t h = absurd (true≢false (sym h))
 
     -- where the walk stops, its bounds say what all neighbours would

@@ -170,8 +170,8 @@ module _ {F : Field} {zeros : Bool} {marks₀ : List ℕ} {start : ℕ} {m : Lis
     all_going : {w : Search} (ks : List ℕ) → ((x : ℕ) → x < length ks → (get_or ks x 0 < length F.rows) × Touches F.rows F.cols i (get_or ks x 0))
         → Going F zeros marks₀ start m w → Going F zeros marks₀ start m (visit_all F zeros i w ks)
     unfolding visit_all
-    all_going [] at G = G
-    all_going {w} (k ∷ ks) at G = all_going ks (λ x h. at (suc x) (omega arith)) (at_cases F zeros i (Going F zeros marks₀ start m) w k (λ e.
+    all_going {w = w} [] at G = G
+    all_going {w = w} (k ∷ ks) at G = all_going {w = visit_at F zeros i w k} ks (λ x h. at (suc x) (omega arith)) (at_cases F zeros i (Going F zeros marks₀ start m) w k (λ e.
         let t = at 0 (omega arith) in
         visit_going G _ (λ o. there r (record { entry = k; below = omega (arith, t.0, S.rows_long); joining = e; ends = other_ends F.rows F.cols i k t.1 }) o)) G)
 

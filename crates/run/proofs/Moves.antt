@@ -36,16 +36,12 @@ use Rattle.run.proofs.Keeps.{unforced_stays}
 
 -- ---- a verdict that forces a value, or none
 
--- a tag that is none of three
-away : (n a b c : ℕ) → OneOf (a ∷ b ∷ c ∷ []) n → n ≢ a → n ≢ b → n ≢ c → ⊥
-away n a b c k x y z = ⊎_elim x (λ l. ⊎_elim y z l) k
-
--- its tag is neither that of open nor that of flat
-pub tag_forces : (v : Verdict) → OneOf (0 ∷ 1 ∷ 2 ∷ []) (tag_of the_type v) → OneOf (0 ∷ 1 ∷ 3 ∷ []) (tag_of the_type v) → is_forced v ≡ true
+-- a verdict that is neither open nor flat forces a value
+pub tag_forces : (v : Verdict) → (v ≡ Open → ⊥) → (v ≡ Flat → ⊥) → is_forced v ≡ true
 tag_forces (Zero b) j k = refl
 tag_forces (One b) j k = refl
-tag_forces Flat j k = absurd (away 2 0 1 3 k (λ e. omega (arith, e)) (λ e. omega (arith, e)) (λ e. omega (arith, e)))
-tag_forces Open j k = absurd (away 3 0 1 2 j (λ e. omega (arith, e)) (λ e. omega (arith, e)) (λ e. omega (arith, e)))
+tag_forces Flat j k = absurd (k refl)
+tag_forces Open j k = absurd (j refl)
 
 -- it forces 0 or 1, and settles as that value
 forced_small : (v : Verdict) → is_forced v ≡ true → value_of v < 2

@@ -24,15 +24,12 @@ pub search-requires : goal.search-requires
 search-requires c =
     let admitted = c.requires.admitted in
     let built = c.build.ensures in
-    let both = let begun = c.begin.ensures in (
-      record {
+    let begun = c.begin.ensures in
+    record { standing = record {
         placed = begun_placed admitted.shaped built.adjacent (omega (arith, admitted.words_room, admitted.shaped.rows_long, built.long)) begun;
         start_long = admitted.start.long;
         floats_room = omega (arith, admitted.floats_room);
-      },
-      (begun.marks, c.requires.grade_value),
-    ) in
-    record { standing = both.0; u_value = both.1.0; grade_value = both.1.1 }
+      }; u_value = begun.marks; grade_value = c.requires.grade_value }
 
 pub shape_of-list : goal.shape_of-list
 shape_of-list c = c.search.auto.list

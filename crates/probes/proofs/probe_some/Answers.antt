@@ -23,12 +23,9 @@ settle-requires c =
     let a = c.args in
     let F = field_of a.c.now a.rows.now a.cols.now a.q.now in
     let p = c.prepare-known in
-    let both = let h = c.choose-count in (
-      chosen_standing F a.start.now a.candidates p.new.f h.new.f
-          p.new.u h.new.u h.ensures c.requires.ready p.ensures.remembers p.auto.u,
-      p.ensures.values_value,
-    ) in
-    record { standing = both.0; values_value = both.1 }
+    let h = c.choose-count in
+    record { standing = chosen_standing F a.start.now a.candidates p.new.f h.new.f
+          p.new.u h.new.u h.ensures c.requires.ready p.ensures.remembers p.auto.u; values_value = p.ensures.values_value }
 
 pub returns : goal.returns
 returns c =

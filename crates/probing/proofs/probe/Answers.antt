@@ -10,7 +10,9 @@ bounds-values-variable c =
     let pre = c.requires in omega (arith, probed_below pre.remembers _ 0 pre.variable_value (omega arith), pre.remembers.start.long)
 
 pub renew-requires : goal.renew-requires
-renew-requires c = let pre = c.requires in      record { placed = placed_with pre.remembers _ _ pre.variable_value pre.value_bound; standard = pre.remembers.standard; i_bound = probed_below pre.remembers _ _ pre.variable_value pre.value_bound; grade_value = pre.remembers.graded }
+renew-requires c =
+    let pre = c.requires in
+    record { placed = placed_with pre.remembers _ _ pre.variable_value pre.value_bound; standard = pre.remembers.standard; i_bound = probed_below pre.remembers _ _ pre.variable_value pre.value_bound; grade_value = pre.remembers.graded }
 
 pub scan_some-tail-requires : goal.scan_some-tail-requires
 scan_some-tail-requires c =

@@ -22,11 +22,8 @@ pub scan_from-forced-requires : goal.scan_from-forced-requires
 scan_from-forced-requires c =
     let ready = c.requires in
     let built = c.build.ensures in
-    let both = let filled = c.fill.ensures in (
-      placed_start ready.shaped ready.values_long (omega (arith, ready.floats_room, filled.long)) built.adjacent (omega (arith, ready.words_room, built.long)),
-      first_passing _ _ c.first-from.ensures,
-    ) in
-    record { placed = both.0; passing = both.1 }
+    let filled = c.fill.ensures in
+    record { placed = placed_start ready.shaped ready.values_long (omega (arith, ready.floats_room, filled.long)) built.adjacent (omega (arith, ready.words_room, built.long)); passing = first_passing _ _ c.first-from.ensures }
 
 pub work-requires : goal.work-requires
 work-requires c = c.scan_from-forced.ensures.kept.placed

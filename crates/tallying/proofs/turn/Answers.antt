@@ -10,7 +10,9 @@ pub slice_bounds-end-end-then-n-eq0 : goal.slice_bounds-end-end-then-n-eq0
 slice_bounds-end-end-then-n-eq0 c = sym (length-take-le _ c.args.buffer.now (omega (arith, c.requires.n_in_bounds)))
 
 pub returns-then-n-eq0 : goal.returns-then-n-eq0
-returns-then-n-eq0 c = let a = c.args in      record { turns = turn_end a.most a.t a.buffer.now a.held a.n c.requires.n_in_bounds c.if-n-eq0.true c.end.ensures.value; goes = goes_end a.most a.t a.buffer.now a.held a.n c.requires.n_in_bounds c.if-n-eq0.true c.end.ensures.value c.end.ensures.small_2 }
+returns-then-n-eq0 c =
+    let a = c.args in
+    record { turns = turn_end a.most a.t a.buffer.now a.held a.n c.requires.n_in_bounds c.if-n-eq0.true c.end.ensures.value; goes = goes_end a.most a.t a.buffer.now a.held a.n c.requires.n_in_bounds c.if-n-eq0.true c.end.ensures.value c.end.ensures.small_2 }
 
 pub returns-then-size-buffer : goal.returns-then-size-buffer
 returns-then-size-buffer c =
@@ -21,16 +23,15 @@ pub slice_bounds-take_fields-end-2 : goal.slice_bounds-take_fields-end-2
 slice_bounds-take_fields-end-2 c = sym (length-take-le _ c.args.buffer.now (omega (arith, c.requires.n_in_bounds)))
 
 pub move_front-requires : goal.move_front-requires
-move_front-requires c = let a = c.args in      record { at_le_held = taken_inside a.most a.t a.buffer.now a.held a.n c.requires.n_in_bounds (omega (arith, c.if-n-eq0.false)) (omega (arith, c.if-size-buffer.false)) c.take_fields-taken.ensures c.in-On.is; held_in_bounds = omega (arith, c.requires.n_in_bounds) }
+move_front-requires c =
+    let a = c.args in
+    record { at_le_held = taken_inside a.most a.t a.buffer.now a.held a.n c.requires.n_in_bounds (omega (arith, c.if-n-eq0.false)) (omega (arith, c.if-size-buffer.false)) c.take_fields-taken.ensures c.in-On.is; held_in_bounds = omega (arith, c.requires.n_in_bounds) }
 
 pub returns-in-On : goal.returns-in-On
 returns-in-On c =
     let a = c.args in
-    let both = let moved = c.move_front.ensures in (
-      turn_on a.most a.t a.buffer.now a.held a.n c.requires.n_in_bounds (omega (arith, c.if-n-eq0.false)) (omega (arith, c.if-size-buffer.false)) c.take_fields-taken.ensures c.in-On.is moved.value moved.buffer_value,
-      goes_on a.most a.t a.buffer.now a.held a.n c.requires.n_in_bounds (omega (arith, c.if-n-eq0.false)) (omega (arith, c.if-size-buffer.false)) c.take_fields-taken.ensures c.in-On.is c.requires.longest_input_in_bounds moved.value,
-    ) in
-    record { turns = both.0; goes = both.1 }
+    let moved = c.move_front.ensures in
+    record { turns = turn_on a.most a.t a.buffer.now a.held a.n c.requires.n_in_bounds (omega (arith, c.if-n-eq0.false)) (omega (arith, c.if-size-buffer.false)) c.take_fields-taken.ensures c.in-On.is moved.value moved.buffer_value; goes = goes_on a.most a.t a.buffer.now a.held a.n c.requires.n_in_bounds (omega (arith, c.if-n-eq0.false)) (omega (arith, c.if-size-buffer.false)) c.take_fields-taken.ensures c.in-On.is c.requires.longest_input_in_bounds moved.value }
 
 pub returns-in-Over : goal.returns-in-Over
 returns-in-Over c =

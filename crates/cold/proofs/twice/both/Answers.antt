@@ -17,12 +17,9 @@ pub probe_afresh-requires-2 : goal.probe_afresh-requires-2
 probe_afresh-requires-2 c =
     let probed = c.probe_afresh in
     let v_long = probed.auto.values ∙ c.requires.afresh.values_long in
-    let both = let laid = c.lay in (
-      afresh_again c.requires.afresh c.requires.variable_bound c.requires.end_for probed.ensures.values_value v_long probed.ensures.behind
-          laid.ensures probed.auto.values probed.auto.f,
-      c.requires.variable_bound,
-    ) in
-    record { afresh = both.0; variable_bound = both.1 }
+    let laid = c.lay in
+    record { afresh = afresh_again c.requires.afresh c.requires.variable_bound c.requires.end_for probed.ensures.values_value v_long probed.ensures.behind
+          laid.ensures probed.auto.values probed.auto.f; variable_bound = c.requires.variable_bound }
 
 pub pass-requires : goal.pass-requires
 pass-requires c =
@@ -40,10 +37,7 @@ returns c =
     let laid = c.lay in
     let again = c.probe_afresh-2 in
     let w-long = again.auto.values ∙ v_long in
-    let both = let passed = c.pass.ensures in (
-      both_adds c.requires.afresh c.requires.variable_bound c.requires.end_for probed.ensures.values_value v_long probed.ensures.behind
-          laid.ensures again.ensures.values_value w-long again.ensures.behind passed,
-      both_places c.requires.afresh c.requires.variable_bound c.requires.end_for probed.ensures.values_value v_long probed.ensures.behind
-          laid.ensures again.ensures.values_value w-long again.ensures.behind passed,
-    ) in
-    record { adds = both.0; adjacent = both.1 }
+    let passed = c.pass.ensures in
+    record { adds = both_adds c.requires.afresh c.requires.variable_bound c.requires.end_for probed.ensures.values_value v_long probed.ensures.behind
+          laid.ensures again.ensures.values_value w-long again.ensures.behind passed; adjacent = both_places c.requires.afresh c.requires.variable_bound c.requires.end_for probed.ensures.values_value v_long probed.ensures.behind
+          laid.ensures again.ensures.values_value w-long again.ensures.behind passed }

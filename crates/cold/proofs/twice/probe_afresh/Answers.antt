@@ -20,8 +20,5 @@ pub returns : goal.returns
 returns c =
     let assumed = c.assume.ensures in
     let filled = c.fill.ensures in
-    let both = let ran = c.propagate.ensures in (
-      probe_values c.requires.afresh c.args.variable c.args.value assumed refl filled ran,
-      probe_behind c.requires.afresh c.args.variable c.args.value assumed refl filled ran,
-    ) in
-    record { values_value = both.0; behind = both.1 }
+    let ran = c.propagate.ensures in
+    record { values_value = probe_values c.requires.afresh c.args.variable c.args.value assumed refl filled ran; behind = probe_behind c.requires.afresh c.args.variable c.args.value assumed refl filled ran }

@@ -18,7 +18,9 @@ pub loop-k-init : goal.loop-k-init
 loop-k-init c = turns_start _ _ _ _ _ _ c.next_entry-k.ensures
 
 pub turn_at-requires : goal.turn_at-requires
-turn_at-requires c = let shaped = c.requires.recorded.sound.shaped in      record { recorded = record { sound = c.requires.recorded.sound; long = omega (arith, turns_long _ _ _ _ _ _ c.loop-k.invariant shaped, c.requires.recorded.long) }; k_bound = omega (arith, c.loop-k-test.true, shaped.rows_long); k_value = c.loop-k.invariant.found c.loop-k-test.true }
+turn_at-requires c =
+    let shaped = c.requires.recorded.sound.shaped in
+    record { recorded = record { sound = c.requires.recorded.sound; long = omega (arith, turns_long _ _ _ _ _ _ c.loop-k.invariant shaped, c.requires.recorded.long) }; k_bound = omega (arith, c.loop-k-test.true, shaped.rows_long); k_value = c.loop-k.invariant.found c.loop-k-test.true }
 
 pub overflow_add-k : goal.overflow_add-k
 overflow_add-k c = omega (arith, c.loop-k-test.true)

@@ -18,4 +18,6 @@ slice_bounds-put_entries-end-3 c =
     sym (length-take-le c.args.m c.args.q.now (omega arith))
 
 pub put_entries-closed-requires : goal.put_entries-closed-requires
-put_entries-closed-requires c = let r = length-take-le c.args.m c.args.rows.now (omega arith) in      record { rows_in_bounds = omega (arith, r, length-take-le c.args.m c.args.cols.now (omega arith)); rows_in_bounds_2 = omega (arith, r, length-take-le c.args.m c.args.q.now (omega arith)) }
+put_entries-closed-requires c =
+    let r = length-take-le c.args.m c.args.rows.now (omega arith) in
+    record { rows_in_bounds = omega (arith, r, length-take-le c.args.m c.args.cols.now (omega arith)); rows_in_bounds_2 = omega (arith, r, length-take-le c.args.m c.args.q.now (omega arith)) }

@@ -53,7 +53,9 @@ diff_key-b-requires c =     let both = omega (arith, c.requires.prepared.laid.sh
     record { i_bound = both.0; j_bound = both.1 }
 
 pub append-requires : goal.append-requires
-append-requires c = let few = c.requires.prepared.laid.shaped.few_variables in      record { at_bound = c.requires.at_bound; key_bound = pair_below c.args.i c.args.j (omega (arith, few, c.requires.i_bound)) (omega (arith, few, c.requires.i_bound)) _ _ c.sum_key-a.ensures
+append-requires c =
+    let few = c.requires.prepared.laid.shaped.few_variables in
+    record { at_bound = c.requires.at_bound; key_bound = pair_below c.args.i c.args.j (omega (arith, few, c.requires.i_bound)) (omega (arith, few, c.requires.i_bound)) _ _ c.sum_key-a.ensures
           c.diff_key-b.ensures }
 
 pub returns : goal.returns

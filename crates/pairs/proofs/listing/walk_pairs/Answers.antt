@@ -56,22 +56,13 @@ append_pair-items-requires c =
     let t = sym c.is_left.ensures ∙ c.loop-x-test.true in
     let r = walking_reads v c.requires.freed.many t in
     let a = free_in c.requires.freed r.0 c.wide_word-i.ensures in
-    let both = let b = free_in c.requires.freed r.1.0 c.wide_word-j.ensures in (
-      c.requires.prepared,
-      (
-        (omega (arith, a.0, c.requires.prepared.laid.values.long), omega (arith, b.0, c.requires.prepared.laid.values.long)),
-        (
-          (a.1, b.1),
-          omega (
+    let b = free_in c.requires.freed r.1.0 c.wide_word-j.ensures in
+    record { prepared = c.requires.prepared; i_bound = (omega (arith, a.0, c.requires.prepared.laid.values.long), omega (arith, b.0, c.requires.prepared.laid.values.long)); i_value = (a.1, b.1); at_bound = omega (
             arith,
             walking_few v,
             left_pairs v c.requires.freed.many t,
             c.capped-most.ensures,
-          ),
-        ),
-      ),
-    ) in
-    record { prepared = both.0; i_bound = both.1.0; i_value = both.1.1.0; at_bound = both.1.1.1 }
+          ) }
 
 pub overflow_add-pairs : goal.overflow_add-pairs
 overflow_add-pairs c =

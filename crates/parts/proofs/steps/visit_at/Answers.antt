@@ -4,12 +4,12 @@ use Rattle.parts.proofs.Moves.{passes_by, visits_end}
 use borrow.Author.Rules.{rules}
 use Rattle.parts.proofs.steps.visit_at.Goals as goal
 
+pub visit-requires : goal.visit-requires
+visit-requires c =     record { placed = c.requires.placed; j_bound = other_end_below c.requires.placed.shaped _ c.requires.k_bound c.requires.j_value }
+
 pub returns-then-not-joins_by : goal.returns-then-not-joins_by
 returns-then-not-joins_by c =
     passes_by c.requires.placed _ c.requires.k_bound c.args.zeros c.joins_by.ensures c.if-not-joins_by.true
-
-pub visit-requires : goal.visit-requires
-visit-requires c =     record { placed = c.requires.placed; j_bound = other_end_below c.requires.placed.shaped _ c.requires.k_bound c.requires.j_value }
 
 pub returns : goal.returns
 returns c =

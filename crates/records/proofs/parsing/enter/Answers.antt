@@ -4,7 +4,9 @@ use borrow.Author.Rules.{rules}
 use Rattle.records.proofs.parsing.enter.Goals as goal
 
 pub returns-then-m-ge1024 : goal.returns-then-m-ge1024
-returns-then-m-ge1024 c = let no = le-ltb _ _ c.if-m-ge1024.true in      record { value = simp no; rows_value = simp no; cols_value = simp no; q_value = simp no }
+returns-then-m-ge1024 c = let no = le-ltb _ _ c.if-m-ge1024.true in
+    record { value = simp no; rows_value = simp no; cols_value = simp no; q_value = simp no }
 
 pub returns : goal.returns
-returns c = let yes = lt-ltb _ _ c.if-m-ge1024.false in      record { value = simp yes; rows_value = simp yes; cols_value = simp yes; q_value = simp yes }
+returns c = let yes = lt-ltb _ _ c.if-m-ge1024.false in
+    record { value = simp yes; rows_value = simp yes; cols_value = simp yes; q_value = simp yes }

@@ -4,7 +4,8 @@ use borrow.Author.Rules.{rules}
 use Rattle.records.proofs.parsing.give.Goals as goal
 
 pub returns-then-v-n : goal.returns-then-v-n
-returns-then-v-n c = let no = not_declared _ c.args.value _ c.args.start.now c.if-v-n.true in      record { value = simp no; start_value = simp no }
+returns-then-v-n c = let no = not_declared _ c.args.value _ c.args.start.now c.if-v-n.true in
+    record { value = simp no; start_value = simp no }
 
 pub returns-then-start-v-ne2 : goal.returns-then-start-v-ne2
 returns-then-start-v-ne2 c =

@@ -23,5 +23,5 @@ settle-requires c =     let both = settle_room c.requires.placed c.requires.i_bo
 
 pub returns : goal.returns
 returns c =
-    scan_forced c.requires.placed c.requires.i_bound c.if-values-i-ne2.false c.row_at.ensures c.conclude-found.ensures (tag_forces c.conclude-found.result.verdict c.in-Open.keys2 c.in-Flat.keys2)
+    scan_forced c.requires.placed c.requires.i_bound c.if-values-i-ne2.false c.row_at.ensures c.conclude-found.ensures (tag_forces c.conclude-found.result.verdict c.in_default.not-Open c.in_default-verdict.not-Flat)
     c.settle.ensures

@@ -40,5 +40,5 @@ settle-requires c =     let both = settle_room c.requires.placed (other_end_belo
 pub returns : goal.returns
 returns c =
     serve_forced c.requires.placed _ c.requires.k_bound c.requires.t_value _ c.if-values-t-ne2.false c.half-coeff.ensures c.move_row.ensures.value
-    c.move_row.ensures.f_value c.conclude-found.ensures (tag_forces c.conclude-found.result.verdict c.in-Open.keys2 c.in-Flat.keys2)
+    c.move_row.ensures.f_value c.conclude-found.ensures (tag_forces c.conclude-found.result.verdict c.in_default.not-Open c.in_default-verdict.not-Flat)
     c.settle.ensures

@@ -5,13 +5,15 @@ use borrow.Author.Rules.{rules}
 use Rattle.single.proofs.making.make.Goals as goal
 
 pub add_columns-requires : goal.add_columns-requires
-add_columns-requires c = let w = c.begin.ensures in      record { fillable = ready_after c.requires w; by_index = w.rows }
+add_columns-requires c = let w = c.begin.ensures in
+    record { fillable = ready_after c.requires w; by_index = w.rows }
 
 pub returns-then-q-c : goal.returns-then-q-c
 returns-then-q-c c = written_over c.begin.ensures c.add_columns.ensures
 
 pub add_entries-requires : goal.add_entries-requires
-add_entries-requires c = let w = c.begin.ensures in      record { fillable = ready_after c.requires w; by_index = w.rows }
+add_entries-requires c = let w = c.begin.ensures in
+    record { fillable = ready_after c.requires w; by_index = w.rows }
 
 pub returns : goal.returns
 returns c = written_over c.begin.ensures c.add_entries.ensures
