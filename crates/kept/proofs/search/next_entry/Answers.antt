@@ -9,10 +9,6 @@ use Rattle.kept.proofs.Entries.{skip_one, next_found, next_none}
 use borrow.Author.Rules.{rules}
 use Rattle.kept.proofs.search.next_entry.Goals as goal
 
-pub skip-k-requires : goal.skip-k-requires
-skip-k-requires c =     let both = c.requires in
-    record { rows_len = both.0; rows_len_bound = both.1.0; from_in_bounds = both.1.1 }
-
 pub loop-k-init : goal.loop-k-init
 loop-k-init c = c.skip-k.ensures
 

@@ -12,9 +12,5 @@ bounds-values-i c = omega (arith, c.requires.i_bound, c.requires.sound.start.lon
 pub returns-then-value-ne2 : goal.returns-then-value-ne2
 returns-then-value-ne2 c = c.start.ensures ∙ sym (stored_fixed _ c.if-value-ne2.true)
 
-pub own_row-requires : goal.own_row-requires
-own_row-requires c =     let both = c.requires in
-    record { sound = both.0; i_bound = both.1 }
-
 pub returns : goal.returns
 returns c = c.plain.ensures ∙ ap plain c.own_row.ensures ∙ sym (stored_free _ c.if-value-ne2.false)

@@ -38,19 +38,11 @@ overflow_cast-i c = omega (arith, c.requires.prepared.laid.shaped.few_variables,
 pub overflow_cast-j : goal.overflow_cast-j
 overflow_cast-j c = omega (arith, c.requires.prepared.laid.shaped.few_variables, c.requires.i_bound)
 
-pub sum_key-a-requires : goal.sum_key-a-requires
-sum_key-a-requires c =     let both = omega (arith, c.requires.prepared.laid.shaped.few_variables, c.requires.i_bound) in
-    record { i_bound = both.0; j_bound = both.1 }
-
 pub overflow_cast-i-2 : goal.overflow_cast-i-2
 overflow_cast-i-2 c = omega (arith, c.requires.prepared.laid.shaped.few_variables, c.requires.i_bound)
 
 pub overflow_cast-j-2 : goal.overflow_cast-j-2
 overflow_cast-j-2 c = omega (arith, c.requires.prepared.laid.shaped.few_variables, c.requires.i_bound)
-
-pub diff_key-b-requires : goal.diff_key-b-requires
-diff_key-b-requires c =     let both = omega (arith, c.requires.prepared.laid.shaped.few_variables, c.requires.i_bound) in
-    record { i_bound = both.0; j_bound = both.1 }
 
 pub append-requires : goal.append-requires
 append-requires c =
