@@ -2,11 +2,11 @@
 use Prim.Native.Nat.{ℕ, zero, suc, ◌+◌, ◌*◌, ◌<◌, ◌≤◌}
 use mathlib.Core.Path.{◌≡◌, refl, sym, ap, ◌∙◌}
 use mathlib.Core.List.Memᴰ
-use mathlib.Core.List.{List, [], ◌∷◌, ◌++◌, map, append_assoc, map-append}
+use mathlib.Core.List.{List, [], ◌∷◌, ◌++◌, map, append_assoc}
 use native.Mathlib.Omega.{arith}
 use native.Mathlib.Numerals.{add-one}
-use lib.ListN.{length, get_or, take, drop, take-append-drop}
-use lib.Seq.{slice, slice_empty, slice-cons, length-take-le, take-suc, take-take, take_at, drop_at, drop-append-le, take-set-le, sets-eq}
+use lib.ListN.{length, take, drop, take-append-drop}
+use lib.Seq.{slice, slice_empty, length-take-le, take-suc, take-take, take_at, drop_at, take-set-le, sets-eq}
 use Rattle.meaning.specs.Records.{Record, record_on}
 use Rattle.meaning.specs.Rising.{merged_list}
 use Rattle.meaning.proofs.Bans.{bans_right}

@@ -9,7 +9,7 @@ use native.Mathlib.Numerals.{add-one}
 use native.Mathlib.Omega.{arith}
 use lib.ListN.{length, get_or, set, length-set}
 use lib.Seq.{slice, slice_empty, take-set-le, get_or-set_same, get_or-set_other}
-use Rattle.meaning.specs.Records.{Record, AllProper}
+use Rattle.meaning.specs.Records.{Record}
 use Rattle.meaning.specs.Rising.{merged_list}
 use Rattle.constraints.specs.Record.{room}
 use Rattle.constraints.specs.Keys.{key_of, unkey, Small}

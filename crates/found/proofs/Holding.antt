@@ -6,8 +6,8 @@ use mathlib.Core.List.Memᴰ
 use mathlib.Core.List.{List, [], map, ◌++◌, Memᴰ}
 use native.Mathlib.Nat.{div-mul-le_self}
 use native.Mathlib.Omega.{arith}
-use lib.ListN.{length, get_or, drop}
-use lib.Seq.{slice, length-slice, drop-append-add, drop-drop}
+use lib.ListN.{length, drop}
+use lib.Seq.{slice, drop-append-add, drop-drop}
 use Rattle.scratch.specs.Over.{over}
 use Rattle.meaning.specs.Records.{Record, AllProper}
 use Rattle.meaning.specs.Rising.{merged_list}

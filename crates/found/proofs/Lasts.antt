@@ -10,8 +10,8 @@ use lib.ListN.{get_or}
 use lib.Seq.{slice}
 use Rattle.meaning.specs.Records.{Record, AllProper, SameBans}
 use Rattle.meaning.specs.Rising.{Before, Rising}
-use Rattle.meaning.proofs.Bans.{same_refl, same_sym, same_trans, same_both}
-use Rattle.meaning.proofs.Pairs.{pair_refl, pair_sym, before_as}
+use Rattle.meaning.proofs.Bans.{same_refl, same_trans, same_both}
+use Rattle.meaning.proofs.Pairs.{pair_refl, before_as}
 use Rattle.meaning.proofs.Rising.{rising_last}
 use Rattle.constraints.specs.Record.{record_at}
 use Rattle.constraints.specs.Keys.{key_of, unkey, Small, Key}

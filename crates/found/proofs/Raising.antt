@@ -1,10 +1,10 @@
 -- A block moved up in a list, one element at a time from its end. Assumes nothing.
 use Prim.Native.Nat.{ℕ, suc, ◌+◌, ◌-◌, ◌<◌, ◌≤◌}
-use mathlib.Core.Path.{◌≡◌, refl, sym, ap, ◌∙◌}
+use mathlib.Core.Path.{◌≡◌, sym, ap, ◌∙◌}
 use mathlib.Core.List.{List, [], ◌∷◌, ◌++◌, append_assoc, append-nil}
 use native.Mathlib.Omega.{arith}
 use lib.ListN.{length, get_or, set, take, drop, length-append, length-drop, take-append-drop, get_or-append}
-use lib.Seq.{slice, slice_empty, slice-cons, length-slice, length-take-le, take-suc, take-take, take_at, drop_at, set-append_left, set_at, append_snoc, get_or-take}
+use lib.Seq.{slice, slice_empty, slice-cons, length-slice, length-take-le, take-suc, take-take, set_at, append_snoc, get_or-take}
 use Rattle.found.specs.Blocks.{raised}
 
 -- how far the block is moved: from is where what is left to move ends, and to is where it is to end

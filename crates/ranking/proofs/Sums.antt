@@ -85,10 +85,10 @@ module _ (F : Field) (s : List ℕ) (w : List Float) (k : ℕ) {i j : ℕ} (e : 
       let m = ne_eqb (get_or s j 0) 2 l in
       rw (rw e at g, rw f at m)
 
-  pub both_free : {a : Float} {w₁ w₂ : List Float} → get_or s i 0 ≡ 2 → get_or s j 0 ≡ 2 → a ≡ magnitude (quad_of F k)
+  pub both_free_lem : {a : Float} {w₁ w₂ : List Float} → get_or s i 0 ≡ 2 → get_or s j 0 ≡ 2 → a ≡ magnitude (quad_of F k)
       → w₁ ≡ added w i a → w₂ ≡ added w₁ j a → w₂ ≡ add_entry F s w k
   unfolding add_entry
-  both_free h l p q r =
+  both_free_lem h l p q r =
       let g = eq-eqb (get_or s i 0) 2 h in
       let m = eq-eqb (get_or s j 0) 2 l in
       r ∙ rw (rw e at g, rw f at m, q, p, e, f)

@@ -147,8 +147,8 @@ module _ (start values : List ℕ) (i : ℕ) where
   pub still_free : get_or start i 0 ≡ 2 → get_or values i 0 ≡ 2 → forced_at start values i ≡ []
   still_free h k = simp (eq-eqb (get_or start i 0) 2 h, eq-eqb (get_or values i 0) 2 k)
 
-  pub is_forced : get_or start i 0 ≡ 2 → (get_or values i 0 ≡ 2 → ⊥) → forced_at start values i ≡ i ∷ []
-  is_forced h k = simp (eq-eqb (get_or start i 0) 2 h, ne_eqb (get_or values i 0) 2 k)
+  pub is_forced_lem : get_or start i 0 ≡ 2 → (get_or values i 0 ≡ 2 → ⊥) → forced_at start values i ≡ i ∷ []
+  is_forced_lem h k = simp (eq-eqb (get_or start i 0) 2 h, ne_eqb (get_or values i 0) 2 k)
 
   one_at_most : length (forced_at start values i) ≤ 1
   one_at_most = go (is_forced start values i)

@@ -1,10 +1,9 @@
 -- `flush` merges the distinct words. Assumes nothing.
 use Rattle.found.proofs.Settled.{flush_climbed, flush_is}
-use borrow.Author.Rules.{rules}
 use Rattle.found.proofs.flush.Goals as goal
 
 pub merge-requires : goal.merge-requires
-merge-requires c =     record { held = c.requires.held; climbed = flush_climbed c.requires.keys c.distinct-end.ensures.value c.distinct-end.ensures.u_value }
+merge-requires c = record { held = c.requires.held; climbed = flush_climbed c.requires.keys c.distinct-end.ensures.value c.distinct-end.ensures.u_value }
 
 pub returns : goal.returns
 returns c =

@@ -1,7 +1,6 @@
 -- `grade_first` lends the front of the lists. Assumes nothing.
 use mathlib.Core.Path.{sym}
 use lib.Seq.{length-take-le}
-use borrow.Author.Rules.{rules}
 use Rattle.mend.proofs.grade_first.Goals as goal
 
 pub slice_bounds-graded-end : goal.slice_bounds-graded-end

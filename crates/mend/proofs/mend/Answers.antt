@@ -2,7 +2,6 @@
 use mathlib.Core.Path.{refl, sym, ◌∙◌}
 use Rattle.field.specs.Field.{field_of}
 use Rattle.mend.proofs.Laws.{mend_passes, mendable_roomy, writable, refused_call, room_call, done_call, front_loose, front_within, front_graded}
-use borrow.Author.Rules.{rules}
 use Rattle.mend.proofs.mend.Goals as goal
 
 pub returns-in-Failed : goal.returns-in-Failed

@@ -1,10 +1,8 @@
 -- `sum_tests` makes tests 1, 2, 5 and 18. Assumes nothing.
 use mathlib.Core.Path.{sym, ◌∙◌}
-use borrow.Author.Tests.{not-true, not-false}
 use Rattle.field.proofs.Table.{test_no, test_ok, none_left}
 use Rattle.mend.specs.Call.{sum_tests}
 use Rattle.mend.proofs.Laws.{listed_is}
-use borrow.Author.Rules.{rules}
 use Rattle.mend.proofs.sum_tests.Goals as goal
 
 pub returns-then-not-few_variables : goal.returns-then-not-few_variables

@@ -1,11 +1,9 @@
 -- `tests` makes these, then 8. Assumes nothing.
 use mathlib.Core.Path.{sym, ◌∙◌}
 use native.Mathlib.Omega.{arith}
-use borrow.Author.Tests.{not-true, not-false}
 use Rattle.field.proofs.Table.{test_no, test_ok, none_left, group_no, group_ok}
 use Rattle.mend.specs.Call.{mend_tests}
 use Rattle.mend.proofs.Laws.{sum_passes}
-use borrow.Author.Rules.{rules}
 use Rattle.mend.proofs.tests.Goals as goal
 
 pub returns-in-Failed : goal.returns-in-Failed

@@ -1,6 +1,5 @@
 -- `work` sorts, gathers and counts. Assumes nothing.
 use Rattle.mend.proofs.Laws.{works}
-use borrow.Author.Rules.{rules}
 use Rattle.mend.proofs.work.Goals as goal
 
 pub returns : goal.returns

@@ -1,6 +1,5 @@
 -- `write` writes the report, clears the lists and writes the entries. Assumes nothing.
 use Rattle.mend.proofs.Laws.{reportable, returnable, written}
-use borrow.Author.Rules.{rules}
 use Rattle.mend.proofs.write.Goals as goal
 
 pub put-requires : goal.put-requires

@@ -1,9 +1,7 @@
 -- `put_bytes` writes one byte a turn. Assumes nothing.
 use Prim.Native.Nat.{◌-◌}
-use native.Mathlib.Omega.{arith}
 use lib.ListN.{length}
-use Rattle.text.proofs.Writes.{Putting, put_start, put_turn, put_done}
-use borrow.Author.Rules.{rules}
+use Rattle.text.proofs.Writes.{Putting}
 use Rattle.text.proofs.put_bytes.Given as goal
 
 abbrev pub invariant-loop-i : goal.invariant-loop-i

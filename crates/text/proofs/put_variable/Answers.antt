@@ -1,6 +1,5 @@
 -- `put_variable` writes a line where the variable is forced. Assumes nothing.
-use Rattle.text.proofs.Writes.{not_free, still_free, is_forced, shows_none, shows_one}
-use borrow.Author.Rules.{rules}
+use Rattle.text.proofs.Writes.{not_free, still_free, is_forced_lem, shows_none, shows_one}
 use Rattle.text.proofs.put_variable.Goals as goal
 
 pub returns-then-start-i-ne2 : goal.returns-then-start-i-ne2
@@ -17,5 +16,5 @@ returns-then-value-eq2 c =
 pub returns : goal.returns
 returns c =
     let a = c.args in
-    shows_one a.start.now a.values.now a.i (is_forced a.start.now a.values.now a.i c.if-start-i-ne2.false c.if-value-eq2.false)
+    shows_one a.start.now a.values.now a.i (is_forced_lem a.start.now a.values.now a.i c.if-start-i-ne2.false c.if-value-eq2.false)
     c.put_forced-at.ensures.wrote c.put_forced-at.ensures.upper_bound

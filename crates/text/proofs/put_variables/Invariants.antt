@@ -1,9 +1,7 @@
 -- `put_variables` goes through one variable a turn. Assumes nothing.
 use Prim.Native.Nat.{◌-◌}
-use native.Mathlib.Omega.{arith}
 use lib.ListN.{length}
-use Rattle.text.proofs.Writes.{Showing, show_start, show_turn, show_done}
-use borrow.Author.Rules.{rules}
+use Rattle.text.proofs.Writes.{Showing}
 use Rattle.text.proofs.put_variables.Given as goal
 
 abbrev pub invariant-loop-i : goal.invariant-loop-i

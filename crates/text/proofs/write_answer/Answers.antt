@@ -2,23 +2,27 @@
 use native.Mathlib.Omega.{arith}
 use lib.ListN.{length}
 use Rattle.text.proofs.Writes.{forced_few, answer_written}
-use borrow.Author.Rules.{rules}
 use Rattle.text.proofs.write_answer.Goals as goal
 
 pub put_end-requires : goal.put_end-requires
 put_end-requires c =
     let a = c.args in
-    let both = omega (
-      arith,
-      forced_few a.start.now a.values.now (length a.start.now),
-      c.put_variables-shown.ensures.counted,
-      c.put_variables-shown.ensures.short,
-      c.put_variables-shown.auto.out,
-      c.put_grade-first.ensures.upper_bound,
-      c.put_grade-first.auto.out,
-      c.requires,
-    ) in
-    record { count_bound = both.0; at_in_bounds = both.1 }
+    record {
+      count_bound = omega (
+        arith,
+        forced_few a.start.now a.values.now (length a.start.now),
+        c.put_variables-shown.ensures.counted,
+        c.requires,
+      );
+      at_in_bounds = omega (
+        arith,
+        c.put_variables-shown.ensures.short,
+        c.put_variables-shown.auto.out,
+        c.put_grade-first.ensures.upper_bound,
+        c.put_grade-first.auto.out,
+        c.requires,
+      );
+    }
 
 pub returns : goal.returns
 returns c =

@@ -2,7 +2,6 @@
 use native.Mathlib.Omega.{arith}
 use Rattle.text.specs.Text.{refused_text}
 use Rattle.text.proofs.Writes.{wrote_then, written}
-use borrow.Author.Rules.{rules}
 use Rattle.text.proofs.write_refused.Goals as goal
 
 pub returns : goal.returns

@@ -1,7 +1,5 @@
 -- `move_up` moves one element a turn, from the block's end. Assumes nothing.
-use mathlib.Core.Path.{refl}
-use native.Mathlib.Omega.{arith}
-use Rattle.found.proofs.Raising.{Raising, raised_none, raising_start, raising_long, raising_done, raising_turn}
+use Rattle.found.proofs.Raising.{Raising}
 use Rattle.found.proofs.blocks.move_up.Given as goal
 
 abbrev pub invariant-loop-from : goal.invariant-loop-from

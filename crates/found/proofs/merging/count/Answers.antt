@@ -3,7 +3,7 @@ use native.Mathlib.Nat.{div-mul-le_self}
 use native.Mathlib.Omega.{arith}
 use lib.ListN.{length}
 use Rattle.found.proofs.Fronts.{held_fewer, climbed_fewer}
-use Rattle.found.proofs.Loops.{Counting, counting_start, counting_turn, counting_done}
+use Rattle.found.proofs.Loops.{counting_start, counting_turn, counting_done}
 use Rattle.found.proofs.merging.count.Goals as goal
 
 pub loop-keys-init : goal.loop-keys-init
@@ -26,11 +26,13 @@ pub take_last-taken-requires : goal.take_last-taken-requires
 take_last-taken-requires c =
     let l = c.loop-keys in
     let a = c.args in
-    let both = let place = c.gallop-p in (
-      held_fewer place.result a.held a.list.now (omega (arith, place.ensures.within, l.invariant.few)) c.requires.held,
-      (climbed_fewer a.lo l.keys a.hi a.u.now l.invariant.low l.invariant.high c.requires.climbed, (c.loop-keys-test.true, place.ensures.below)),
-    ) in
-    record { held = both.0; climbed = both.1.0; lo_lt_keys = both.1.1.0; none_above = both.1.1.1 }
+    let place = c.gallop-p in
+    record {
+      held = held_fewer place.result a.held a.list.now (omega (arith, place.ensures.within, l.invariant.few)) c.requires.held;
+      climbed = climbed_fewer a.lo l.keys a.hi a.u.now l.invariant.low l.invariant.high c.requires.climbed;
+      lo_lt_keys = c.loop-keys-test.true;
+      none_above = place.ensures.below;
+    }
 
 pub overflow_sub-n : goal.overflow_sub-n
 overflow_sub-n c = omega (arith, c.gallop-p.ensures.within)

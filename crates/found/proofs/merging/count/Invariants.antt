@@ -1,9 +1,5 @@
 -- `count` takes a block and a word a turn, until no word is left. Assumes nothing.
-use native.Mathlib.Nat.{div-mul-le_self}
-use native.Mathlib.Omega.{arith}
-use lib.ListN.{length}
-use Rattle.found.proofs.Fronts.{held_fewer, climbed_fewer}
-use Rattle.found.proofs.Loops.{Counting, counting_start, counting_turn, counting_done}
+use Rattle.found.proofs.Loops.{Counting}
 use Rattle.found.proofs.merging.count.Given as goal
 
 abbrev pub invariant-loop-keys : goal.invariant-loop-keys

@@ -1,11 +1,6 @@
 -- `gallop` doubles its steps until one record is not above, and searches behind that. Assumes nothing.
-use Prim.Native.Nat.{◌-◌, ◌<◌}
-use native.Mathlib.Nat.{div-mul-le_self}
-use native.Mathlib.Omega.{arith}
-use lib.ListN.{length}
+use Prim.Native.Nat.{◌<◌}
 use Rattle.found.specs.Joint.{Between}
-use Rattle.found.proofs.Fronts.{held_fewer}
-use Rattle.found.proofs.Searching.{small_at, room_at, between_start, between_first, between_all, between_raise, between_lower}
 use Rattle.found.proofs.merging.gallop.Given as goal
 
 abbrev pub invariant-loop-step : goal.invariant-loop-step

@@ -1,7 +1,7 @@
 -- `lay` moves the block above the last word up, and puts the word in front of it. Assumes nothing.
 use native.Mathlib.Omega.{arith}
 use Rattle.found.proofs.Fronts.{held_fewer, climbed_fewer}
-use Rattle.found.proofs.Loops.{Laying, laying_start, laying_held, laying_done, laying_moves, laying_less, laying_spot, laying_step}
+use Rattle.found.proofs.Loops.{laying_start, laying_held, laying_done, laying_moves, laying_less, laying_spot, laying_step}
 use Rattle.found.proofs.merging.lay.Goals as goal
 
 pub loop-keys-init : goal.loop-keys-init
@@ -25,11 +25,13 @@ pub take_last-taken-requires : goal.take_last-taken-requires
 take_last-taken-requires c =
     let l = c.loop-keys in
     let a = c.args in
-    let both = let place = c.gallop-p in (
-      held_fewer place.result l.items l.list place.ensures.within (laying_held l.invariant c.requires.held),
-      (climbed_fewer a.lo l.keys a.hi a.u.now l.invariant.low l.invariant.high c.requires.climbed, (c.loop-keys-test.true, place.ensures.below)),
-    ) in
-    record { held = both.0; climbed = both.1.0; lo_lt_keys = both.1.1.0; none_above = both.1.1.1 }
+    let place = c.gallop-p in
+    record {
+      held = held_fewer place.result l.items l.list place.ensures.within (laying_held l.invariant c.requires.held);
+      climbed = climbed_fewer a.lo l.keys a.hi a.u.now l.invariant.low l.invariant.high c.requires.climbed;
+      lo_lt_keys = c.loop-keys-test.true;
+      none_above = place.ensures.below;
+    }
 
 pub overflow_mul-p : goal.overflow_mul-p
 overflow_mul-p c =
@@ -68,7 +70,7 @@ overflow_sub-n-in-loop-keys c =
     let at-loop = c.loop-keys in
     let test = c.loop-keys-test.true in
     let pre = c.requires in
-    laying_less at-loop.invariant pre.held pre.climbed pre.total_value pre.total_bound (test) at-gallop.ensures at-move-up.ensures at-take-last.ensures
+    laying_less at-loop.invariant pre.held pre.climbed pre.total_value pre.total_bound test at-gallop.ensures at-move-up.ensures at-take-last.ensures
 
 pub put_key-requires : goal.put_key-requires
 put_key-requires c =
@@ -77,11 +79,11 @@ put_key-requires c =
     let at-gallop = c.gallop-p in
     let at-loop = c.loop-keys in
     let test = c.loop-keys-test.true in
-    let both = let pre = c.requires in (
-      laying_spot at-loop.invariant pre.held pre.climbed pre.total_value pre.total_bound (test) at-gallop.ensures at-move-up.ensures at-take-last.ensures,
-      at-take-last.ensures.small,
-    ) in
-    record { at_in_bounds = both.0; key_bound = both.1 }
+    let pre = c.requires in
+    record {
+      at_in_bounds = laying_spot at-loop.invariant pre.held pre.climbed pre.total_value pre.total_bound test at-gallop.ensures at-move-up.ensures at-take-last.ensures;
+      key_bound = at-take-last.ensures.small;
+    }
 
 pub overflow_sub-keys-in-loop-keys : goal.overflow_sub-keys-in-loop-keys
 overflow_sub-keys-in-loop-keys c = omega (arith, c.loop-keys-test.true)
@@ -97,7 +99,7 @@ loop-keys-preserved c =
     let at-loop = c.loop-keys in
     let test = c.loop-keys-test.true in
     let pre = c.requires in
-    laying_step at-loop.invariant pre.held pre.climbed pre.total_value pre.total_bound (test) at-gallop.ensures at-move-up.ensures at-take-last.ensures c.put_key.ensures
+    laying_step at-loop.invariant pre.held pre.climbed pre.total_value pre.total_bound test at-gallop.ensures at-move-up.ensures at-take-last.ensures c.put_key.ensures
 
 pub shape_of-list : goal.shape_of-list
 shape_of-list c = c.loop-keys.invariant.long

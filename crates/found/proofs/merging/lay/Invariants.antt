@@ -1,7 +1,5 @@
 -- `lay` moves the block above the last word up, and puts the word in front of it. Assumes nothing.
-use native.Mathlib.Omega.{arith}
-use Rattle.found.proofs.Fronts.{held_fewer, climbed_fewer}
-use Rattle.found.proofs.Loops.{Laying, laying_start, laying_held, laying_done, laying_moves, laying_less, laying_spot, laying_step}
+use Rattle.found.proofs.Loops.{Laying}
 use Rattle.found.proofs.merging.lay.Given as goal
 
 abbrev pub invariant-loop-keys : goal.invariant-loop-keys

@@ -1,7 +1,6 @@
 -- `merge` lays both lists where there is room for them. Assumes nothing.
 use Rattle.found.specs.Joint.{joint}
 use Rattle.found.proofs.Settled.{settled_full, settled_holds}
-use borrow.Author.Rules.{rules}
 use Rattle.found.proofs.merging.merge.Goals as goal
 
 pub returns-then-total-list : goal.returns-then-total-list

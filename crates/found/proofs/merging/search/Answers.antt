@@ -3,7 +3,6 @@ use Prim.Native.Nat.{◌+◌, ◌-◌, ◌/◌}
 use native.Mathlib.Nat.{div-mul-le_self}
 use native.Mathlib.Omega.{arith}
 use lib.ListN.{length}
-use Rattle.found.specs.Joint.{Between}
 use Rattle.found.proofs.Searching.{small_at, room_at, between_raise, between_lower, between_done, half_less}
 use Rattle.found.proofs.merging.search.Goals as goal
 

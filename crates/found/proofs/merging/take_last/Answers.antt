@@ -21,7 +21,7 @@ pub overflow_sub-last : goal.overflow_sub-last
 overflow_sub-last c = omega (arith, c.if-items-eq0.false)
 
 pub key_at-x-requires : goal.key_at-x-requires
-key_at-x-requires c = let a = c.args in      record { t_in_bounds = (has_room a.list.now (a.items - 1)).0 (omega (arith, c.if-items-eq0.false, c.requires.held.fits)); small = item_small a.items a.list.now c.requires.held (omega (arith, c.if-items-eq0.false)) }
+key_at-x-requires c = let a = c.args in record { t_in_bounds = (has_room a.list.now (a.items - 1)).0 (omega (arith, c.if-items-eq0.false, c.requires.held.fits)); small = item_small a.items a.list.now c.requires.held (omega (arith, c.if-items-eq0.false)) }
 
 pub returns-then-x-y : goal.returns-then-x-y
 returns-then-x-y c =

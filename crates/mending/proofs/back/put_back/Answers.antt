@@ -1,8 +1,6 @@
 -- `put_back` writes one entry a turn. Assumes nothing.
-use Prim.Native.Nat.{◌-◌}
 use native.Mathlib.Omega.{arith}
-use Rattle.mending.proofs.Returning.{some_variable, row_narrow, column_narrow, Returning, returning_start, returning_turn, returning_done}
-use borrow.Author.Rules.{rules}
+use Rattle.mending.proofs.Returning.{row_narrow, column_narrow, returning_start, returning_turn, returning_done}
 use Rattle.mending.proofs.back.put_back.Goals as goal
 
 pub loop-t-init : goal.loop-t-init

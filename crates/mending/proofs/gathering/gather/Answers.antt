@@ -1,9 +1,6 @@
 -- `gather` takes one entry a turn. Assumes nothing.
-use Prim.Native.Nat.{◌-◌}
 use native.Mathlib.Omega.{arith}
-use Rattle.field.specs.Field.{field_of}
-use Rattle.mending.proofs.Passes.{Passing, passing_start, passing_ready, passing_turn, passing_done}
-use borrow.Author.Rules.{rules}
+use Rattle.mending.proofs.Passes.{passing_start, passing_ready, passing_turn, passing_done}
 use Rattle.mending.proofs.gathering.gather.Goals as goal
 
 pub loop-t-init : goal.loop-t-init

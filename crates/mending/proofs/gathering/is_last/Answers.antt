@@ -1,7 +1,6 @@
 -- `is_last` reads the last place. Assumes nothing.
 use native.Mathlib.Omega.{arith}
 use Rattle.mending.proofs.Passes.{none_last, last_word}
-use borrow.Author.Rules.{rules}
 use Rattle.mending.proofs.gathering.is_last.Goals as goal
 
 pub returns-then-o-eq0 : goal.returns-then-o-eq0

@@ -4,11 +4,10 @@ use native.Mathlib.Omega.{arith}
 use lib.ListN.{length-set}
 use Rattle.mending.proofs.Entries.{square_few}
 use Rattle.mending.proofs.Passes.{some_last, drops, joins, opens}
-use borrow.Author.Rules.{rules}
 use Rattle.mending.proofs.gathering.take_entry.Goals as goal
 
 pub place_at-p-requires : goal.place_at-p-requires
-place_at-p-requires c =     record { listed = c.requires.listed; k_bound = c.requires.entry }
+place_at-p-requires c = record { listed = c.requires.listed; k_bound = c.requires.entry }
 
 pub overflow_mul-c : goal.overflow_mul-c
 overflow_mul-c c = omega (arith, square_few _ c.requires.listed.few_variables)

@@ -1,7 +1,6 @@
 -- `place_at` tests the row, then the column. Assumes nothing.
 use native.Mathlib.Omega.{arith}
 use Rattle.mending.proofs.Entries.{square_few, place_inside, row_outside, column_outside, inside_at}
-use borrow.Author.Rules.{rules}
 use Rattle.mending.proofs.places.place_at.Goals as goal
 
 pub overflow_mul-result : goal.overflow_mul-result

@@ -1,10 +1,7 @@
 -- `count` counts one entry a turn. Assumes nothing.
 use Prim.Native.Nat.{◌-◌, ◌≤◌}
 use mathlib.Core.Path.{◌≡◌}
-use native.Mathlib.Omega.{arith}
 use Rattle.mending.specs.Report.{count_to}
-use Rattle.mending.proofs.Told.{count_start, count_turn, count_done}
-use borrow.Author.Rules.{rules}
 use Rattle.mending.proofs.report.count.Given as goal
 
 abbrev pub invariant-loop-k : goal.invariant-loop-k

@@ -1,9 +1,6 @@
 -- `put` writes the change of one entry a turn. Assumes nothing.
 use Prim.Native.Nat.{◌-◌}
-use mathlib.Core.Path.{refl}
-use native.Mathlib.Omega.{arith}
-use Rattle.mending.proofs.Told.{Telling, telling_start, telling_ready, telling_turn, telling_done}
-use borrow.Author.Rules.{rules}
+use Rattle.mending.proofs.Told.{Telling}
 use Rattle.mending.proofs.report.put.Given as goal
 
 abbrev pub invariant-loop-k : goal.invariant-loop-k

@@ -2,7 +2,6 @@
 use native.Mathlib.Omega.{arith}
 use lib.ListN.{length-set}
 use Rattle.mending.proofs.Told.{puts_none, puts_one, put_room}
-use borrow.Author.Rules.{rules}
 use Rattle.mending.proofs.report.put_change.Goals as goal
 
 pub overflow_add-k : goal.overflow_add-k

@@ -1,10 +1,6 @@
 -- `all_small` tests one weight a turn. Assumes nothing.
-use Prim.Native.Nat.{◌-◌}
 use mathlib.Core.Path.{ap}
-use lib.ListN.{length, get_or}
-use lib.Ieee.{Float, nan, le, nan_bits}
-use Rattle.weights.specs.Worth.{magnitude}
-use Rattle.scratch.specs.All.{Testing}
+use lib.Ieee.{Float, le, nan_bits}
 use Rattle.scratch.proofs.All.{testing_start, testing_turn, testing_done}
 use Rattle.mending.specs.Sums.{limit64, all_small}
 use borrow.Author.Rules.{rules}

@@ -1,21 +1,14 @@
 -- `each_finite` tests one entry a turn. Assumes nothing.
-use Prim.Native.Nat.{◌-◌}
 use mathlib.Core.Path.{sym, ◌∙◌}
 use native.Mathlib.Omega.{arith}
-use lib.ListN.{length}
-use Rattle.scratch.specs.All.{Passing}
 use Rattle.scratch.proofs.All.{all_start, all_turn, all_stop, all_done}
-use Rattle.field.specs.Field.{field_of}
-use Rattle.mending.specs.Sums.{finite_at}
-use borrow.Author.Tests.{not-true, not-false}
-use borrow.Author.Rules.{rules}
 use Rattle.mending.proofs.sums.each_finite.Goals as goal
 
 pub loop-k-init : goal.loop-k-init
 loop-k-init c = all_start _ _
 
 pub finite_at-requires : goal.finite_at-requires
-finite_at-requires c =     record { listed = c.requires; k_bound = c.loop-k-test.true }
+finite_at-requires c = record { listed = c.requires; k_bound = c.loop-k-test.true }
 
 pub returns-then-not-finite_at : goal.returns-then-not-finite_at
 returns-then-not-finite_at c = all_stop _ _ c.loop-k-test.true (sym c.finite_at.ensures ∙ c.if-not-finite_at.true)

@@ -1,14 +1,9 @@
 -- `each_finite` tests one entry a turn. Assumes nothing.
 use Prim.Native.Nat.{◌-◌}
-use mathlib.Core.Path.{sym, ◌∙◌}
-use native.Mathlib.Omega.{arith}
 use lib.ListN.{length}
 use Rattle.scratch.specs.All.{Passing}
-use Rattle.scratch.proofs.All.{all_start, all_turn, all_stop, all_done}
 use Rattle.field.specs.Field.{field_of}
 use Rattle.mending.specs.Sums.{finite_at}
-use borrow.Author.Tests.{not-true, not-false}
-use borrow.Author.Rules.{rules}
 use Rattle.mending.proofs.sums.each_finite.Given as goal
 
 abbrev pub invariant-loop-k : goal.invariant-loop-k

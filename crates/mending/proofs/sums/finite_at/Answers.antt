@@ -4,11 +4,10 @@ use native.Mathlib.Omega.{arith}
 use lib.Ieee.Scale.{finite}
 use Rattle.mending.proofs.Entries.{square_few}
 use Rattle.mending.proofs.Tested.{outside_finite, inside_finite}
-use borrow.Author.Rules.{rules}
 use Rattle.mending.proofs.sums.finite_at.Goals as goal
 
 pub place_at-p-requires : goal.place_at-p-requires
-place_at-p-requires c =     record { listed = c.requires.listed; k_bound = c.requires.k_bound }
+place_at-p-requires c = record { listed = c.requires.listed; k_bound = c.requires.k_bound }
 
 pub overflow_mul-c : goal.overflow_mul-c
 overflow_mul-c c = omega (arith, square_few _ c.requires.listed.few_variables)

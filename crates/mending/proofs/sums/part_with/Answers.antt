@@ -1,11 +1,10 @@
 -- `part_with` takes the entry at the place. Assumes nothing.
 use mathlib.Core.Path.{sym, ◌∙◌}
 use Rattle.mending.proofs.Tested.{part_other, part_more, part_first}
-use borrow.Author.Rules.{rules}
 use Rattle.mending.proofs.sums.part_with.Goals as goal
 
 pub place_at-requires : goal.place_at-requires
-place_at-requires c =     record { listed = c.requires.listed; k_bound = c.requires.k_bound }
+place_at-requires c = record { listed = c.requires.listed; k_bound = c.requires.k_bound }
 
 pub returns-then-place_at-p : goal.returns-then-place_at-p
 returns-then-place_at-p c = part_other _ _ _ _ (λ e. c.if-place_at-p.true (c.place_at.ensures ∙ e))

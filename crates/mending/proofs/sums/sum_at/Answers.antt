@@ -1,18 +1,14 @@
 -- `sum_at` takes one entry a turn. Assumes nothing.
-use Prim.Native.Nat.{◌-◌, ◌≤◌}
-use mathlib.Core.Path.{◌≡◌, refl}
+use mathlib.Core.Path.{refl}
 use native.Mathlib.Omega.{arith}
-use lib.ListN.{length}
-use Rattle.field.specs.Field.{field_of}
-use Rattle.mending.proofs.Tested.{part_to, part_start, part_turn, part_done}
-use borrow.Author.Rules.{rules}
+use Rattle.mending.proofs.Tested.{part_start, part_turn, part_done}
 use Rattle.mending.proofs.sums.sum_at.Goals as goal
 
 pub loop-k-init : goal.loop-k-init
 loop-k-init c = (omega arith, part_start _ _ refl)
 
 pub part_with-part-requires : goal.part_with-part-requires
-part_with-part-requires c =     record { listed = c.requires; k_bound = c.loop-k-test.true }
+part_with-part-requires c = record { listed = c.requires; k_bound = c.loop-k-test.true }
 
 pub loop-k-preserved : goal.loop-k-preserved
 loop-k-preserved c = (omega arith, part_turn _ _ _ c.loop-k.invariant.1 c.part_with-part.ensures)

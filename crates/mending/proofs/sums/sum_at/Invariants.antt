@@ -1,11 +1,9 @@
 -- `sum_at` takes one entry a turn. Assumes nothing.
-use Prim.Native.Nat.{◌-◌, ◌≤◌}
-use mathlib.Core.Path.{◌≡◌, refl}
-use native.Mathlib.Omega.{arith}
+use Prim.Native.Nat.{◌≤◌}
+use mathlib.Core.Path.{◌≡◌}
 use lib.ListN.{length}
 use Rattle.field.specs.Field.{field_of}
-use Rattle.mending.proofs.Tested.{part_to, part_start, part_turn, part_done}
-use borrow.Author.Rules.{rules}
+use Rattle.mending.proofs.Tested.{part_to}
 use Rattle.mending.proofs.sums.sum_at.Given as goal
 
 abbrev pub invariant-loop-k : goal.invariant-loop-k

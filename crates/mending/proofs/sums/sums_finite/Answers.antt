@@ -1,7 +1,6 @@
 -- `sums_finite` asks entry by entry where a weight is not small. Assumes nothing.
 use mathlib.Core.Path.{sym, ◌∙◌}
 use Rattle.mending.proofs.Tested.{each_is, small_is}
-use borrow.Author.Rules.{rules}
 use Rattle.mending.proofs.sums.sums_finite.Goals as goal
 
 pub returns-then-all_small : goal.returns-then-all_small

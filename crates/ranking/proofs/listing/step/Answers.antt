@@ -6,8 +6,8 @@ use Rattle.ranking.proofs.listing.step.Goals as goal
 
 pub returns-then-value-eq2 : goal.returns-then-value-eq2
 unfolding step_of
-returns-then-value-eq2 c =     record { value = rw (eq-eqb _ 2 c.if-value-eq2.true); upper_bound = omega arith }
+returns-then-value-eq2 c = record { value = rw (eq-eqb _ 2 c.if-value-eq2.true); upper_bound = omega arith }
 
 pub returns-else-value-eq2 : goal.returns-else-value-eq2
 unfolding step_of
-returns-else-value-eq2 c =     record { value = rw (ne_eqb _ 2 c.if-value-eq2.false); upper_bound = omega arith }
+returns-else-value-eq2 c = record { value = rw (ne_eqb _ 2 c.if-value-eq2.false); upper_bound = omega arith }

@@ -1,7 +1,6 @@
 -- `add_entry` adds at both ends where both are free. Assumes nothing.
 use native.Mathlib.Omega.{arith}
-use Rattle.ranking.proofs.Sums.{ends_in, row_fixed, column_fixed, both_free}
-use borrow.Author.Rules.{rules}
+use Rattle.ranking.proofs.Sums.{ends_in, row_fixed, column_fixed, both_free_lem}
 use Rattle.ranking.proofs.masses.add_entry.Goals as goal
 
 pub bounds-start-i : goal.bounds-start-i
@@ -29,5 +28,5 @@ add_at-requires-2 c =
 
 pub returns : goal.returns
 returns c =
-    both_free _ _ _ _ c.wide_short-i.ensures c.wide_short-j.ensures c.if-start-i-ne2.false c.if-start-j-ne2.false
+    both_free_lem _ _ _ _ c.wide_short-i.ensures c.wide_short-j.ensures c.if-start-i-ne2.false c.if-start-j-ne2.false
     c.magnitude-a.ensures c.add_at.ensures c.add_at-2.ensures

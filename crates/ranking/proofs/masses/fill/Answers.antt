@@ -1,8 +1,7 @@
 -- `fill` clears the masses and adds every entry. Assumes nothing.
 use Rattle.ranking.proofs.Sums.{fill_ready}
-use borrow.Author.Rules.{rules}
 use Rattle.ranking.proofs.masses.fill.Goals as goal
 
 pub add_entries-requires : goal.add_entries-requires
-add_entries-requires c =     let both = fill_ready c.requires c.clear_floats.ensures in
+add_entries-requires c = let both = fill_ready c.requires c.clear_floats.ensures in
     record { massable = both.0; w_value = both.1 }
