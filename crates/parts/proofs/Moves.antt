@@ -110,10 +110,10 @@ module _ {F : Field} {s : Cells} (P : Placed F s) {j : ℕ} (hj : j < variables 
 
 module _ {F : Field} {s : Cells} (P : Placed F s) (i : ℕ) {k : ℕ} (hk : k < entries F) where
   module _ (zeros : Bool) {b : Bool} (eb : b ≡ joins_by zeros (quad_of F k)) where
-    pub passes_by : not b ≡ true → Does F (λ w. visit_at F zeros i w k) s s
+    pub passes_by : b ≡ false → Does F (λ w. visit_at F zeros i w k) s s
     unfolding visit_at
-    passes_by e = does_same P (rw (sym eb ∙ not-true b e))
+    passes_by e = does_same P (rw (sym eb ∙ e))
 
-    pub visits_end : {j : ℕ} {s' : Cells} → not b ≡ false → j ≡ other_end F.rows F.cols i k → Does F (λ w. visit w j) s s' → Does F (λ w. visit_at F zeros i w k) s s'
+    pub visits_end : {j : ℕ} {s' : Cells} → b ≡ true → j ≡ other_end F.rows F.cols i k → Does F (λ w. visit w j) s s' → Does F (λ w. visit_at F zeros i w k) s s'
     unfolding visit_at
-    visits_end e ej D = does_as (λ w. visit_at F zeros i w k) D (rw (← ej, sym eb ∙ not-false b e))
+    visits_end e ej D = does_as (λ w. visit_at F zeros i w k) D (rw (← ej, sym eb ∙ e))
