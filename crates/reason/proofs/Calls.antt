@@ -83,10 +83,10 @@ module _ {F : Field} (shaped : Shaped F) {s : List ℕ} (start : StartFor (varia
   marks_list = ap (λ (n : ℕ). threes (marks_of F (basis F s i) i) n) marks_long
       ∙ threes_listed (marks_of F (basis F s i) i) F (basis F s i) i (marks_listed shaped (basis_start F start i) i) (variables F)
 
-  pub free_told : (k : ℕ) (list : List ℕ) {s' : List ℕ} {g : Ground} {values : List ℕ} {x : Told} → s' ≡ s → g ≡ ground_of k (judge_of (row_of F (basis F s' i) i)) → values ≡ marks_of F (basis F s' i) i
+  pub free_told_lem : (k : ℕ) (list : List ℕ) {s' : List ℕ} {g : Ground} {values : List ℕ} {x : Told} → s' ≡ s → g ≡ ground_of k (judge_of (row_of F (basis F s' i) i)) → values ≡ marks_of F (basis F s' i) i
       → x ≡ with_list g k (threes values (length values)) list → x ≡ free_told F s i k list
   unfolding free_told
-  free_told k list es eg ev p = p ∙ rw (eg, ev, es, marks_list) refl
+  free_told_lem k list es eg ev p = p ∙ rw (eg, ev, es, marks_list) refl
 
 -- ---- answer
 

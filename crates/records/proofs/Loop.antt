@@ -37,8 +37,8 @@ pub nothing_within : Within nothing
 nothing_within = record { start = refl; rows = refl; cols = refl; few_variables = omega arith; few_entries = omega arith }
 
 module _ (s : List ℕ) (at : ℕ) {t : Told} (w : Within t) where
-  with_weight : (x : Float) → may_declare (length t.linear) ≡ true → Within (with_weight x t)
-  with_weight x e = let few : length t.linear < 256 = ltb-true (length t.linear) 256 e in record {
+  with_weight_lem : (x : Float) → may_declare (length t.linear) ≡ true → Within (with_weight x t)
+  with_weight_lem x e = let few : length t.linear < 256 = ltb-true (length t.linear) 256 e in record {
     start = omega (arith, length-append t.start (2 ∷ []), length-append t.linear (x ∷ []), w.start);
     rows = w.rows;
     cols = w.cols;
@@ -46,8 +46,8 @@ module _ (s : List ℕ) (at : ℕ) {t : Told} (w : Within t) where
     few_entries = w.few_entries;
   }
 
-  with_entry : (row col : ℕ) (x : Float) → may_enter (length t.quad) ≡ true → Within (with_entry row col x t)
-  with_entry row col x e = let few : length t.quad < 1024 = ltb-true (length t.quad) 1024 e in record {
+  with_entry_lem : (row col : ℕ) (x : Float) → may_enter (length t.quad) ≡ true → Within (with_entry row col x t)
+  with_entry_lem row col x e = let few : length t.quad < 1024 = ltb-true (length t.quad) 1024 e in record {
     start = w.start;
     rows = omega (arith, length-append t.rows (row ∷ []), length-append t.quad (x ∷ []), w.rows);
     cols = omega (arith, length-append t.cols (col ∷ []), length-append t.quad (x ∷ []), w.cols);
@@ -55,8 +55,8 @@ module _ (s : List ℕ) (at : ℕ) {t : Told} (w : Within t) where
     few_entries = omega (arith, length-append t.quad (x ∷ []));
   }
 
-  with_given : (v b : ℕ) → Within (with_given v b t)
-  with_given v b = record {
+  with_given_lem : (v b : ℕ) → Within (with_given v b t)
+  with_given_lem v b = record {
     start = length-set t.start v b ∙ w.start;
     rows = w.rows;
     cols = w.cols;
@@ -72,18 +72,18 @@ module _ (s : List ℕ) (at : ℕ) {t : Told} (w : Within t) where
   forward (weight h m) e =
       let x = float_at s (at + 2) in
       let on = went_on (with_weight x t) t (at + 10) (may_declare (length t.linear)) e in
-      moved (omega arith) h (with_weight x on.0) on.1 on.2
+      moved (omega arith) h (with_weight_lem x on.0) on.1 on.2
   forward (entry h m) e =
       let row = number_at 2 s (at + 2) in
       let col = number_at 2 s (at + 4) in
       let x = float_at s (at + 6) in
       let on = went_on (with_entry row col x t) t (at + 14) (may_enter (length t.quad)) e in
-      moved (omega arith) h (with_entry row col x on.0) on.1 on.2
+      moved (omega arith) h (with_entry_lem row col x on.0) on.1 on.2
   forward (given h m) e =
       let v = number_at 2 s (at + 2) in
       let b = get_or s (at + 4) 0 in
       let on = went_on (with_given v b t) t (at + 5) (may_give v b (length t.linear) t.start) e in
-      moved (omega arith) h (with_given v b) on.1 on.2
+      moved (omega arith) h (with_given_lem v b) on.1 on.2
   forward (end h m) e = let z : ◌≡◌ {A = ℕ} 0 1 = cc in absurd (omega arith)
   forward malformed e = let z : ◌≡◌ {A = ℕ} 0 1 = cc in absurd (omega arith)
 

@@ -108,7 +108,7 @@ complete (next {t} {u} {i} {is} f r) s at (suc k) rest e h l =
     let some = spelled_long i in
     ap (λ (x : Record). following (read_from k s) (taken x t)) (read_item s at (spelled is ++ rest) t i f split)
     ∙ ap (following (read_from k s)) (taken_item (at + length (spell i)) t i f)
-    ∙ complete r s (at + length (spell i)) k rest behind (omega arith) (omega arith)
+    ∙ complete {items = is} {t = tells i t} r s (at + length (spell i)) k rest behind (omega arith) (omega arith)
 
 -- ---- what is read was spelled
 

@@ -59,8 +59,8 @@ module _ (v b n : ℕ) (start : List ℕ) where
   pub above_one : v < n → get_or start v 0 ≡ 2 → 1 < b → may_give v b n start ≡ false
   above_one h k l = let no : 2 ≤ b = omega arith in simp (lt-ltb v n h, eq-eqb (get_or start v 0) 2 k, le-ltb b 2 no)
 
-  pub may_give : v < n → get_or start v 0 ≡ 2 → b ≤ 1 → may_give v b n start ≡ true
-  may_give h k l = let yes : b < 2 = omega arith in simp (lt-ltb v n h, eq-eqb (get_or start v 0) 2 k, lt-ltb b 2 yes)
+  pub may_give_lem : v < n → get_or start v 0 ≡ 2 → b ≤ 1 → may_give v b n start ≡ true
+  may_give_lem h k l = let yes : b < 2 = omega arith in simp (lt-ltb v n h, eq-eqb (get_or start v 0) 2 k, lt-ltb b 2 yes)
 
 pub note_malformed : (t : Tally) {found : Record} {p : Told} → found ≡ Malformed → noted (Stop Refused) p ≡ note found t p
 unfolding note

@@ -1,5 +1,5 @@
 -- `give` stores where each of its three tests passes. Assumes nothing.
-use Rattle.records.proofs.Notes.{not_declared, given_before, above_one, may_give}
+use Rattle.records.proofs.Notes.{not_declared, given_before, above_one, may_give_lem}
 use borrow.Author.Rules.{rules}
 use Rattle.records.proofs.parsing.give.Goals as goal
 
@@ -19,5 +19,5 @@ returns-then-value-gt1 c =
 
 pub returns : goal.returns
 returns c =
-    let yes = may_give _ _ _ c.args.start.now c.if-v-n.false c.if-start-v-ne2.false c.if-value-gt1.false in
+    let yes = may_give_lem _ _ _ c.args.start.now c.if-v-n.false c.if-start-v-ne2.false c.if-value-gt1.false in
     record { value = simp yes; start_value = simp yes }
