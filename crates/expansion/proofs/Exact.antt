@@ -12,7 +12,7 @@ use lib.Ieee.{Float, nan, inf, fin, binary64, add, sub, lt, eq, ne, fits}
 use lib.Ieee.Bits.{is_true}
 use lib.Ieee.Fits.{add-fits, sub-fits}
 use lib.Ieee.Scale.{finite}
-use Rattle.whole.specs.Whole.{Whole, nothing, ◌⊕◌, ◌≈◌, Zero}
+use Rattle.whole.specs.Whole.{Whole, ◌⊕◌, ◌≈◌, Zero}
 use Rattle.weights.specs.Counts.{Counts}
 use Rattle.weights.specs.Worth.{Worth, Small, read, magnitude, zero64}
 use Rattle.weights.proofs.Worth.{add_worth, as_worth, worth_read, eq_worth, zero_worth, two_sum_lem}
@@ -159,7 +159,7 @@ totals_as overflown w = overflown
 carried_totals : {x : Float} {l : List Float} → Number x → Numbers l → Totals (carried x l) (read 0 x ⊕ total l)
 unfolding carried total
 carried_totals {x} n none = adds_up (kept_number n none) (kept_total [] n)
-carried_totals {x} n (more {x = y} {l = l} m ms) = go (finite (split_of x y).high) (split_exact n m) (λ k. carried_totals k ms)
+carried_totals {x} n (more {x = y} {l = l} m ms) = go (finite (split_of x y).high) (split_exact n m) (λ k. carried_totals {x = (split_of x y).high} k ms)
   where
     go : (b : Bool) → (T b → Exactly x y (split_of x y)) → (Number (split_of x y).high → Totals (carried (split_of x y).high l) (read 0 (split_of x y).high ⊕ total l))
         → Totals (cond b (in_front (split_of x y).low (carried (split_of x y).high l)) invalid) (read 0 x ⊕ (read 0 y ⊕ total l))

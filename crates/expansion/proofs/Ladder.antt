@@ -29,7 +29,7 @@ pub data OnGrid (j : ℕ) : List Float → Type 0 where
   no_more : OnGrid j []
   and_more : {x : Float} {l : List Float} → Multiple (2 ^ j) (size_of x) → OnGrid j l → OnGrid j (x ∷ l)
 
-grid_finer : {l : List Float} (i j : ℕ) → i ≤ j → OnGrid j l → OnGrid i l
+grid_finer : (i j : ℕ) {l : List Float} → i ≤ j → OnGrid j l → OnGrid i l
 grid_finer i j h no_more = no_more
 grid_finer i j h (and_more m g) = and_more (finer i j h m) (grid_finer i j h g)
 
@@ -54,7 +54,7 @@ grid_carried {j} {x} n none m no_more = go (ne x zero64)
     go : (b : Bool) → Grids j (parts (cond b (x ∷ []) []))
     go true = grids (and_more m no_more)
     go false = grids no_more
-grid_carried {j} {x} n (more {x = y} {l = l} k ks) m (and_more my g) = go (finite (split_of x y).high) (split_exact n k) (λ h q. grid_carried h ks q g)
+grid_carried {j} {x} n (more {x = y} {l = l} k ks) m (and_more my g) = go (finite (split_of x y).high) (split_exact n k) (λ h q. grid_carried {x = (split_of x y).high} h ks q g)
   where
     go : (b : Bool) → (T b → Exactly x y (split_of x y)) → (Number (split_of x y).high → Multiple (2 ^ j) (size_of (split_of x y).high) → Grids j (carried (split_of x y).high l))
         → Grids j (cond b (in_front (split_of x y).low (carried (split_of x y).high l)) invalid)
@@ -99,7 +99,7 @@ climb_carried {x} n none bottom = go (ne x zero64) refl
     go true e = climbs (rung (size (size_of x)) (not_zero n e) (size-lt (size_of x)) no_more bottom)
     go false e = climbs bottom
 climb_carried {x} n (more {x = y} {l = l} k ks) (rung i some low g d) =
-    go (finite (split_of x y).high) (split_exact n k) (λ h. climb_carried h ks d) (λ j h q r. grid_carried {j = j} h ks q r)
+    go (finite (split_of x y).high) (split_exact n k) (λ h. climb_carried {x = (split_of x y).high} h ks d) (λ j h q r. grid_carried {j = j} h ks q r)
   where
     go : (b : Bool) → (T b → Exactly x y (split_of x y)) → (Number (split_of x y).high → Climbs (carried (split_of x y).high l))
         → ((j : ℕ) → Number (split_of x y).high → Multiple (2 ^ j) (size_of (split_of x y).high) → OnGrid j l → Grids j (carried (split_of x y).high l))

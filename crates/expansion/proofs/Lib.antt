@@ -5,5 +5,6 @@ pub mod Splitting
 pub mod Exact
 pub mod Ladder
 pub mod Overflow
+pub mod Parting
 pub mod Scaling
 pub mod Theorems

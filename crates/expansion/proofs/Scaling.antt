@@ -1,10 +1,9 @@
 -- A product of a float with a power of two is not rounded, while it does not overflow: subnormals included. Assumes nothing.
-use mathlib.Core.Path.{◌≡◌, refl, sym, ap, ◌∙◌, subst}
+use mathlib.Core.Path.{◌≡◌, refl, sym, ap, ◌∙◌}
 use mathlib.Core.Bool.{Bool, true, false, cond, true≢false}
 use Prim.Native.Nat.{ℕ, ◌+◌, ◌*◌, ◌^◌, ◌<◌}
 use native.Mathlib.Nat.{mul-one, mul_assoc, mul_comm, mul_left_comm, add-mul, mul-pos, le_of_lt, zero-mul}
 use native.Mathlib.Omega.{arith}
-use lib.IntN.{ℤ}
 use lib.Dec.{T, lit≤}
 use lib.Pow.{pow-add}
 use lib.Ieee.{Float, nan, inf, fin, Format, binary64, prec, low, up, down, unlike, round, mul, of_bits}
@@ -17,9 +16,8 @@ use Rattle.weights.specs.Worth.{Worth, read, two64, four64}
 use Rattle.weights.proofs.Counting.{mul_swap}
 use Rattle.weights.proofs.Worth.{worth_read, same_worth}
 use Rattle.expansion.specs.Exact.{Number}
-use Rattle.expansion.proofs.Nearby.{gap, Multiple, rounded, Few, rounded_few, Short}
+use Rattle.expansion.proofs.Nearby.{gap, Few, rounded_few, Short}
 use Rattle.expansion.proofs.Rounding.{round_rounded, round_plain}
-use Rattle.expansion.proofs.Splitting.{Held, one_side}
 use Rattle.expansion.proofs.Exact.{held_number, number_worth}
 
 -- ---- a product with a whole number is one fraction, which is rounded once

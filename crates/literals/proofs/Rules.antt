@@ -1,7 +1,7 @@
 -- The implications of a list of records are what its ends say, neither more nor less. Assumes nothing.
 use Prim.Native.Nat.{ℕ, ◌+◌, ◌*◌, ◌-◌, ◌/◌, ◌%◌, ◌^◌, ◌<◌, ◌≤◌}
 use mathlib.Core.Path.{◌≡◌, refl, sym, ap, ◌∙◌, subst}
-use mathlib.Core.Logic.{◌≢◌, ◌⊎◌, inl, inr, ⊎_elim, ◌↔◌}
+use mathlib.Core.Logic.{◌⊎◌, inl, inr, ⊎_elim, ◌↔◌}
 use mathlib.Core.Bool.{Bool, true, false, cond, false≢true}
 use mathlib.Core.List.Memᴰ
 use mathlib.Core.List.{List, [], ◌∷◌, Memᴰ}
@@ -17,7 +17,7 @@ use Rattle.meaning.proofs.Sets.{bit_at, bit_shifted, pair_bit, bit_pair, pair_sm
 use Rattle.meaning.proofs.Records.{RuleOf, ahead, backward, rule_of, of_rule}
 use Rattle.meaning.proofs.Values.{zero_or_one}
 use Rattle.constraints.specs.Record.{room, record_at, records}
-use Rattle.constraints.proofs.Records.{Among, record_in, record_among}
+use Rattle.constraints.proofs.Records.{record_in, record_among}
 use Rattle.literals.specs.Listed.{Listed}
 use Rattle.literals.specs.Ends.{rules, mine, other, set_at, is_among, barred, gives, says}
 

@@ -9,7 +9,7 @@ use native.Mathlib.Omega.{arith}
 use lib.ListN.{length, get_or, set, take}
 use lib.Seq.{get_or-take, length-take-le}
 use Rattle.meaning.specs.Steps.{Valid}
-use Rattle.meaning.specs.Literal.{Holds, given, follows, BothWays, Settled, clash, propagate}
+use Rattle.meaning.specs.Literal.{Holds, given, follows, BothWays, Settled, propagate}
 use Rattle.meaning.proofs.Implications.{rules_fit}
 use Rattle.meaning.proofs.Theorems.{propagation_clash, propagation_done}
 use Rattle.meaning.proofs.Values.{fixed, below_or_at}

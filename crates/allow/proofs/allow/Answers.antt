@@ -1,9 +1,7 @@
 -- `allow` tests, decides and clears. Assumes nothing.
 use mathlib.Core.Path.{sym, ◌∙◌}
-use borrow.Author.Tests.{not-true, not-false}
 use Rattle.allow.proofs.Means.{passed_ready, fits_is}
 use Rattle.allow.proofs.Laws.{refused_call, room_call, done_call}
-use borrow.Author.Rules.{rules}
 use Rattle.allow.proofs.allow.Goals as goal
 
 pub returns-in-Failed : goal.returns-in-Failed

@@ -2,7 +2,6 @@
 use Rattle.meaning.proofs.Implications.{rules_fit}
 use Rattle.literals.proofs.Rules.{listed_ends}
 use Rattle.allow.proofs.Same.{answer_yes, answer_no}
-use borrow.Author.Rules.{rules}
 use Rattle.allow.proofs.decide.Goals as goal
 
 pub returns-then-i-n : goal.returns-then-i-n

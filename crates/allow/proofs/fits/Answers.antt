@@ -1,6 +1,5 @@
 -- `fits` asks for room in both answer lists. Assumes nothing.
 use mathlib.Core.Path.{refl}
-use native.Mathlib.Omega.{arith}
 use borrow.Author.Tests.{le-leb, lt-leb}
 use Rattle.scratch.proofs.All.{and_yes, and_no}
 use Rattle.allow.specs.Call.{fits}

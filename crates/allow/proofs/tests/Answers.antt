@@ -1,8 +1,7 @@
 -- `tests` makes tests 1, 7 and 8. Assumes nothing.
 use mathlib.Core.Path.{sym, ◌∙◌}
 use native.Mathlib.Omega.{arith}
-use borrow.Author.Rules.{rules}
-use borrow.Author.Tests.{not-true, not-false, le-leb, lt-leb}
+use borrow.Author.Tests.{le-leb, lt-leb}
 use Rattle.field.proofs.Table.{test_no, test_ok, none_left}
 use Rattle.propagation.proofs.Means.{listed_is}
 use Rattle.allow.specs.Call.{allow_tests}

@@ -1,8 +1,5 @@
 -- `twos` writes one value a turn. Assumes nothing.
-use Prim.Native.Nat.{◌-◌}
-use Rattle.allow.specs.Choice.{Twos}
 use Rattle.allow.proofs.Choosing.{twos_start, twos_turn, twos_done}
-use borrow.Author.Rules.{rules}
 use Rattle.allow.proofs.twos.Goals as goal
 
 pub loop-i-init : goal.loop-i-init

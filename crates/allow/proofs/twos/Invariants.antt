@@ -1,8 +1,6 @@
 -- `twos` writes one value a turn. Assumes nothing.
 use Prim.Native.Nat.{◌-◌}
 use Rattle.allow.specs.Choice.{Twos}
-use Rattle.allow.proofs.Choosing.{twos_start, twos_turn, twos_done}
-use borrow.Author.Rules.{rules}
 use Rattle.allow.proofs.twos.Given as goal
 
 abbrev pub invariant-loop-i : goal.invariant-loop-i

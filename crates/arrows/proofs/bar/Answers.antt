@@ -1,6 +1,5 @@
 -- `bar` marks two arrows. Assumes nothing.
 use Rattle.arrows.proofs.Marks.{bar_done}
-use borrow.Author.Rules.{rules}
 use Rattle.arrows.proofs.bar.Goals as goal
 
 pub returns : goal.returns

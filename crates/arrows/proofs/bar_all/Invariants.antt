@@ -1,9 +1,6 @@
 -- `bar_all` goes over the records. Assumes nothing.
 use Prim.Native.Nat.{◌-◌}
-use native.Mathlib.Omega.{arith}
 use Rattle.arrows.specs.Marks.{Marking}
-use Rattle.arrows.proofs.Marks.{marking_start, marking_turn, marking_done}
-use borrow.Author.Rules.{rules}
 use Rattle.arrows.proofs.bar_all.Given as goal
 
 abbrev pub invariant-loop-t : goal.invariant-loop-t

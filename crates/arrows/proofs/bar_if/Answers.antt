@@ -5,7 +5,6 @@ use native.Mathlib.Nat.{mod-lt}
 use native.Mathlib.Omega.{arith}
 use lib.Bits.{and_mask}
 use Rattle.arrows.proofs.Marks.{bar_in, bar_out}
-use borrow.Author.Rules.{rules}
 use Rattle.arrows.proofs.bar_if.Goals as goal
 
 pub returns-then-set-at-eq1 : goal.returns-then-set-at-eq1

@@ -1,6 +1,5 @@
 -- `bar_set` goes over four bits. Assumes nothing.
 use Rattle.arrows.proofs.Marks.{set_done}
-use borrow.Author.Rules.{rules}
 use Rattle.arrows.proofs.bar_set.Goals as goal
 
 pub returns : goal.returns

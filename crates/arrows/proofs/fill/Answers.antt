@@ -2,7 +2,6 @@
 use Rattle.meaning.proofs.Implications.{rules_fit}
 use Rattle.literals.proofs.Rules.{listed_ends}
 use Rattle.arrows.proofs.Filled.{fill_done}
-use borrow.Author.Rules.{rules}
 use Rattle.arrows.proofs.fill.Goals as goal
 
 pub returns : goal.returns

@@ -1,9 +1,6 @@
 -- `selves` marks one bit a turn. Assumes nothing.
 use Prim.Native.Nat.{◌-◌}
-use native.Mathlib.Omega.{arith}
 use Rattle.arrows.specs.Marks.{Selving}
-use Rattle.arrows.proofs.Marks.{selving_start, selving_turn, selving_done}
-use borrow.Author.Rules.{rules}
 use Rattle.arrows.proofs.selves.Given as goal
 
 abbrev pub invariant-loop-a : goal.invariant-loop-a

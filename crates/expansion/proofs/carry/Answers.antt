@@ -1,10 +1,7 @@
 -- `carry` takes one part a turn. Assumes nothing.
-use Prim.Native.Nat.{◌-◌}
 use mathlib.Core.Path.{sym, ◌∙◌}
-use borrow.Author.Tests.{not-true, not-false}
 use native.Mathlib.Omega.{arith}
-use Rattle.expansion.proofs.Carrying.{Carrying, carry_start, carry_turn, carry_stop, carry_done}
-use borrow.Author.Rules.{rules}
+use Rattle.expansion.proofs.Carrying.{carry_start, carry_turn, carry_stop, carry_done}
 use Rattle.expansion.proofs.carry.Goals as goal
 
 pub loop-i-init : goal.loop-i-init

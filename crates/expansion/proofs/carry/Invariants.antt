@@ -1,10 +1,6 @@
 -- `carry` takes one part a turn. Assumes nothing.
 use Prim.Native.Nat.{◌-◌}
-use mathlib.Core.Path.{sym, ◌∙◌}
-use borrow.Author.Tests.{not-true, not-false}
-use native.Mathlib.Omega.{arith}
-use Rattle.expansion.proofs.Carrying.{Carrying, carry_start, carry_turn, carry_stop, carry_done}
-use borrow.Author.Rules.{rules}
+use Rattle.expansion.proofs.Carrying.{Carrying}
 use Rattle.expansion.proofs.carry.Given as goal
 
 abbrev pub invariant-loop-i : goal.invariant-loop-i

@@ -1,6 +1,5 @@
 -- `keep` passes over a 0. Assumes nothing.
 use Rattle.expansion.proofs.Carrying.{keep_some, keep_none}
-use borrow.Author.Rules.{rules}
 use Rattle.expansion.proofs.keep.Goals as goal
 
 pub returns-then-x : goal.returns-then-x

@@ -1,6 +1,5 @@
 -- `two_sum` puts the larger in magnitude first. Assumes nothing.
 use Rattle.expansion.proofs.Carrying.{split_turned, split_straight}
-use borrow.Author.Rules.{rules}
 use Rattle.expansion.proofs.two_sum.Goals as goal
 
 pub returns-then-magnitude : goal.returns-then-magnitude

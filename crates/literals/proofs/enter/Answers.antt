@@ -1,17 +1,14 @@
 -- `enter` enters one start value a turn. Assumes nothing.
 use Rattle.literals.proofs.Going.{enter_done}
-use mathlib.Core.Path.{◌≡◌, refl, ◌∙◌}
-use Prim.Native.Nat.{◌-◌, ◌≤◌}
-use Rattle.literals.specs.Going.{Entering}
+use mathlib.Core.Path.{refl, ◌∙◌}
 use native.Mathlib.Omega.{arith}
-use lib.ListN.{length}
 use Rattle.literals.proofs.enter.Goals as goal
 
 pub loop-i-init : goal.loop-i-init
 loop-i-init c = (c.requires.entering, (omega arith, refl))
 
 pub enter_at-tail-requires : goal.enter_at-tail-requires
-enter_at-tail-requires c = let pre = c.requires in      record { start_len_bound = pre.start_len_bound; valid = pre.valid; i_in_bounds = c.loop-i-test.true; entering = c.loop-i.invariant.0 }
+enter_at-tail-requires c = let pre = c.requires in record { start_len_bound = pre.start_len_bound; valid = pre.valid; i_in_bounds = c.loop-i-test.true; entering = c.loop-i.invariant.0 }
 
 pub loop-i-preserved : goal.loop-i-preserved
 loop-i-preserved c =

@@ -1,9 +1,7 @@
 -- `enter` enters one start value a turn. Assumes nothing.
-use Rattle.literals.proofs.Going.{enter_done}
-use mathlib.Core.Path.{◌≡◌, refl, ◌∙◌}
-use Prim.Native.Nat.{◌-◌, ◌≤◌}
+use mathlib.Core.Path.{◌≡◌}
+use Prim.Native.Nat.{◌≤◌}
 use Rattle.literals.specs.Going.{Entering}
-use native.Mathlib.Omega.{arith}
 use lib.ListN.{length}
 use Rattle.literals.proofs.enter.Given as goal
 

@@ -1,7 +1,5 @@
 -- `free_all` sets one element a turn. Assumes nothing.
-use Rattle.literals.proofs.Freeing.{free_start, free_turn, free_done}
 use Rattle.literals.specs.Going.{Freed}
-use native.Mathlib.Omega.{arith}
 use Prim.Native.Nat.{◌-◌, ◌≤◌}
 use Rattle.literals.proofs.free_all.Given as goal
 

@@ -1,10 +1,7 @@
 -- `work` serves the queue. Assumes nothing.
-use lib.ListN.{length}
-use mathlib.Core.Path.{◌≡◌, refl, ◌∙◌}
-use Rattle.literals.proofs.Serving.{Working, went_on, went_not, work_start, work_turn, work_done, work_clash}
+use mathlib.Core.Path.{refl, ◌∙◌}
+use Rattle.literals.proofs.Serving.{went_on, went_not, work_start, work_turn, work_done, work_clash}
 use native.Mathlib.Omega.{arith}
-use Prim.Native.Nat.{◌-◌}
-use borrow.Author.Rules.{rules}
 use Rattle.literals.proofs.work.Goals as goal
 
 pub loop-head-init : goal.loop-head-init

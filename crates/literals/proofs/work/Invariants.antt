@@ -1,10 +1,8 @@
 -- `work` serves the queue. Assumes nothing.
 use lib.ListN.{length}
-use mathlib.Core.Path.{◌≡◌, refl, ◌∙◌}
-use Rattle.literals.proofs.Serving.{Working, went_on, went_not, work_start, work_turn, work_done, work_clash}
-use native.Mathlib.Omega.{arith}
+use mathlib.Core.Path.{◌≡◌}
+use Rattle.literals.proofs.Serving.{Working}
 use Prim.Native.Nat.{◌-◌}
-use borrow.Author.Rules.{rules}
 use Rattle.literals.proofs.work.Given as goal
 
 abbrev pub invariant-loop-head : goal.invariant-loop-head

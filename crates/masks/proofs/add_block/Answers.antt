@@ -1,6 +1,5 @@
 -- `add_block` leaves the sums where the last mask of the block lacks a required bit, and else goes by the last five bits. Assumes nothing.
 use Rattle.masks.proofs.Summing.{none_has, by_low}
-use borrow.Author.Rules.{rules}
 use Rattle.masks.proofs.add_block.Goals as goal
 
 pub returns-then-base-bits : goal.returns-then-base-bits

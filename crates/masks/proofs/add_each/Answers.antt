@@ -1,8 +1,5 @@
 -- `add_each` goes through the masks of a block, rising. Assumes nothing.
-use Prim.Native.Nat.{◌-◌}
-use native.Mathlib.Omega.{arith}
-use Rattle.masks.proofs.Summing.{Turned, turn_start, turn_next, turn_done}
-use borrow.Author.Rules.{rules}
+use Rattle.masks.proofs.Summing.{turn_start, turn_next, turn_done}
 use Rattle.masks.proofs.add_each.Goals as goal
 
 pub loop-l-init : goal.loop-l-init

@@ -1,8 +1,6 @@
 -- `add_each` goes through the masks of a block, rising. Assumes nothing.
 use Prim.Native.Nat.{◌-◌}
-use native.Mathlib.Omega.{arith}
-use Rattle.masks.proofs.Summing.{Turned, turn_start, turn_next, turn_done}
-use borrow.Author.Rules.{rules}
+use Rattle.masks.proofs.Summing.{Turned}
 use Rattle.masks.proofs.add_each.Given as goal
 
 abbrev pub invariant-loop-l : goal.invariant-loop-l

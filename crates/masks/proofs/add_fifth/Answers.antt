@@ -1,6 +1,5 @@
 -- `add_fifth` goes by the required bits. Assumes nothing.
 use Rattle.masks.proofs.Summing.{at_bits}
-use borrow.Author.Rules.{rules}
 use Rattle.masks.proofs.add_fifth.Goals as goal
 
 pub returns-then-bits-eq17 : goal.returns-then-bits-eq17

@@ -1,6 +1,5 @@
 -- `add_low` goes by the required bits. Assumes nothing.
 use Rattle.masks.proofs.Summing.{at_bits}
-use borrow.Author.Rules.{rules}
 use Rattle.masks.proofs.add_low.Goals as goal
 
 pub returns-then-bits-eq0 : goal.returns-then-bits-eq0

@@ -1,6 +1,5 @@
 -- `add_two` goes by the required bits. Assumes nothing.
 use Rattle.masks.proofs.Summing.{at_bits}
-use borrow.Author.Rules.{rules}
 use Rattle.masks.proofs.add_two.Goals as goal
 
 pub returns-then-bits-eq3 : goal.returns-then-bits-eq3

@@ -1,7 +1,6 @@
 -- `bit` is a power of 2. Assumes nothing.
 use lib.Pow.{shl_exact}
 use native.Mathlib.Omega.{arith}
-use borrow.Author.Rules.{rules}
 use Rattle.masks.proofs.bit.Goals as goal
 
 pub returns : goal.returns

@@ -1,9 +1,7 @@
 -- `block` goes through the terms, rising. Assumes nothing.
-use Prim.Native.Nat.{◌-◌}
 use mathlib.Core.Path.{refl}
 use native.Mathlib.Omega.{arith}
-use Rattle.masks.proofs.Summing.{Summing, sum_start, sum_turn, sum_done}
-use borrow.Author.Rules.{rules}
+use Rattle.masks.proofs.Summing.{sum_start, sum_turn, sum_done}
 use Rattle.masks.proofs.block.Goals as goal
 
 pub loop-t-init : goal.loop-t-init
@@ -22,7 +20,7 @@ pub bounds-values-t : goal.bounds-values-t
 bounds-values-t c = omega (arith, c.loop-t-test.true, c.loop-t.invariant.room.values_long)
 
 pub add_block-requires : goal.add_block-requires
-add_block-requires c =     record { sums_len = c.loop-t.invariant.so_far.long; base_bound = c.loop-t.invariant.small; base_value = c.loop-t.invariant.aligned }
+add_block-requires c = record { sums_len = c.loop-t.invariant.so_far.long; base_bound = c.loop-t.invariant.small; base_value = c.loop-t.invariant.aligned }
 
 pub loop-t-preserved : goal.loop-t-preserved
 loop-t-preserved c = sum_turn c.loop-t.invariant c.loop-t-test.true c.wide_short.ensures refl c.add_block.ensures

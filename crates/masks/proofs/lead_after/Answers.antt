@@ -1,15 +1,11 @@
 -- `lead_after` goes through masks of the block, rising. Assumes nothing.
-use Prim.Native.Nat.{◌-◌}
-use mathlib.Core.Logic.{⊎_elim}
 use native.Mathlib.Omega.{arith}
-use Rattle.masks.specs.Masks.{objective}
-use Rattle.masks.specs.Listed.{terms_on}
-use Rattle.masks.proofs.Least.{Leading, lead_start, lead_taken, lead_kept, lead_done}
-use borrow.Author.Rules.{rules}
+use Rattle.masks.proofs.Least.{lead_start, lead_taken, lead_kept, lead_done}
 use Rattle.masks.proofs.lead_after.Goals as goal
+use Rattle.masks.proofs.lead_after.Goals.{then-sum-best, else-sum-best}
 
 pub block-sums-requires : goal.block-sums-requires
-block-sums-requires c =     record { room = c.requires.room; base_bound = c.requires.base_bound; base_value = c.requires.base_value }
+block-sums-requires c = record { room = c.requires.room; base_bound = c.requires.base_bound; base_value = c.requires.base_value }
 
 pub loop-l-init : goal.loop-l-init
 loop-l-init c = lead_start c.requires.leads
@@ -26,7 +22,10 @@ loop-l-preserved c =
     let h = c.loop-l-test.true in
     let few = c.requires.count_bound in
     let B = c.block-sums.ensures in
-    ⊎_elim (λ w. rw (w.1, w.2) (lead_taken L h few B w.0.taken)) (λ w. rw (w.1, w.2) (lead_kept L h few B w.0.left)) c.if-sum-best.branch
+    elim c.if-sum-best.branch [
+      | then-sum-best w ↦ rw (w.best-is, w.mask-is) (lead_taken L h few B w.if-sum-best.true)
+      | else-sum-best w ↦ rw (w.best-is, w.mask-is) (lead_kept L h few B w.if-sum-best.false)
+    ]
 
 pub returns : goal.returns
 returns c = lead_done c.loop-l.invariant c.loop-l-test.false

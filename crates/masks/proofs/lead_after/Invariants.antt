@@ -1,11 +1,8 @@
 -- `lead_after` goes through masks of the block, rising. Assumes nothing.
 use Prim.Native.Nat.{◌-◌}
-use mathlib.Core.Logic.{⊎_elim}
-use native.Mathlib.Omega.{arith}
 use Rattle.masks.specs.Masks.{objective}
 use Rattle.masks.specs.Listed.{terms_on}
-use Rattle.masks.proofs.Least.{Leading, lead_start, lead_taken, lead_kept, lead_done}
-use borrow.Author.Rules.{rules}
+use Rattle.masks.proofs.Least.{Leading}
 use Rattle.masks.proofs.lead_after.Given as goal
 
 abbrev pub invariant-loop-l : goal.invariant-loop-l

@@ -1,6 +1,5 @@
 -- `list_term` stores at the end. Assumes nothing.
 use Rattle.masks.proofs.Listing.{listed_one}
-use borrow.Author.Rules.{rules}
 use Rattle.masks.proofs.list_term.Goals as goal
 
 pub returns : goal.returns

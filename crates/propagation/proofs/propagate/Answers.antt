@@ -3,11 +3,9 @@ use Prim.Native.Nat.{◌≤◌}
 use Rattle.propagation.proofs.Laws.{refused_call, clash_call, done_call}
 use Rattle.literals.proofs.Serving.{found_small}
 use Rattle.propagation.proofs.Means.{ready_is}
-use borrow.Author.Tests.{not-true, not-false}
 use native.Mathlib.Omega.{arith}
 use lib.ListN.{length}
 use mathlib.Core.Path.{sym, ◌∙◌}
-use borrow.Author.Rules.{rules}
 use Rattle.propagation.proofs.propagate.Goals as goal
 
 pub returns-in-Failed : goal.returns-in-Failed

@@ -1,7 +1,6 @@
 -- `write_back` copies one value a turn. Assumes nothing.
-use Rattle.propagation.proofs.Copies.{Copied, copy_start, copy_turn, copy_done}
+use Rattle.propagation.proofs.Copies.{copy_start, copy_turn, copy_done}
 use native.Mathlib.Omega.{arith}
-use Prim.Native.Nat.{◌-◌}
 use Rattle.propagation.proofs.write_back.Goals as goal
 
 pub loop-i-init : goal.loop-i-init

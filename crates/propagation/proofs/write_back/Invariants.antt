@@ -1,7 +1,5 @@
 -- `write_back` copies one value a turn. Assumes nothing.
-use Rattle.propagation.proofs.Copies.{Copied, copy_start, copy_turn, copy_done}
-use native.Mathlib.Omega.{arith}
-use Prim.Native.Nat.{◌-◌}
+use Rattle.propagation.proofs.Copies.{Copied}
 use Rattle.propagation.proofs.write_back.Given as goal
 
 abbrev pub invariant-loop-i : goal.invariant-loop-i

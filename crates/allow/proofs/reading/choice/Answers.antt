@@ -1,6 +1,5 @@
 -- `choice` asks two bits. Assumes nothing.
 use Rattle.allow.proofs.Choosing.{wants_own, wants_last, wants_none}
-use borrow.Author.Rules.{rules}
 use Rattle.allow.proofs.reading.choice.Goals as goal
 
 pub returns-then-has : goal.returns-then-has

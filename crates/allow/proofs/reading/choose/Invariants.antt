@@ -1,9 +1,6 @@
 -- `choose` makes one choice a turn. Assumes nothing.
 use Prim.Native.Nat.{◌-◌}
-use native.Mathlib.Omega.{arith}
 use Rattle.allow.specs.Choice.{Choosing}
-use Rattle.allow.proofs.Choosing.{choosing_start, choosing_turn, choosing_done, wants_two}
-use borrow.Author.Rules.{rules}
 use Rattle.allow.proofs.reading.choose.Given as goal
 
 abbrev pub invariant-loop-i : goal.invariant-loop-i

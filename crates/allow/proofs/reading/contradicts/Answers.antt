@@ -1,6 +1,5 @@
 -- `contradicts` asks two bits. Assumes nothing.
 use Rattle.allow.proofs.Choosing.{both_yes, both_not}
-use borrow.Author.Rules.{rules}
 use Rattle.allow.proofs.reading.contradicts.Goals as goal
 
 pub returns-then-has : goal.returns-then-has

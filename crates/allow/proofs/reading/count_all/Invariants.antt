@@ -1,11 +1,7 @@
 -- `count_all` counts one row a turn. Assumes nothing.
 use Prim.Native.Nat.{◌-◌}
-use native.Mathlib.Omega.{arith}
 use Rattle.bit_rows.specs.Rows.{bit_in}
-use Rattle.reaching.proofs.Counts.{count_most}
 use Rattle.allow.specs.Choice.{Numbering}
-use Rattle.allow.proofs.Choosing.{numbering_start, numbering_turn, numbering_done}
-use borrow.Author.Rules.{rules}
 use Rattle.allow.proofs.reading.count_all.Given as goal
 
 abbrev pub invariant-loop-a : goal.invariant-loop-a

@@ -1,10 +1,6 @@
 -- `first_contradictory` stops at the first. Assumes nothing.
-use Prim.Native.Nat.{◌-◌}
 use mathlib.Core.Path.{sym, ◌∙◌}
-use Rattle.bit_rows.specs.Rows.{bit_in}
-use Rattle.allow.specs.Choice.{Seeking}
 use Rattle.allow.proofs.Choosing.{seeking_start, seeking_turn, seeking_found, seeking_done}
-use borrow.Author.Rules.{rules}
 use Rattle.allow.proofs.reading.first_contradictory.Goals as goal
 
 pub loop-i-init : goal.loop-i-init

@@ -1,8 +1,6 @@
 -- `add` carries a finite number through the parts. Assumes nothing.
 use mathlib.Core.Path.{sym, ◌∙◌}
-use borrow.Author.Tests.{not-true, not-false}
 use Rattle.expansion.proofs.Carrying.{add_carries, add_overflows, add_stays}
-use borrow.Author.Rules.{rules}
 use Rattle.expansion.proofs.ExactSum.add.Goals as goal
 
 pub returns-then-not-is_finite : goal.returns-then-not-is_finite

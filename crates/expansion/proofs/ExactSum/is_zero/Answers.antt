@@ -1,6 +1,5 @@
 -- `is_zero`: no parts, and no overflow. Assumes nothing.
 use Rattle.expansion.proofs.Carrying.{parts_zero, invalid_zero}
-use borrow.Author.Rules.{rules}
 use Rattle.expansion.proofs.ExactSum.is_zero.Goals as goal
 
 pub returns-in-Parts : goal.returns-in-Parts

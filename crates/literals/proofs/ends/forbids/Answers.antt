@@ -3,7 +3,6 @@ use mathlib.Core.Path.{sym, ap, ◌∙◌}
 use Prim.Native.Nat.{ℕ, ◌+◌, ◌*◌, ◌/◌, ◌^◌}
 use lib.Bits.{and_mask}
 use lib.Dec.{eqb}
-use borrow.Author.Rules.{rules}
 use Rattle.literals.proofs.Rules.{among_bit}
 use Rattle.literals.proofs.ends.forbids.Goals as goal
 

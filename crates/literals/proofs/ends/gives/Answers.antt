@@ -2,14 +2,13 @@
 use Rattle.literals.specs.Ends.{gives}
 use mathlib.Core.Path.{sym, ◌∙◌}
 use native.Mathlib.Omega.{arith}
-use borrow.Author.Rules.{rules}
 use Rattle.literals.proofs.ends.gives.Goals as goal
 
 pub barred-one-requires : goal.barred-one-requires
-barred-one-requires c =     record { v_bound = c.requires; w_bound = omega arith }
+barred-one-requires c = record { v_bound = c.requires; w_bound = omega arith }
 
 pub barred-zero-requires : goal.barred-zero-requires
-barred-zero-requires c =     record { v_bound = c.requires; w_bound = omega arith }
+barred-zero-requires c = record { v_bound = c.requires; w_bound = omega arith }
 
 pub returns-then-zero : goal.returns-then-zero
 unfolding gives

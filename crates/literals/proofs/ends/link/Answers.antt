@@ -1,9 +1,8 @@
 -- `link` puts one end in front of its chain a turn. Assumes nothing.
 use lib.ListN.{length-set}
-use Rattle.literals.proofs.Chains.{Linking, link_start, link_turn, link_done}
+use Rattle.literals.proofs.Chains.{link_start, link_turn, link_done}
 use Rattle.literals.proofs.Rules.{mine_below}
 use native.Mathlib.Omega.{arith}
-use Prim.Native.Nat.{◌-◌}
 use Rattle.literals.proofs.ends.link.Goals as goal
 
 pub overflow_mul-count : goal.overflow_mul-count
@@ -16,7 +15,7 @@ pub overflow_mul-at : goal.overflow_mul-at
 overflow_mul-at c = omega (arith, c.requires.n_bound)
 
 pub mine-requires : goal.mine-requires
-mine-requires c =     record { list_len = c.requires.listed.whole; x_bound = c.loop-x-test.true }
+mine-requires c = record { list_len = c.requires.listed.whole; x_bound = c.loop-x-test.true }
 
 pub overflow_add-at : goal.overflow_add-at
 overflow_add-at c = let pre = c.requires in omega (arith, pre.n_bound, c.mine.ensures, mine_below _ pre.listed _ c.loop-x-test.true)

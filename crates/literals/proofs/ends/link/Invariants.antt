@@ -1,8 +1,5 @@
 -- `link` puts one end in front of its chain a turn. Assumes nothing.
-use lib.ListN.{length-set}
-use Rattle.literals.proofs.Chains.{Linking, link_start, link_turn, link_done}
-use Rattle.literals.proofs.Rules.{mine_below}
-use native.Mathlib.Omega.{arith}
+use Rattle.literals.proofs.Chains.{Linking}
 use Prim.Native.Nat.{◌-◌}
 use Rattle.literals.proofs.ends.link.Given as goal
 

@@ -1,6 +1,5 @@
 -- `says` reads the set and asks it. Assumes nothing.
 use Rattle.literals.specs.Ends.{set_at, says}
-use borrow.Author.Rules.{rules}
 use Rattle.literals.proofs.ends.says.Goals as goal
 
 pub returns : goal.returns

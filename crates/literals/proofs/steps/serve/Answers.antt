@@ -1,7 +1,6 @@
 -- `serve` goes along the chain of the variable. Assumes nothing.
-use Rattle.literals.proofs.Serving.{Serving, went_on, serve_start, serve_own, serve_turn, serve_less, serve_clash, serve_done}
+use Rattle.literals.proofs.Serving.{went_on, serve_start, serve_own, serve_turn, serve_less, serve_clash, serve_done}
 use native.Mathlib.Omega.{arith}
-use borrow.Author.Rules.{rules}
 use Rattle.literals.proofs.steps.serve.Goals as goal
 
 pub overflow_add-n : goal.overflow_add-n
@@ -17,8 +16,14 @@ pub loop-p-init : goal.loop-p-init
 loop-p-init c = let pre = c.requires in serve_start pre.listed pre.valued pre.going c.wide_word-p.ensures
 
 pub serve_end-step-requires : goal.serve_end-step-requires
-serve_end-step-requires c = let pre = c.requires in let now = c.loop-p.invariant in      record { listed = pre.listed; start_len_bound = pre.start_len_bound; going = now.served.going; x_bound = omega (arith, now.within, c.loop-p-test.true); valued = serve_own pre.listed pre.valued now
-            c.loop-p-test.true }
+serve_end-step-requires c = let pre = c.requires in let now = c.loop-p.invariant in record {
+  listed = pre.listed;
+  start_len_bound = pre.start_len_bound;
+  going = now.served.going;
+  x_bound = omega (arith, now.within, c.loop-p-test.true);
+  valued = serve_own pre.listed pre.valued now
+      c.loop-p-test.true;
+}
 
 pub returns-in_default : goal.returns-in_default
 returns-in_default c =

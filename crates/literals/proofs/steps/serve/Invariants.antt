@@ -1,7 +1,5 @@
 -- `serve` goes along the chain of the variable. Assumes nothing.
-use Rattle.literals.proofs.Serving.{Serving, went_on, serve_start, serve_own, serve_turn, serve_less, serve_clash, serve_done}
-use native.Mathlib.Omega.{arith}
-use borrow.Author.Rules.{rules}
+use Rattle.literals.proofs.Serving.{Serving}
 use Rattle.literals.proofs.steps.serve.Given as goal
 
 abbrev pub invariant-loop-p : goal.invariant-loop-p

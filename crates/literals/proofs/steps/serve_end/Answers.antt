@@ -2,14 +2,13 @@
 use Rattle.literals.proofs.Serving.{reads, end_nothing, end_both, end_same, end_clash, end_room, end_forced}
 use Rattle.literals.proofs.Rules.{other_below}
 use native.Mathlib.Omega.{arith}
-use borrow.Author.Rules.{rules}
 use Rattle.literals.proofs.steps.serve_end.Goals as goal
 
 pub mine-requires : goal.mine-requires
-mine-requires c = let pre = c.requires in      record { list_len = pre.listed.whole; x_bound = pre.x_bound }
+mine-requires c = let pre = c.requires in record { list_len = pre.listed.whole; x_bound = pre.x_bound }
 
 pub value-requires : goal.value-requires
-value-requires c = let pre = c.requires in      let both = reads pre.listed pre.going c.mine.ensures pre.valued.variable in
+value-requires c = let pre = c.requires in let both = reads pre.listed pre.going c.mine.ensures pre.valued.variable in
     record { i_in_bounds = both.0; i_bound = both.1 }
 
 pub says-w-requires : goal.says-w-requires
@@ -28,10 +27,10 @@ returns-then-w-eq3 c =
     end_both pre.listed pre.going pre.x_bound pre.valued c.mine.ensures c.value.ensures c.says-w.ensures c.if-w-eq3.true
 
 pub other-j-requires : goal.other-j-requires
-other-j-requires c = let pre = c.requires in      record { list_len = pre.listed.whole; x_bound = pre.x_bound }
+other-j-requires c = let pre = c.requires in record { list_len = pre.listed.whole; x_bound = pre.x_bound }
 
 pub value-have-requires : goal.value-have-requires
-value-have-requires c = let pre = c.requires in      let both = reads pre.listed pre.going c.other-j.ensures (other_below _ pre.listed _ pre.x_bound) in
+value-have-requires c = let pre = c.requires in let both = reads pre.listed pre.going c.other-j.ensures (other_below _ pre.listed _ pre.x_bound) in
     record { i_in_bounds = both.0; i_bound = both.1 }
 
 pub returns-then-have-w : goal.returns-then-have-w

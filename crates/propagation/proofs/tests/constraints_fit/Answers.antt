@@ -2,7 +2,6 @@
 use Rattle.propagation.specs.Tests.{constraints_fit}
 use Rattle.scratch.proofs.All.{and_yes, and_no}
 use borrow.Author.Tests.{le-leb, lt-leb, eq-eqb, ne_eqb}
-use borrow.Author.Rules.{rules}
 use Rattle.propagation.proofs.tests.constraints_fit.Goals as goal
 
 pub returns-then-list-gt196608 : goal.returns-then-list-gt196608

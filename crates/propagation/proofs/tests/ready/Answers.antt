@@ -3,10 +3,9 @@ use Rattle.propagation.proofs.Means.{listed_is}
 use Rattle.propagation.specs.Tests.{propagation_tests}
 use Rattle.field.proofs.Table.{test_no, test_ok, none_left}
 use Rattle.field.specs.Tests.{few_variables}
-use borrow.Author.Tests.{not-true, not-false, leb-true}
+use borrow.Author.Tests.{leb-true}
 use native.Mathlib.Omega.{arith}
 use mathlib.Core.Path.{sym, ◌∙◌}
-use borrow.Author.Rules.{rules}
 use Rattle.propagation.proofs.tests.ready.Goals as goal
 
 pub returns-then-not-few_variables : goal.returns-then-not-few_variables
