@@ -47,8 +47,8 @@ module _ {u : ℕ} {F : Field} (shaped : Shaped F) (exact : ExactIn u F) where
 
   fresh_all : {K : Kept} → Fresh F K → (os : List Operation) → Fresh F (operated_all F K os)
   unfolding operated_all
-  fresh_all h [] = h
-  fresh_all h (o ∷ os) = fresh_all (fresh_operated h o) os
+  fresh_all {K = K} h [] = h
+  fresh_all {K = K} h (o ∷ os) = fresh_all {K = operated F K o} (fresh_operated h o) os
 
 module _ (F : Field) (s : List ℕ) (b : List Float) (n : ℕ) (f : List Float) (u : List ℕ) {g : Grade} (e : (make_call F s b n f u).answer ≡ Done g) (os : List Operation) where
   abbrev now : Kept

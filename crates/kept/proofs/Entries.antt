@@ -90,8 +90,8 @@ module _ {A : Type 0} (g : ℕ → A) (rows cols : List ℕ) (i : ℕ) (still : 
   pub at_turn : {x : A} {k r : ℕ} → x ≡ g (suc k) → Next rows cols i (k + 1) r → At g rows cols i x r
   at_turn {k = k} e N = record { within = N.skipped.within; so_far = e ∙ ap g (sym (add-one k)) ∙ sym (skipped_same g rows cols i still N.skipped); found = N.found }
 
-  pub at_end : {x : A} {k : ℕ} → At g rows cols i x k → length rows ≤ k → x ≡ g (length rows)
-  at_end {k = k} a l = let e : k ≡ length rows = omega (arith, a.within) in a.so_far ∙ ap g e
+  pub at_end_lem : {x : A} {k : ℕ} → At g rows cols i x k → length rows ≤ k → x ≡ g (length rows)
+  at_end_lem {k = k} a l = let e : k ≡ length rows = omega (arith, a.within) in a.so_far ∙ ap g e
 
 -- ---- the two passes
 
@@ -153,7 +153,7 @@ module _ (F : Field) (s : List ℕ) (i old new : ℕ) (b₀ : List Float) where
     turns_long shaped = ap length T.so_far ∙ turn_to_long shaped s i old new b₀ k
 
     pub turns_end : Shaped F → length F.rows ≤ k → b ≡ turn_to F s i old new b₀ (entries F)
-    turns_end shaped l = at_end (turn_to F s i old new b₀) F.rows F.cols i (turn_still F s i old new b₀) T l ∙ ap (turn_to F s i old new b₀) shaped.rows_long
+    turns_end shaped l = at_end_lem (turn_to F s i old new b₀) F.rows F.cols i (turn_still F s i old new b₀) T l ∙ ap (turn_to F s i old new b₀) shaped.rows_long
 
 -- ---- the pass over the own row, as its loop goes
 
@@ -171,4 +171,4 @@ module _ (F : Field) (s : List ℕ) (i : ℕ) where
         at_turn (row_to F s i) F.rows F.cols i (row_still F s i) (row_next F s i k d (A.found l) A.so_far (p ∙ ap₂ (λ (x : Float) (j : ℕ). add_term row x (get_or s j 0)) ea et)) N
 
     pub adds_end : Shaped F → length F.rows ≤ k → row ≡ row_of F s i
-    adds_end shaped l = row_all F s i shaped.rows_long (at_end (row_to F s i) F.rows F.cols i (row_still F s i) A l)
+    adds_end shaped l = row_all F s i shaped.rows_long (at_end_lem (row_to F s i) F.rows F.cols i (row_still F s i) A l)

@@ -42,10 +42,10 @@ module _ {u : ℕ} {F : Field} (shaped : Shaped F) (exact : ExactIn u F) {s : Li
       let l : t < variables F = omega (arith, inside s t free, start.long) in
       rw (get_d_up_to (row_on (made F s).bounds (variables F)) (variables F) t no_row l) at (made_worth shaped exact start t free)
 
-  strict_to : (i : ℕ) → strict_to s (made F s).bounds i ≡ stricts_to (whole_of u F) s i
+  strict_to_lem : (i : ℕ) → strict_to s (made F s).bounds i ≡ stricts_to (whole_of u F) s i
   unfolding strict_to stricts_to verdict
-  strict_to zero = refl
-  strict_to (suc i) = ap₂ (λ (a b : ℕ). a + b) (strict_to i) (go (is_free s i) refl)
+  strict_to_lem zero = refl
+  strict_to_lem (suc i) = ap₂ (λ (a b : ℕ). a + b) (strict_to_lem i) (go (is_free s i) refl)
     where
       go : (b : Bool) → is_free s i ≡ b
           → one (b && is_strict (row_on (made F s).bounds (length s) i)) ≡ one (b && not (eqb (verdict (whole_of u F) s i) 2))
@@ -57,4 +57,4 @@ module _ {u : ℕ} {F : Field} (shaped : Shaped F) (exact : ExactIn u F) {s : Li
   -- THE NUMBER: it is that of the free variables on which the values force one.
   pub strict_is : (made F s).strict ≡ stricts (whole_of u F) s
   unfolding made
-  strict_is = strict_to (length s)
+  strict_is = strict_to_lem (length s)

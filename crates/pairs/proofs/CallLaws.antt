@@ -8,6 +8,7 @@ use lib.ListN.{length, get_or, take, drop, replicate}
 use lib.Seq.{get_or-take, get_or-drop, take-take}
 use lib.Ieee.{Float, nan}
 use Rattle.weights.specs.Worth.{zero64}
+use Rattle.scratch.specs.Cleared.{cleared}
 use Rattle.field.specs.declared.Checked.TheVariants.{Passed, Failed}
 use Rattle.field.specs.declared.Grade.{Grade}
 use Rattle.field.specs.declared.Refusal.{Refusal}
@@ -20,15 +21,15 @@ use Rattle.places.specs.Places.{Built}
 use Rattle.places.proofs.Slices.{front_get_d}
 use Rattle.rows.specs.Stored.{Fillable}
 use Rattle.margins.specs.Merge.{Listed}
-use Rattle.constraints.specs.Record.{room}
+use Rattle.constraints.specs.Record.{room, filled}
 use Rattle.pairs.specs.declared.Paired.TheVariants.{Done, Refused}
 use Rattle.pairs.specs.declared.listing.Tally.{Tally}
 use Rattle.neighbours.specs.Parts.{Parted}
 use Rattle.neighbours.specs.Rows.{ends_at, keys_at, weights_at, size, Laid, Kept, Merged}
 use Rattle.calls.proofs.Usual as usual
-use Rattle.pairs.specs.Listing.{found}
+use Rattle.pairs.specs.Listing.{examined, found}
 use Rattle.pairs.specs.Walk.{Prepared, free_at, Freed, Walked}
-use Rattle.pairs.specs.Call.{left, pairs_call}
+use Rattle.pairs.specs.Call.{Left, left, pairs_call}
 use Rattle.pairs.proofs.ListLaws.{written_filled, length_written}
 use Rattle.neighbours.proofs.PushLaws.{laid_after}
 
@@ -110,6 +111,10 @@ work_freed E = record { long = refl; front = refl; many = E.many; at = E.at }
 -- ---- the answer
 
 module _ (F : Field) (s : List ℕ) (limit : ℕ) (l : List ℕ) (f : List Float) (u : List ℕ) where
+  -- what the call answers and leaves when it is done
+  abbrev pub done_left : Left
+  done_left = left (Done (grade_of F) (length (found F s limit)) (length (examined limit s))) (filled (found F s limit) l) (cleared zero64 f) (cleared 0 u)
+
   pub refused_call : {r : Refusal} → tested (ready_tests F s (length f) (length u)) ≡ Failed r → left (Refused r) l f u ≡ pairs_call F s limit l f u
   unfolding pairs_call
   refused_call e = usual.refused_call Refused _ _ _ _ e

@@ -53,6 +53,7 @@ use Rattle.pairs.specs.declared.Paired.TheVariants.{Done, Refused}
 use Rattle.pairs.specs.Listing.{allowed, examined, pair_count, pair_records, found_in, found}
 use Rattle.pairs.specs.Call.{Left, left, fits, pairs_table, pairs_call, listed, DoneSays, Ruled}
 use Rattle.pairs.proofs.Examined.{examined_count, longer, FreePair, examined_free, examined_rise, still_examined}
+use Rattle.pairs.proofs.CallLaws.{done_left}
 use Rattle.pairs.proofs.Found.{Gives, Ordered, found_gives, gives_found, found_proper, found_on, found_rising, not_full}
 
 -- Theorem. Any two results that the promise permits are equal.
@@ -137,7 +138,7 @@ module _ (F : Field) (s : List ℕ) (limit : ℕ) (l : List ℕ) (f : List Float
 
   -- what the call answers and leaves when it is done
   abbrev result : Left
-  result = left (Done (grade_of F) (length (found F s limit)) (length (examined limit s))) (filled (found F s limit) l) (cleared zero64 f) (cleared 0 u)
+  result = done_left F s limit l f u
 
   passed : ((pairs_call F s limit l f u).answer ≡ result.answer) ↔ (Ready F s (length f) (length u) × (length (found F s limit) ≤ room l))
   unfolding pairs_call table

@@ -9,7 +9,7 @@ use native.Mathlib.Omega.{arith}
 use borrow.Author.Tests.{lt-ltb}
 use Rattle.meaning.specs.Kinds.{Kind, at_least_one, no_more_than_one, Pair, pair, forbidden, joining}
 use Rattle.meaning.specs.Records.{Record, record_on, pairs_in, Proper, AllProper, set_of, Bans}
-use Rattle.meaning.specs.Rising.{Before, Rising, merged_list}
+use Rattle.meaning.specs.Rising.{Rising}
 use Rattle.meaning.specs.Pair.{dominated}
 use Rattle.meaning.proofs.Forbidden.{only_pair}
 use Rattle.meaning.proofs.Sets.{some_pair}

@@ -24,7 +24,7 @@ use Rattle.field.specs.Field.{Field}
 use Rattle.margins.specs.declared.bounds.Sign.{Sign}
 use Rattle.margins.specs.declared.bounds.Sign.TheVariants.{Above, Below, Neither}
 use Rattle.margins.specs.declared.bounds.Bounds.{Bounds}
-use Rattle.margins.specs.Model.{Signs, sign_of, signs_of, sum_kinds, diff_kinds, kinds_of, pair_signs, pair_kinds}
+use Rattle.margins.specs.Model.{Signs, sign_of, signs_of, sum_kinds, diff_kinds, pair_signs, pair_kinds}
 use Rattle.constraints.specs.Record.{room, filled, stored}
 use Rattle.constraints.specs.Keys.{key_of, unkey, Small}
 use Rattle.constraints.proofs.Records.{has_room, length_filled, filled_put, filled_none}

@@ -10,7 +10,7 @@ use lib.Ieee.{Float, nan}
 use Rattle.meaning.specs.Free.{is_free}
 use Rattle.field.specs.Field.{Field, variables}
 use Rattle.margins.specs.declared.bounds.Bounds.{Bounds}
-use Rattle.margins.specs.Model.{start_from, bounds_to, merged_weight, mass, tolerance, tolerance_from, signs_of, pair_signs}
+use Rattle.margins.specs.Model.{start_from, bounds_to, merged_weight, tolerance, tolerance_from, signs_of, pair_signs}
 use Rattle.margins.specs.Merge.{rows_of, Fit, Rises, Looked, Listed, walk_all}
 use Rattle.margins.proofs.Search.{looked_weight}
 use Rattle.margins.proofs.Merged.{walk_is}

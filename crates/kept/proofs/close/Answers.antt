@@ -4,7 +4,6 @@ use lib.ListN.{length}
 use Rattle.field.proofs.Means.{sound_loose}
 use Rattle.kept.proofs.Tests.{lent_passes}
 use Rattle.kept.proofs.Answers.{refused_close, room_close, done_close}
-use borrow.Author.Rules.{rules}
 use Rattle.kept.proofs.close.Goals as goal
 
 pub returns-in-Failed : goal.returns-in-Failed
@@ -19,7 +18,7 @@ pub graded-grade-requires : goal.graded-grade-requires
 graded-grade-requires c = sound_loose ((lent_passes _ _ _ _ _).0 (sym c.lendable-checked.ensures ∙ c.in_default.is)).ready.sound
 
 pub work-flat-requires : goal.work-flat-requires
-work-flat-requires c =     record { lendable = (lent_passes _ _ _ _ _).0 (sym c.lendable-checked.ensures ∙ c.in_default.is); list_len = c.if-list-c.false }
+work-flat-requires c = record { lendable = (lent_passes _ _ _ _ _).0 (sym c.lendable-checked.ensures ∙ c.in_default.is); list_len = c.if-list-c.false }
 
 pub returns : goal.returns
 returns c =

@@ -1,12 +1,10 @@
 -- `make` tests, grades, works and clears. Assumes nothing.
 use mathlib.Core.Path.{refl, sym, ◌∙◌}
 use native.Mathlib.Omega.{arith}
-use borrow.Author.Tests.{not-true, not-false}
 use lib.ListN.{length}
 use Rattle.field.proofs.Means.{sound_loose}
 use Rattle.kept.proofs.Tests.{lent_passes}
 use Rattle.kept.proofs.Answers.{refused_make, inexact_make, done_make}
-use borrow.Author.Rules.{rules}
 use Rattle.kept.proofs.make.Goals as goal
 
 pub returns-in-Failed : goal.returns-in-Failed

@@ -3,7 +3,6 @@ use mathlib.Core.Path.{sym, ◌∙◌}
 use native.Mathlib.Omega.{arith}
 use Rattle.kept.proofs.Tests.{pin_passes}
 use Rattle.kept.proofs.Answers.{refused_pin, done_pin}
-use borrow.Author.Rules.{rules}
 use Rattle.kept.proofs.pin.Goals as goal
 
 pub returns-in-Failed : goal.returns-in-Failed

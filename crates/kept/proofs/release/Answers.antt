@@ -3,7 +3,6 @@ use mathlib.Core.Path.{sym, ◌∙◌}
 use native.Mathlib.Omega.{arith}
 use Rattle.kept.proofs.Tests.{release_passes}
 use Rattle.kept.proofs.Answers.{refused_release, done_release}
-use borrow.Author.Rules.{rules}
 use Rattle.kept.proofs.release.Goals as goal
 
 pub returns-in-Failed : goal.returns-in-Failed

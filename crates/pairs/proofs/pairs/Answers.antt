@@ -17,44 +17,10 @@ work-tally-requires c = (ready_passes _ _ _ _).0 (sym c.ready-checked.ensures �
 
 pub returns-then-items-constraints : goal.returns-then-items-constraints
 returns-then-items-constraints c =
-    let
-    w
-    =
-    c.work-tally
-    in
-    full_call
-    _
-    _
-    _
-    _
-    _
-    _
-    (length w.last.1.1.1.1.1.1.1.0)
-    (length w.last.1.1.1.1.1.1.1.1.0)
-    (sym
-    c.ready-checked.ensures
-    ∙ c.in_default.is)
-    w.ensures
-    c.clear_floats.ensures (search rules) c.clear_words.ensures (search rules) (length w.last.1.1.1.1.1.1.0) c.if-items-constraints.true c.clear_shorts.ensures (search rules)
+    full_call _ _ _ _ _ _ (length c.work-tally.new.f) (length c.work-tally.new.u) (sym c.ready-checked.ensures ∙ c.in_default.is) c.work-tally.ensures
+    c.clear_floats.ensures (search rules) c.clear_words.ensures (search rules) (length c.work-tally.new.constraints) c.if-items-constraints.true c.clear_shorts.ensures (search rules)
 
 pub returns : goal.returns
 returns c =
-    let
-    w
-    =
-    c.work-tally
-    in
-    done_call
-    _
-    _
-    _
-    _
-    _
-    _
-    (length w.last.1.1.1.1.1.1.1.0)
-    (length w.last.1.1.1.1.1.1.1.1.0)
-    (sym
-    c.ready-checked.ensures
-    ∙ c.in_default.is)
-    w.ensures
+    done_call _ _ _ _ _ _ (length c.work-tally.new.f) (length c.work-tally.new.u) (sym c.ready-checked.ensures ∙ c.in_default.is) c.work-tally.ensures
     c.clear_floats.ensures (search rules) c.clear_words.ensures (search rules) c.graded-grade.ensures c.if-items-constraints.false

@@ -5,7 +5,6 @@ use lib.ListN.{length}
 use Rattle.places.proofs.Shape.{ends_below}
 use Rattle.run.proofs.Cells.{placed_start}
 use Rattle.kept.proofs.FromRows.{ran_values, ran_flat}
-use borrow.Author.Rules.{rules}
 use Rattle.kept.proofs.closing.work.Goals as goal
 
 pub copy-requires : goal.copy-requires
@@ -34,4 +33,4 @@ flat_rows-requires c =
     omega (arith, placed.values_long, placed.floats_room)
 
 pub returns : goal.returns
-returns c =     record { list_value = ran_values c.propagate.ensures _ _ _ c.copy.ensures c.copy_bounds.ensures c.requires.lendable.long; value = ran_flat c.propagate.ensures _ _ _ c.copy.ensures c.copy_bounds.ensures c.requires.lendable.long c.flat_rows.ensures }
+returns c = record { list_value = ran_values c.propagate.ensures _ _ _ c.copy.ensures c.copy_bounds.ensures c.requires.lendable.long; value = ran_flat c.propagate.ensures _ _ _ c.copy.ensures c.copy_bounds.ensures c.requires.lendable.long c.flat_rows.ensures }

@@ -1,7 +1,6 @@
 -- `begin` works out the rows, stores them and counts. Assumes nothing.
 use native.Mathlib.Omega.{arith}
 use Rattle.kept.proofs.Coded.{begin_is}
-use borrow.Author.Rules.{rules}
 use Rattle.kept.proofs.making.begin.Goals as goal
 
 pub fill-requires : goal.fill-requires

@@ -1,6 +1,5 @@
 -- `is_exact` reads the grade. Assumes nothing.
 use Rattle.kept.proofs.Coded.{told_exact, told_inexact}
-use borrow.Author.Rules.{rules}
 use Rattle.kept.proofs.making.is_exact.Goals as goal
 
 pub returns-in-Exact : goal.returns-in-Exact

@@ -1,11 +1,8 @@
 -- `block_apart` tests one entry a turn. Assumes nothing.
 use Prim.Native.Nat.{◌+◌, ◌-◌}
 use mathlib.Core.Bool.{not}
-use native.Mathlib.Omega.{arith}
 use Rattle.scratch.specs.All.{Testing}
-use Rattle.scratch.proofs.All.{testing_start, testing_turn, testing_done}
 use Rattle.kept.specs.Kept.{meets}
-use borrow.Author.Rules.{rules}
 use Rattle.kept.proofs.search.block_apart.Given as goal
 
 abbrev pub invariant-loop-k : goal.invariant-loop-k

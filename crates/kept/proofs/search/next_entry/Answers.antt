@@ -1,12 +1,7 @@
 -- `next_entry` passes over blocks, then over entries. Assumes nothing.
-use Prim.Native.Nat.{◌-◌}
 use mathlib.Core.Path.{sym, ◌∙◌}
 use native.Mathlib.Omega.{arith}
-use borrow.Author.Tests.{not-true, not-false}
-use lib.ListN.{length}
-use Rattle.kept.specs.Next.{Skipped}
 use Rattle.kept.proofs.Entries.{skip_one, next_found, next_none}
-use borrow.Author.Rules.{rules}
 use Rattle.kept.proofs.search.next_entry.Goals as goal
 
 pub loop-k-init : goal.loop-k-init

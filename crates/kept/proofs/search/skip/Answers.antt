@@ -1,10 +1,6 @@
 -- `skip` passes over one block a turn. Assumes nothing.
-use Prim.Native.Nat.{◌-◌}
 use mathlib.Core.Path.{sym, ◌∙◌}
 use native.Mathlib.Omega.{arith}
-use borrow.Author.Tests.{not-false}
-use lib.ListN.{length}
-use Rattle.kept.specs.Next.{Skipped}
 use Rattle.kept.proofs.Entries.{skip_start, skip_block}
 use Rattle.kept.proofs.search.skip.Goals as goal
 
@@ -15,7 +11,7 @@ pub overflow_add-k : goal.overflow_add-k
 overflow_add-k c = omega (arith, c.loop-k.invariant.within, c.requires.rows_len_bound)
 
 pub block_apart-requires : goal.block_apart-requires
-block_apart-requires c =     record { rows_len = c.requires.rows_len; from_in_bounds = c.loop-k-test.true }
+block_apart-requires c = record { rows_len = c.requires.rows_len; from_in_bounds = c.loop-k-test.true }
 
 pub returns-then-not-block_apart : goal.returns-then-not-block_apart
 returns-then-not-block_apart c = c.loop-k.invariant

@@ -1,11 +1,7 @@
 -- `skip` passes over one block a turn. Assumes nothing.
 use Prim.Native.Nat.{◌-◌}
-use mathlib.Core.Path.{sym, ◌∙◌}
-use native.Mathlib.Omega.{arith}
-use borrow.Author.Tests.{not-false}
 use lib.ListN.{length}
 use Rattle.kept.specs.Next.{Skipped}
-use Rattle.kept.proofs.Entries.{skip_start, skip_block}
 use Rattle.kept.proofs.search.skip.Given as goal
 
 abbrev pub invariant-loop-k : goal.invariant-loop-k

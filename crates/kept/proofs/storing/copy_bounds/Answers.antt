@@ -1,9 +1,7 @@
 -- `copy_bounds` copies one bound a turn. Assumes nothing.
-use Prim.Native.Nat.{◌-◌}
 use mathlib.Core.Path.{refl}
 use native.Mathlib.Omega.{arith}
-use Rattle.kept.proofs.Coded.{Copied, copy_start, copy_turn, copy_done}
-use borrow.Author.Rules.{rules}
+use Rattle.kept.proofs.Coded.{copy_start, copy_turn, copy_done}
 use Rattle.kept.proofs.storing.copy_bounds.Goals as goal
 
 pub loop-i-init : goal.loop-i-init

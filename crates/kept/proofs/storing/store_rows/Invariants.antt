@@ -1,12 +1,8 @@
 -- `store_rows` stores one row a turn. Assumes nothing.
 use Prim.Native.Nat.{◌-◌}
-use mathlib.Core.Path.{ap, ◌∙◌}
-use native.Mathlib.Omega.{arith}
 use lib.ListN.{length, get_or}
 use Rattle.rows.specs.Stored.{row_on, Written}
-use Rattle.rows.proofs.Stored.{written_none, written_put, written_fewer}
 use Rattle.kept.specs.Kept.{stored_row}
-use borrow.Author.Rules.{rules}
 use Rattle.kept.proofs.storing.store_rows.Given as goal
 
 abbrev pub invariant-loop-t : goal.invariant-loop-t

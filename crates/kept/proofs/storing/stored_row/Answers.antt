@@ -1,7 +1,6 @@
 -- `stored_row` goes by the byte. Assumes nothing.
 use borrow.Author.Tests.{eq-eqb, ne_eqb}
 use Rattle.kept.specs.Kept.{stored_row}
-use borrow.Author.Rules.{rules}
 use Rattle.kept.proofs.storing.stored_row.Goals as goal
 
 pub returns-then-value-eq2 : goal.returns-then-value-eq2

@@ -1,9 +1,7 @@
 -- `strict_rows` is the model's count, a variable at a turn. Assumes nothing.
-use Prim.Native.Nat.{◌-◌}
 use mathlib.Core.Path.{refl}
 use native.Mathlib.Omega.{arith}
-use Rattle.kept.proofs.Strict.{Counting, count_start, count_few, count_turn, count_done}
-use borrow.Author.Rules.{rules}
+use Rattle.kept.proofs.Strict.{count_start, count_few, count_turn, count_done}
 use Rattle.kept.proofs.storing.strict_rows.Goals as goal
 
 pub loop-i-init : goal.loop-i-init

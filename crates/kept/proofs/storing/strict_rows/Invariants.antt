@@ -1,9 +1,6 @@
 -- `strict_rows` is the model's count, a variable at a turn. Assumes nothing.
 use Prim.Native.Nat.{◌-◌}
-use mathlib.Core.Path.{refl}
-use native.Mathlib.Omega.{arith}
-use Rattle.kept.proofs.Strict.{Counting, count_start, count_few, count_turn, count_done}
-use borrow.Author.Rules.{rules}
+use Rattle.kept.proofs.Strict.{Counting}
 use Rattle.kept.proofs.storing.strict_rows.Given as goal
 
 abbrev pub invariant-loop-i : goal.invariant-loop-i

@@ -3,7 +3,6 @@ use mathlib.Core.Path.{refl}
 use borrow.Author.Tests.{lt-ltb, le-ltb, eq-eqb, ne_eqb}
 use Rattle.scratch.proofs.All.{and_yes, and_no}
 use Rattle.kept.specs.Calls.{may_pin}
-use borrow.Author.Rules.{rules}
 use Rattle.kept.proofs.testing.may_pin.Goals as goal
 
 pub returns-then-variable-n : goal.returns-then-variable-n

@@ -3,7 +3,6 @@ use mathlib.Core.Path.{sym, ◌∙◌}
 use borrow.Author.Tests.{eq-eqb, ne_eqb}
 use Rattle.field.proofs.Table.{test_no, test_ok, none_left, group_no, group_ok}
 use Rattle.kept.specs.Calls.{bounds_fit, record_tests}
-use borrow.Author.Rules.{rules}
 use Rattle.kept.proofs.testing.recorded.Goals as goal
 
 pub returns-in-Failed : goal.returns-in-Failed

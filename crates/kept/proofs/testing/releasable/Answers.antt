@@ -1,10 +1,8 @@
 -- `releasable` makes tests 1 to 6, then 7. Assumes nothing.
 use mathlib.Core.Path.{sym, ◌∙◌}
-use borrow.Author.Tests.{not-true, not-false}
 use Rattle.field.proofs.Table.{test_no, test_ok, none_left, group_no, group_ok}
 use Rattle.kept.specs.Calls.{release_tests}
 use Rattle.kept.proofs.Tests.{record_passes}
-use borrow.Author.Rules.{rules}
 use Rattle.kept.proofs.testing.releasable.Goals as goal
 
 pub returns-in-Failed : goal.returns-in-Failed

@@ -3,7 +3,6 @@ use mathlib.Core.Path.{sym, ap, ◌∙◌}
 use native.Mathlib.Omega.{arith}
 use Rattle.kept.specs.Kept.{plain}
 use Rattle.kept.proofs.Equation.{stored_free, stored_fixed}
-use borrow.Author.Rules.{rules}
 use Rattle.kept.proofs.turning.afresh.Goals as goal
 
 pub bounds-values-i : goal.bounds-values-i

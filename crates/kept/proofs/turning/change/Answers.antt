@@ -11,10 +11,10 @@ pub bounds-values-i-2 : goal.bounds-values-i-2
 bounds-values-i-2 c = omega (arith, c.requires.i_bound, c.requires.recorded.sound.start.long)
 
 pub turn_rows-requires : goal.turn_rows-requires
-turn_rows-requires c =     record { recorded = record { sound = sound_set c.requires.recorded.sound _ _ c.requires.i_bound c.requires.value_bound; long = c.requires.recorded.long }; i_bound = c.requires.i_bound }
+turn_rows-requires c = record { recorded = record { sound = sound_set c.requires.recorded.sound _ _ c.requires.i_bound c.requires.value_bound; long = c.requires.recorded.long }; i_bound = c.requires.i_bound }
 
 pub afresh-requires : goal.afresh-requires
-afresh-requires c =     record { sound = sound_set c.requires.recorded.sound _ _ c.requires.i_bound c.requires.value_bound; i_bound = c.requires.i_bound }
+afresh-requires c = record { sound = sound_set c.requires.recorded.sound _ _ c.requires.i_bound c.requires.value_bound; i_bound = c.requires.i_bound }
 
 pub put_row-requires : goal.put_row-requires
 put_row-requires c =

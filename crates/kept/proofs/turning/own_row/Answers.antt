@@ -1,11 +1,7 @@
 -- `own_row` adds one term a turn. Assumes nothing.
-use Prim.Native.Nat.{◌-◌}
 use native.Mathlib.Omega.{arith}
-use lib.ListN.{length}
-use Rattle.field.specs.Field.{field_of}
 use Rattle.kept.proofs.Elsewhere.{other_below}
-use Rattle.kept.proofs.Entries.{Adds, adds_start, adds_turn, adds_end}
-use borrow.Author.Rules.{rules}
+use Rattle.kept.proofs.Entries.{adds_start, adds_turn, adds_end}
 use Rattle.kept.proofs.turning.own_row.Goals as goal
 
 pub overflow_cast-short : goal.overflow_cast-short

@@ -2,7 +2,6 @@
 use native.Mathlib.Omega.{arith}
 use Rattle.kept.proofs.Elsewhere.{other_below}
 use Rattle.kept.proofs.Coded.{turn_none, turn_one}
-use borrow.Author.Rules.{rules}
 use Rattle.kept.proofs.turning.turn_at.Goals as goal
 
 pub other_end-t-requires : goal.other_end-t-requires

@@ -1,9 +1,8 @@
 -- `turn_rows` goes from one entry of the variable to the next. Assumes nothing.
 use Prim.Native.Nat.{◌-◌}
-use native.Mathlib.Omega.{arith}
 use lib.ListN.{length}
 use Rattle.field.specs.Field.{field_of}
-use Rattle.kept.proofs.Entries.{Turns, turns_start, turns_turn, turns_long, turns_end}
+use Rattle.kept.proofs.Entries.{Turns}
 use Rattle.kept.proofs.turning.turn_rows.Given as goal
 
 abbrev pub invariant-loop-k : goal.invariant-loop-k

@@ -2,7 +2,6 @@
 use native.Mathlib.Omega.{arith}
 use Rattle.pairs.proofs.PairLaws.{tolerance_is}
 use Rattle.pairs.proofs.ListLaws.{appended_as, pair_stands, pair_below}
-use borrow.Author.Rules.{rules}
 use Rattle.pairs.proofs.listing.append_pair.Goals as goal
 
 pub overflow_add-n : goal.overflow_add-n
@@ -30,7 +29,7 @@ bounds-f-n-2 c =
     omega (arith, c.requires.prepared.laid.floats, c.requires.i_bound)
 
 pub pair_bounds-bounds-requires : goal.pair_bounds-bounds-requires
-pair_bounds-bounds-requires c =     record { prepared = c.requires.prepared; i_bound = c.requires.i_bound; i_value = c.requires.i_value; t_value = tolerance_is c.requires.prepared c.requires.i_bound.0 c.requires.i_bound.1 c.tolerance-t.ensures }
+pair_bounds-bounds-requires c = record { prepared = c.requires.prepared; i_bound = c.requires.i_bound; i_value = c.requires.i_value; t_value = tolerance_is c.requires.prepared c.requires.i_bound.0 c.requires.i_bound.1 c.tolerance-t.ensures }
 
 pub overflow_cast-i : goal.overflow_cast-i
 overflow_cast-i c = omega (arith, c.requires.prepared.laid.shaped.few_variables, c.requires.i_bound)
@@ -47,8 +46,11 @@ overflow_cast-j-2 c = omega (arith, c.requires.prepared.laid.shaped.few_variable
 pub append-requires : goal.append-requires
 append-requires c =
     let few = c.requires.prepared.laid.shaped.few_variables in
-    record { at_bound = c.requires.at_bound; key_bound = pair_below c.args.i c.args.j (omega (arith, few, c.requires.i_bound)) (omega (arith, few, c.requires.i_bound)) _ _ c.sum_key-a.ensures
-          c.diff_key-b.ensures }
+    record {
+      at_bound = c.requires.at_bound;
+      key_bound = pair_below c.args.i c.args.j (omega (arith, few, c.requires.i_bound)) (omega (arith, few, c.requires.i_bound)) _ _ c.sum_key-a.ensures
+          c.diff_key-b.ensures;
+    }
 
 pub returns : goal.returns
 returns c =

@@ -1,5 +1,4 @@
 -- `diff_key` goes by the sign of the difference. Assumes nothing.
-use borrow.Author.Rules.{rules}
 use Rattle.margins.specs.Model.{diff_kinds}
 use Rattle.pairs.proofs.listing.diff_key.Goals as goal
 

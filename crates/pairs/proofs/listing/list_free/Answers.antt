@@ -1,8 +1,6 @@
 -- `list_free` stores each variable, and counts the free ones. Assumes nothing.
-use Prim.Native.Nat.{◌-◌}
 use native.Mathlib.Omega.{arith}
-use Rattle.pairs.proofs.FreeLaws.{Freeing, freed_start, freeing_few, freeing_turn, freeing_done}
-use borrow.Author.Rules.{rules}
+use Rattle.pairs.proofs.FreeLaws.{freed_start, freeing_few, freeing_turn, freeing_done}
 use Rattle.pairs.proofs.listing.list_free.Goals as goal
 
 pub loop-i-init : goal.loop-i-init

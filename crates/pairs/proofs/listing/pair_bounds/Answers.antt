@@ -1,5 +1,4 @@
 -- `pair_bounds` looks up the weight between the two variables and walks their rows. Assumes nothing.
-use borrow.Author.Rules.{rules}
 use native.Mathlib.Omega.{arith}
 use Rattle.pairs.proofs.PairLaws.{row_asks, edge_is, walk_asks, walk_says}
 use Rattle.pairs.proofs.listing.pair_bounds.Goals as goal
@@ -81,7 +80,7 @@ bounds-u-ends-2 c =
     omega (arith, c.requires.prepared.laid.words, c.requires.prepared.laid.floats, c.requires.prepared.laid.shaped, c.requires.i_bound)
 
 pub weight_of-edge-requires : goal.weight_of-edge-requires
-weight_of-edge-requires c =     let both = row_asks c.requires.prepared c.requires.i_bound.0 c.requires.i_value.0 c.wide_word-left.ensures c.wide_word-ei.ensures in
+weight_of-edge-requires c = let both = row_asks c.requires.prepared c.requires.i_bound.0 c.requires.i_value.0 c.wide_word-left.ensures c.wide_word-ei.ensures in
     record { rises = both.0; to_in_bounds = both.1.0; to_in_bounds_2 = both.1.1 }
 
 pub offset_bounds-f-i : goal.offset_bounds-f-i

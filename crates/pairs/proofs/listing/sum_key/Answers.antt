@@ -1,5 +1,4 @@
 -- `sum_key` goes by the sign of the sum. Assumes nothing.
-use borrow.Author.Rules.{rules}
 use Rattle.margins.specs.Model.{sum_kinds}
 use Rattle.pairs.proofs.listing.sum_key.Goals as goal
 

@@ -1,14 +1,10 @@
 -- `walk_pairs` examines one pair a turn. Assumes nothing.
-use Prim.Native.Nat.{◌-◌}
 use mathlib.Core.Path.{sym, ap, ◌∙◌}
 use native.Mathlib.Omega.{arith}
 use lib.ListN.{length}
-use Rattle.field.specs.Field.{field_of}
-use Rattle.pairs.specs.Walk.{Walking}
 use Rattle.pairs.proofs.FreeLaws.{free_is, free_in}
 use Rattle.pairs.proofs.ListLaws.{length_written}
 use Rattle.pairs.proofs.WalkLaws.{walking_start, walking_few, walking_reads, left_pairs, walking_turn, walking_done}
-use borrow.Author.Rules.{rules}
 use Rattle.pairs.proofs.listing.walk_pairs.Goals as goal
 
 pub loop-x-init : goal.loop-x-init
@@ -57,12 +53,17 @@ append_pair-items-requires c =
     let r = walking_reads v c.requires.freed.many t in
     let a = free_in c.requires.freed r.0 c.wide_word-i.ensures in
     let b = free_in c.requires.freed r.1.0 c.wide_word-j.ensures in
-    record { prepared = c.requires.prepared; i_bound = (omega (arith, a.0, c.requires.prepared.laid.values.long), omega (arith, b.0, c.requires.prepared.laid.values.long)); i_value = (a.1, b.1); at_bound = omega (
-            arith,
-            walking_few v,
-            left_pairs v c.requires.freed.many t,
-            c.capped-most.ensures,
-          ) }
+    record {
+      prepared = c.requires.prepared;
+      i_bound = (omega (arith, a.0, c.requires.prepared.laid.values.long), omega (arith, b.0, c.requires.prepared.laid.values.long));
+      i_value = (a.1, b.1);
+      at_bound = omega (
+        arith,
+        walking_few v,
+        left_pairs v c.requires.freed.many t,
+        c.capped-most.ensures,
+      );
+    }
 
 pub overflow_add-pairs : goal.overflow_add-pairs
 overflow_add-pairs c =

@@ -1,6 +1,5 @@
 -- `after` goes to the next second variable, or to the next first one. Assumes nothing.
 use borrow.Author.Tests.{lt-ltb, le-ltb}
-use borrow.Author.Rules.{rules}
 use Rattle.pairs.proofs.listing.Cursor.after.Goals as goal
 
 pub returns-then-second-k : goal.returns-then-second-k
