@@ -50,7 +50,7 @@ module _ {F : Field} {s : List ℕ} {f : List Float} {u : List ℕ} {known : Kno
   s_long = H.remembers.start.long
 
   kept_below : (p : ℕ) → p < k → get_or u (kept_at F + p) 0 < n
-  kept_below p h = omega (arith, inside s (get_or u (kept_at F + p) 0) (H.Kept-free p h), s_long)
+  kept_below p h = omega (arith, inside s (get_or u (kept_at F + p) 0) (H.kept_free p h), s_long)
 
   small_i : i < 4096
   small_i = omega (arith, H.few, probed_below H.remembers i 0 H.free (omega arith))
@@ -148,7 +148,7 @@ module _ {F : Field} {s : List ℕ} {f : List Float} {u : List ℕ} {known : Kno
               place = m.place;
               high = m.high;
               holds = list₂ m.place m.high ∙ m.holds;
-              enough = omega (arith, a, ap (λ (z : ℕ). get_or s z 0) m.holds, H.Kept-free m.place m.high);
+              enough = omega (arith, a, ap (λ (z : ℕ). get_or s z 0) m.holds, H.kept_free m.place m.high);
             }))
             (λ b. inr (none (sym (H.first j h) ∙ b) (gives_start i j (get_or s j 0) (get_or w j 0) a)))
             (H.forced j h))
@@ -197,7 +197,7 @@ module _ {F : Field} {s : List ℕ} {f : List Float} {u : List ℕ} {known : Kno
 
             first₄ : (j : ℕ) → j < n → get_or u₄ (first_at F + j) 0 ≡ 2
             first₄ j h = ap (λ (z : List ℕ). get_or z (first_at F + j) 0) reset ∙ ⊎_elim
-                (λ a. let p = a.0.0 in let b = a.0.1.0 in a.1 ∙ ap (λ (z : ℕ). get_or s z 0) (sym a.0.1.1 ∙ list₃ p b) ∙ H.Kept-free p b)
+                (λ a. let p = a.0.0 in let b = a.0.1.0 in a.1 ∙ ap (λ (z : ℕ). get_or s z 0) (sym a.0.1.1 ∙ list₃ p b) ∙ H.kept_free p b)
                 (λ a. a.1
                 ∙ enters₃.others (first_at F + j) (omega (arith, N.low)) (λ x b e. absurd (omega arith))
                 ∙ behind₁ (first_at F + j) (omega arith)
