@@ -13,11 +13,9 @@ returns-then-set-gt15 c =
     and_yes (lt-ltb 0 c.args.set (omega (arith, c.if-set-eq0.false))) (and_no _ (le-ltb c.args.set 16 (omega (arith, c.if-set-gt15.true))))
 
 pub returns-then-lower-higher : goal.returns-then-lower-higher
-returns-then-lower-higher c =
-    and_yes (lt-ltb 0 c.args.set (omega (arith, c.if-set-eq0.false)))
+returns-then-lower-higher c = and_yes (lt-ltb 0 c.args.set (omega (arith, c.if-set-eq0.false)))
     (and_yes (lt-ltb c.args.set 16 (omega (arith, c.if-set-gt15.false))) (and_no _ (le-ltb _ _ c.if-lower-higher.true)))
 
 pub returns : goal.returns
-returns c =
-    and_yes (lt-ltb 0 c.args.set (omega (arith, c.if-set-eq0.false)))
+returns c = and_yes (lt-ltb 0 c.args.set (omega (arith, c.if-set-eq0.false)))
     (and_yes (lt-ltb c.args.set 16 (omega (arith, c.if-set-gt15.false))) (and_yes (lt-ltb _ _ c.if-lower-higher.false) refl))
