@@ -15,17 +15,17 @@ use Rattle.parts.proofs.Listed.{other_ends}
 use Rattle.enumeration.specs.Terms.{linear_at, linear_from, linear_part, linear_terms, terms_of, mask_of}
 
 module _ {F : Field} (S : Shaped F) (s v : List ℕ) where
-  from_alike : (i : ℕ) (sum : Float) (ks : List ℕ)
+  from_alike : (i : ℕ) (ks : List ℕ) (sum : Float)
       → ((x : ℕ) → x < length ks → get_or v (other_end F.rows F.cols i (get_or ks x 0)) 0 ≡ get_or s (other_end F.rows F.cols i (get_or ks x 0)) 0)
       → linear_from F v i sum ks ≡ linear_from F s i sum ks
   unfolding linear_from linear_at
-  from_alike i sum [] same = refl
-  from_alike i sum (k ∷ ks) same = rw (same 0 (omega arith)) (from_alike i _ ks (λ x h. same (suc x) (omega arith)))
+  from_alike i [] sum same = refl
+  from_alike i (k ∷ ks) sum same = rw (same 0 (omega arith)) (from_alike i ks _ (λ x h. same (suc x) (omega arith)))
 
   -- the linear part of i
   part_alike : (i : ℕ) → ((j : ℕ) → Joined F true i j → get_or v j 0 ≡ get_or s j 0) → linear_part F v i ≡ linear_part F s i
   unfolding linear_part
-  part_alike i same = from_alike i (linear_of F i) (places F.rows F.cols i) (λ x h. same _ (joined x h))
+  part_alike i same = from_alike i (places F.rows F.cols i) (linear_of F i) (λ x h. same _ (joined x h))
     where
       joined : (x : ℕ) → x < length (places F.rows F.cols i) → Joined F true i (other_end F.rows F.cols i (get_or (places F.rows F.cols i) x 0))
       joined x h =
