@@ -109,13 +109,13 @@ module _ {u : ℕ} {F : Field} (S : Shaped F) (x : ExactIn u F) where
       go true t = plus_plain p (quad_half k h) (omega arith) (omega (arith, quad_under x k h)) (omega (arith, quad_under x k h))
       go false t = plain_as p (omega (arith, (zero_test (quad_half k h)).0 t))
 
-  plain_over : {e : Expansion} {a : Whole} (ks : List ℕ) (n : ℕ) → n + length ks ≤ 32768 → ((h : ℕ) → h < length ks → get_or ks h 0 < entries F) → Sized n a → Plain u e a
+  plain_over_lem : {e : Expansion} {a : Whole} (ks : List ℕ) (n : ℕ) → n + length ks ≤ 32768 → ((h : ℕ) → h < length ks → get_or ks h 0 < entries F) → Sized n a → Plain u e a
       → Plain u (balance_over F e ks) (a ⊕ gather (twice u F) ks)
   unfolding balance_over gather
-  plain_over [] n hn all l p = plain_as p (omega arith)
-  plain_over {e} {a} (k ∷ ks) n hn all l p =
+  plain_over_lem [] n hn all l p = plain_as p (omega arith)
+  plain_over_lem {e} {a} (k ∷ ks) n hn all l p =
       let here : k < entries F = all 0 (omega arith) in
-      plain_as (plain_over ks (suc n) (omega arith) (λ h b. all (suc h) (omega arith)) (omega (arith, quad_under x k here)) (plain_at n k (omega arith) here l p)) (omega arith)
+      plain_as (plain_over_lem ks (suc n) (omega arith) (λ h b. all (suc h) (omega arith)) (omega (arith, quad_under x k here)) (plain_at n k (omega arith) here l p)) (omega arith)
 
   -- every sum of a plain sum is whole, and below 2^53
   worth_over : {y : Float} {a : Whole} (ks : List ℕ) (n : ℕ) → n + length ks ≤ 32768 → ((h : ℕ) → h < length ks → get_or ks h 0 < entries F) → Sized n a → Worth u y a
@@ -146,7 +146,7 @@ module _ {u : ℕ} {F : Field} (S : Shaped F) (x : ExactIn u F) where
 
     balance_plain : Plain u (balance_of F i) all_of
     unfolding balance_of
-    balance_plain = let a = linear_under x i hi in plain_over (places F.rows F.cols i) 0 few within (omega (arith, a)) first_plain
+    balance_plain = let a = linear_under x i hi in plain_over_lem (places F.rows F.cols i) 0 few within (omega (arith, a)) first_plain
 
     -- 4c and any of the entries, one after another
     worth_along : (ks : List ℕ) → 0 + length ks ≤ 32768 → ((h : ℕ) → h < length ks → get_or ks h 0 < entries F)

@@ -42,21 +42,21 @@ module _ {u : ℕ} {F : Field} (S : Shaped F) (x : Serves u F) where
   abbrev Sized : ℕ → Whole → Type 0
   Sized n a = Under (2 ^ 31 * n) a
 
-  weight_at : {y : Float} {a : Whole} (n k : ℕ) → n < 32768 → k < entries F → Sized n a → Worth (suc u) y a → Worth (suc u) (weight_at F y k) (a ⊕ size_at k)
+  weight_at_lem : {y : Float} {a : Whole} (n k : ℕ) → n < 32768 → k < entries F → Sized n a → Worth (suc u) y a → Worth (suc u) (weight_at F y k) (a ⊕ size_at k)
   unfolding weight_at
-  weight_at {y} {a} n k hn h l w = rw (off_diagonal k h) (go (ne (quad_of F k) zero64) (λ e. (zero_test (quad_worth x.exact k h)).0 e))
+  weight_at_lem {y} {a} n k hn h l w = rw (off_diagonal k h) (go (ne (quad_of F k) zero64) (λ e. (zero_test (quad_worth x.exact k h)).0 e))
     where
       go : (b : Bool) → (b ≡ false → (W.weight k).plus ≡ (W.weight k).less) → Worth (suc u) (cond b (add binary64 y (magnitude (quad_of F k))) y) (a ⊕ size_at k)
       go true z = add_worth w (magnitude_worth (quad_worth x.exact k h)) (omega (arith, quad_under x.exact k h))
       go false z = as_worth w (omega (arith, z refl))
 
-  weight_over : {y : Float} {a : Whole} (ks : List ℕ) (n : ℕ) → n + length ks ≤ 32768 → ((h : ℕ) → h < length ks → get_or ks h 0 < entries F) → Sized n a → Worth (suc u) y a
+  weight_over_lem : {y : Float} {a : Whole} (ks : List ℕ) (n : ℕ) → n + length ks ≤ 32768 → ((h : ℕ) → h < length ks → get_or ks h 0 < entries F) → Sized n a → Worth (suc u) y a
       → Worth (suc u) (weight_over F y ks) (a ⊕ gather size_at ks)
   unfolding weight_over gather
-  weight_over [] n hn all l w = as_worth w (omega arith)
-  weight_over (k ∷ ks) n hn all l w =
+  weight_over_lem [] n hn all l w = as_worth w (omega arith)
+  weight_over_lem (k ∷ ks) n hn all l w =
       let here : k < entries F = all 0 (omega arith) in
-      as_worth (weight_over ks (suc n) (omega arith) (λ h b. all (suc h) (omega arith)) (omega (arith, quad_under x.exact k here)) (weight_at n k (omega arith) here l w)) (omega arith)
+      as_worth (weight_over_lem ks (suc n) (omega arith) (λ h b. all (suc h) (omega arith)) (omega (arith, quad_under x.exact k here)) (weight_at_lem n k (omega arith) here l w)) (omega arith)
 
   -- an entry off the diagonal counts where it touches i
   edge_is : (i k : ℕ) → k < entries F → only (touches F i k) (size_at k) ≈ edge W i k
@@ -69,7 +69,7 @@ module _ {u : ℕ} {F : Field} (S : Shaped F) (x : Serves u F) where
       let few : 0 + length (places F.rows F.cols i) ≤ 32768 = omega (arith, places_le F.rows F.cols i, S.rows_long, S.few_entries) in
       let within : (h : ℕ) → h < length (places F.rows F.cols i) → get_or (places F.rows F.cols i) h 0 < entries F =
       λ h l. omega (arith, (places_touch F.rows F.cols i h l).0, S.rows_long) in
-      as_worth (weight_over {a = nothing} (places F.rows F.cols i) 0 few within (omega arith) (zero_worth (omega (arith, x.to))))
+      as_worth (weight_over_lem {a = nothing} (places F.rows F.cols i) 0 few within (omega arith) (zero_worth (omega (arith, x.to))))
       (omega (arith, gather_places S size_at i, sum_same (entries F) (λ k. only (touches F i k) (size_at k)) (edge W i) (edge_is i)))
 
   -- ---- the leader

@@ -30,9 +30,9 @@ record Weight (w : Float) : Type 0 where
   held : T (fits binary64 w)
 
 module _ {F : Field} (S : Shaped F) (fine : Finite F) where
-  weight_at : {w : Float} (k : ℕ) → k < entries F → Weight w → Weight (weight_at F w k)
+  weight_at_lem : {w : Float} (k : ℕ) → k < entries F → Weight w → Weight (weight_at F w k)
   unfolding weight_at
-  weight_at {w} k h p = go (on_diagonal F k) (ne (quad_of F k) zero64)
+  weight_at_lem {w} k h p = go (on_diagonal F k) (ne (quad_of F k) zero64)
     where
       go : (b d : Bool) → Weight (cond b w (cond d (add binary64 w (magnitude (quad_of F k))) w))
       go true d = p
@@ -42,14 +42,14 @@ module _ {F : Field} (S : Shaped F) (fine : Finite F) where
       }
       go false false = p
 
-  weight_over : {w : Float} (ks : List ℕ) → ((h : ℕ) → h < length ks → get_or ks h 0 < entries F) → Weight w → Weight (weight_over F w ks)
+  weight_over_lem : {w : Float} (ks : List ℕ) → ((h : ℕ) → h < length ks → get_or ks h 0 < entries F) → Weight w → Weight (weight_over F w ks)
   unfolding weight_over
-  weight_over [] all p = p
-  weight_over (k ∷ ks) all p = weight_over ks (λ h b. all (suc h) (omega arith)) (weight_at k (all 0 (omega arith)) p)
+  weight_over_lem [] all p = p
+  weight_over_lem (k ∷ ks) all p = weight_over_lem ks (λ h b. all (suc h) (omega arith)) (weight_at_lem k (all 0 (omega arith)) p)
 
-  weight_of : (i : ℕ) → Weight (weight_of F i)
+  weight_of_lem : (i : ℕ) → Weight (weight_of F i)
   unfolding weight_of of_bits fits
-  weight_of i = weight_over (places F.rows F.cols i) (λ h l. omega (arith, (places_touch F.rows F.cols i h l).0, S.rows_long)) (record { clear_one = tt; held = tt })
+  weight_of_lem i = weight_over_lem (places F.rows F.cols i) (λ h l. omega (arith, (places_touch F.rows F.cols i h l).0, S.rows_long)) (record { clear_one = tt; held = tt })
 
 -- ---- ranks
 
@@ -113,4 +113,4 @@ rank_of F i = rank (weight_of F i)
 
 pub weight_ranked : {F : Field} → Shaped F → Finite F → (i : ℕ) → Ranked (weight_of F i) (rank_of F i)
 unfolding rank_of
-weight_ranked {F} S fine i = ranked (weight_of F i) (weight_of S fine i)
+weight_ranked {F} S fine i = ranked (weight_of F i) (weight_of_lem S fine i)

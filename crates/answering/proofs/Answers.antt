@@ -104,9 +104,9 @@ module _ (f : List Float) (u : List ℕ) {F : Field} {s v v' : List ℕ} {f' : L
   unfolding field_text checked_text
   done_text e = let is = done_is F f u floats words same call e in rw is.0 (rw (is.1, is.2))
 
-  pub refused_text : {r : Refusal} → a ≡ Refuses r → refused_text (number_of r) ≡ field_text F s
+  pub refused_text_lem : {r : Refusal} → a ≡ Refuses r → refused_text (number_of r) ≡ field_text F s
   unfolding field_text checked_text
-  refused_text e = rw (refused_is F f u floats words same call e)
+  refused_text_lem e = rw (refused_is F f u floats words same call e)
 
 -- ---- the input's text
 
@@ -144,9 +144,9 @@ module _ {s : List ℕ} {p p' : Told} {r : Parsed} (done : Parses s p r p') wher
     values_long = omega (arith, counted.linear, length-take-le n values (omega (arith, counted.few_variables)));
   }
 
-  pub field_text : {n m end : ℕ} → r ≡ Found n m end → length s ≤ end → field_text (front_field n m p') (take n p'.start) ≡ answer_bytes s
+  pub field_text_lem : {n m end : ℕ} → r ≡ Found n m end → length s ≤ end → field_text (front_field n m p') (take n p'.start) ≡ answer_bytes s
   unfolding answer_bytes
-  field_text {end = end} e last =
+  field_text_lem {end = end} e last =
       let at = field_fronts done e in
       let all : end ≡ length s = omega (arith, (field_end done e).reached) in
       let text : outcome_text (length s) (parsed s) ≡ told_text (parsed s).told =

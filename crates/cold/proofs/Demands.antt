@@ -21,7 +21,7 @@ use Rattle.probes.specs.Call.{probe_by, probe_limited_by}
 use Rattle.probes.specs.Route.{Agrees}
 use Rattle.probes.specs.Rule.{Given, GivesValue, LastGives, NoneGives, GreatestGives, NoFreeGives}
 use Rattle.probes.specs.Says.{listed, value_at}
-use Rattle.probes.proofs.Routes.{one_by, probe_by, limited_by}
+use Rattle.probes.proofs.Routes.{one_by, probe_by_lem, limited_by}
 use Rattle.probes.proofs.FullCall as full
 use Rattle.probes.proofs.LimitedCall as limited
 
@@ -49,7 +49,7 @@ module _ {R : Route} (agrees : Agrees R) (F : Field) (s : List ℕ) where
 
   module _ (t k : List ℕ) (f : List Float) (u : List ℕ) {count : ℕ} (e : (probe_by R F s t k f u).answer ≡ Counts Exact count) {unit : ℕ} (serving : Serves unit F) where
     same_full : probe_by R F s t k f u ≡ probe_by cold F s t k f u
-    same_full = probe_by agrees F s t k f u
+    same_full = probe_by_lem agrees F s t k f u
 
     -- Theorem. DEMAND 2. A pair is forbidden by the list exactly if the probes of a free variable forbid it.
     pub full_list_exact : (i j : ℕ) (p : Pair) → Bans (listed count (probe_by R F s t k f u)) i j p ↔ Given (whole_of unit F) s (λ i. get_or s i 0 ≡ 2) i j p

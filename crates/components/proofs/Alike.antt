@@ -91,10 +91,10 @@ module _ (F : Field) (zeros : Bool) where
   walk_alike marks marks' start A =
       turns_alike (variables F) _ _ (record { search = visit_alike (search marks []) (search marks' []) start (record { marks = A; stack = refl }); members = refl })
 
-  parts_to : (marks marks' : List ℕ) (i : ℕ) → Alike marks marks' → Finds (parts_to F zeros marks i) (parts_to F zeros marks' i)
+  parts_to_lem : (marks marks' : List ℕ) (i : ℕ) → Alike marks marks' → Finds (parts_to F zeros marks i) (parts_to F zeros marks' i)
   unfolding parts_to part_at
-  parts_to marks marks' zero A = record { marks = A; found = refl }
-  parts_to marks marks' (suc i) A = go (parts_to F zeros marks i) (parts_to F zeros marks' i) (parts_to marks marks' i A)
+  parts_to_lem marks marks' zero A = record { marks = A; found = refl }
+  parts_to_lem marks marks' (suc i) A = go (parts_to F zeros marks i) (parts_to F zeros marks' i) (parts_to_lem marks marks' i A)
     where
       go : (p p' : Parts) → Finds p p' → Finds (part_at F zeros p i) (part_at F zeros p' i)
       go p p' P =
@@ -105,7 +105,7 @@ module _ (F : Field) (zeros : Bool) where
   -- the same components in the same order, each in the same pop order
   pub components_alike : (marks marks' : List ℕ) → Alike marks marks' → components F zeros marks' ≡ components F zeros marks
   unfolding components
-  components_alike marks marks' A = (parts_to marks marks' (variables F) A).found
+  components_alike marks marks' A = (parts_to_lem marks marks' (variables F) A).found
 
 -- ---- values that are the same at the ends of entries
 

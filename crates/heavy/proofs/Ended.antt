@@ -22,7 +22,7 @@ use Rattle.preprocess.proofs.Sizes.{model_small}
 use Rattle.heavy.specs.Rounds.{laid_over, probe_values, round, all_rounds, heavy}
 use Rattle.heavy.specs.Comes.{Comes}
 use Rattle.heavy.specs.Call.{heavy_call}
-use Rattle.heavy.proofs.Values.{new_values, laid_at, laid_value}
+use Rattle.heavy.proofs.Values.{new_values, laid_at_lem, laid_value}
 use Rattle.heavy.proofs.Added.{frees_fewer, preprocess_start, preprocess_extends, preprocess_closes, round_probes, round_sound, rounds_sound, rounds_extend, rounds_are}
 use Rattle.heavy.proofs.Demands.{sound, values_are, rounds_end}
 
@@ -69,7 +69,7 @@ module _ {F : Field} where
   unfolding round
   in_round {s} S i n = ⊎_elim
       (λ z. inr (new_values F (preprocess F s) i (omega (arith, z.0, (preprocess_start S).long)) z.1.0, sym z.1.1))
-      (λ e. inl (sym e)) (laid_at (probe_values F (preprocess F s)) (preprocess F s) i)
+      (λ e. inl (sym e)) (laid_at_lem (probe_values F (preprocess F s)) (preprocess F s) i)
 
   comes_in : (k : ℕ) {s : List ℕ} → Sound F s → (i : ℕ) → get_or s i 0 ≡ 2 → get_or (all_rounds F k s) i 0 ≢ 2 → Comes F s k i (get_or (all_rounds F k s) i 0)
   unfolding all_rounds

@@ -51,8 +51,8 @@ module _ (t s : List ℕ) where
   laid_none j l h = get_d_up_to (λ j. laid_at (get_or t j 0) (get_or s j 0)) (length s) j 0 l ∙ rw (le-ltb (get_or t j 0) 2 h)
 
   -- each place has the value of t, or that of s
-  pub laid_at : (j : ℕ) → ((j < length s) × ((get_or t j 0 < 2) × (get_or (laid_over t s) j 0 ≡ get_or t j 0))) ⊎ (get_or (laid_over t s) j 0 ≡ get_or s j 0)
-  laid_at j = elim (dec_lt j (length s)) [
+  pub laid_at_lem : (j : ℕ) → ((j < length s) × ((get_or t j 0 < 2) × (get_or (laid_over t s) j 0 ≡ get_or t j 0))) ⊎ (get_or (laid_over t s) j 0 ≡ get_or s j 0)
+  laid_at_lem j = elim (dec_lt j (length s)) [
     | no out ↦ inr (get_or-eq_default (laid_over t s) 0 {n = j} (omega (arith, laid_long)) ∙ sym (get_or-eq_default s 0 {n = j} (omega arith)))
     | yes l ↦ elim (dec_lt (get_or t j 0) 2) [
       | yes h ↦ inl (l, (h, laid_value j l h))
@@ -61,15 +61,15 @@ module _ (t s : List ℕ) where
   ]
 
   pub laid_small : Valid s → Valid (laid_over t s)
-  laid_small small j = ⊎_elim (λ z. omega (arith, z.1.0, z.1.1)) (λ e. omega (arith, small j)) (laid_at j)
+  laid_small small j = ⊎_elim (λ z. omega (arith, z.1.0, z.1.1)) (λ e. omega (arith, small j)) (laid_at_lem j)
 
   -- values of free variables alone keep the others
   pub laid_extends : ((j : ℕ) → j < length s → get_or t j 0 < 2 → get_or s j 0 ≡ 2) → Extends s (laid_over t s)
-  laid_extends new = record { as_long = laid_long; kept = λ j. ⊎_elim (λ z. inl (new j z.0 z.1.0)) inr (laid_at j) }
+  laid_extends new = record { as_long = laid_long; kept = λ j. ⊎_elim (λ z. inl (new j z.0 z.1.0)) inr (laid_at_lem j) }
 
   -- what has the values of both has them together
   pub laid_among : {x : List ℕ} → Extends s x → ((j : ℕ) → j < length s → get_or t j 0 < 2 → get_or x j 0 ≡ get_or t j 0) → Extends (laid_over t s) x
   laid_among p has = record {
     as_long = p.as_long ∙ sym laid_long;
-    kept = λ j. ⊎_elim (λ z. inr (has j z.0 z.1.0 ∙ sym z.1.1)) (λ e. ⊎_elim (λ f. inl (e ∙ f)) (λ f. inr (f ∙ sym e)) (p.kept j)) (laid_at j);
+    kept = λ j. ⊎_elim (λ z. inr (has j z.0 z.1.0 ∙ sym z.1.1)) (λ e. ⊎_elim (λ f. inl (e ∙ f)) (λ f. inr (f ∙ sym e)) (p.kept j)) (laid_at_lem j);
   }

@@ -57,15 +57,15 @@ module _ {R : Route} (agrees : Agrees R) where
           rw (agrees F p.ready.sound.shaped s p.ready.sound.start i v p.free (omega (arith, p.small))) refl
 
   module _ {F : Field} {s : List ℕ} {floats words : ℕ} (ready : Ready F s floats words) where
-    finding_by : (i : ℕ) → get_or s i 0 ≡ 2 → (j : ℕ) → finding_by R F s i j ≡ finding_by cold F s i j
+    finding_by_lem : (i : ℕ) → get_or s i 0 ≡ 2 → (j : ℕ) → finding_by R F s i j ≡ finding_by cold F s i j
     unfolding finding_by
-    finding_by i free j =
+    finding_by_lem i free j =
         let at = agrees F ready.sound.shaped s ready.sound.start i in
         rw (at 0 free (omega arith), at 1 free (omega arith)) refl
 
     module _ (cands : List ℕ) (free : FreeCandidates s cands) where
       turn : (k : ℕ) → k < length cands → (j : ℕ) → finding_by R F s (get_or cands k 0) j ≡ finding_by cold F s (get_or cands k 0) j
-      turn k h = finding_by (get_or cands k 0) (free (get_or cands k 0) (at_in cands k h))
+      turn k h = finding_by_lem (get_or cands k 0) (free (get_or cands k 0) (at_in cands k h))
 
       records_by : (k : ℕ) → k ≤ length cands → records_found_by R F s cands k ≡ records_found_by cold F s cands k
       unfolding records_found_by
@@ -78,33 +78,33 @@ module _ {R : Route} (agrees : Agrees R) where
       values_by zero h = refl
       values_by (suc k) h = values_same _ _ (turn k (omega arith)) _ ∙ ap (values_after (finding_by cold F s (get_or cands k 0))) (values_by k (omega arith))
 
-      all_records_by : all_records_by R F s cands ≡ all_records_by cold F s cands
+      all_records_by_lem : all_records_by R F s cands ≡ all_records_by cold F s cands
       unfolding all_records_by
-      all_records_by = rw (records_by (length cands) (le_refl (length cands))) refl
+      all_records_by_lem = rw (records_by (length cands) (le_refl (length cands))) refl
 
-      all_values_by : all_values_by R F s cands ≡ all_values_by cold F s cands
+      all_values_by_lem : all_values_by R F s cands ≡ all_values_by cold F s cands
       unfolding all_values_by
-      all_values_by = values_by (length cands) (le_refl (length cands))
+      all_values_by_lem = values_by (length cands) (le_refl (length cands))
 
-  candidates_by : (F : Field) (s cands t k : List ℕ) (f : List Float) (u : List ℕ) → FreeCandidates s cands
+  candidates_by_lem : (F : Field) (s cands t k : List ℕ) (f : List Float) (u : List ℕ) → FreeCandidates s cands
       → candidates_by R F s cands t k f u ≡ candidates_by cold F s cands t k f u
   unfolding candidates_by fits_by
-  candidates_by F s cands t k f u free = go (tested (ready_tests F s (length f) (length u))) refl
+  candidates_by_lem F s cands t k f u free = go (tested (ready_tests F s (length f) (length u))) refl
     where
       go : (x : Checked) → tested (ready_tests F s (length f) (length u)) ≡ x → candidates_by R F s cands t k f u ≡ candidates_by cold F s cands t k f u
       go (Failed r) e = sym (usual.refused_call Refuses _ _ _ _ e) ∙ usual.refused_call Refuses _ _ _ _ e
       go Passed e =
           let ready = (ready_passes F s (length f) (length u)).0 e in
-          rw (all_records_by ready cands free, all_values_by ready cands free) refl
+          rw (all_records_by_lem ready cands free, all_values_by_lem ready cands free) refl
 
-  pub probe_by : (F : Field) (s t k : List ℕ) (f : List Float) (u : List ℕ) → probe_by R F s t k f u ≡ probe_by cold F s t k f u
+  pub probe_by_lem : (F : Field) (s t k : List ℕ) (f : List Float) (u : List ℕ) → probe_by R F s t k f u ≡ probe_by cold F s t k f u
   unfolding probe_by
-  probe_by F s t k f u = candidates_by F s _ t k f u (full_free s (variables F))
+  probe_by_lem F s t k f u = candidates_by_lem F s _ t k f u (full_free s (variables F))
 
   pub limited_by : (F : Field) (s : List ℕ) (limit : ℕ) (t k : List ℕ) (f : List Float) (u : List ℕ)
       → probe_limited_by R F s limit t k f u ≡ probe_limited_by cold F s limit t k f u
   unfolding probe_limited_by
-  limited_by F s limit t k f u = candidates_by F s _ t k f u (limited_free F s limit)
+  limited_by F s limit t k f u = candidates_by_lem F s _ t k f u (limited_free F s limit)
 
 -- ---- THE CALLS, on every input, refusals and 9 included: the answer, each answer list and both scratches
 
@@ -114,7 +114,7 @@ one_routes = one_by routes_agree
 
 -- Theorem. The fast and the cold probe of all free variables answer and leave the same, on every input.
 pub probe_routes : (F : Field) (s t k : List ℕ) (f : List Float) (u : List ℕ) → probe_by fast F s t k f u ≡ probe_by cold F s t k f u
-probe_routes = probe_by routes_agree
+probe_routes = probe_by_lem routes_agree
 
 -- Theorem. The fast and the cold probe of some candidates answer and leave the same, on every input.
 pub limited_routes : (F : Field) (s : List ℕ) (limit : ℕ) (t k : List ℕ) (f : List Float) (u : List ℕ)

@@ -2,7 +2,7 @@
 use mathlib.Core.Path.{ap, ◌∙◌}
 use Rattle.text.specs.Text.{refused_text}
 use Rattle.text.proofs.Writes.{as_written, copied}
-use Rattle.answering.proofs.Answers.{refusal_small, done_text, refused_text}
+use Rattle.answering.proofs.Answers.{refusal_small, done_text, refused_text_lem}
 use native.Mathlib.Omega.{arith}
 use borrow.Author.Rules.{rules}
 use Rattle.answering.proofs.answer_field.Goals as goal
@@ -27,7 +27,7 @@ returns-in-Counts c =
 
 pub returns-in-Refuses : goal.returns-in-Refuses
 returns-in-Refuses c =
-    as_written (ap refused_text (c.wide_word.ensures ∙ c.number.ensures) ∙ refused_text _ _
+    as_written (ap refused_text (c.wide_word.ensures ∙ c.number.ensures) ∙ refused_text_lem _ _
     c.requires.fits
     c.requires.enough
     (copied c.put_bytes.ensures

@@ -1,7 +1,7 @@
 -- `answer_in` parses, and answers the field at the front of the lists. Assumes nothing.
 use mathlib.Core.Path.{sym}
 use Rattle.text.proofs.Writes.{as_written}
-use Rattle.answering.proofs.Answers.{found_counted, front_fits, field_text, longer_text, malformed_text}
+use Rattle.answering.proofs.Answers.{found_counted, front_fits, field_text_lem, longer_text, malformed_text}
 use native.Mathlib.Omega.{arith}
 use lib.Seq.{length-take-le}
 use borrow.Author.Rules.{rules}
@@ -62,7 +62,7 @@ pub answer_field-requires : goal.answer_field-requires
 answer_field-requires c =     record { fits = front_fits c.parse-parsed.ensures c.args.values.now c.in-Field.is c.requires.in_bounds; enough = c.requires.enough }
 
 pub returns-else-end-bytes : goal.returns-else-end-bytes
-returns-else-end-bytes c = as_written (field_text c.parse-parsed.ensures c.in-Field.is c.if-end-bytes.false) c.answer_field.ensures
+returns-else-end-bytes c = as_written (field_text_lem c.parse-parsed.ensures c.in-Field.is c.if-end-bytes.false) c.answer_field.ensures
 
 pub returns-in-Malformed : goal.returns-in-Malformed
 returns-in-Malformed c = as_written (malformed_text c.parse-parsed.ensures c.in-Malformed.is) c.write_refused-in-Malformed.ensures

@@ -17,6 +17,3 @@ remember-requires c =
     let ready = c.requires.ready in
     record { ready = record { sound = ready.sound; floats_room = ready.floats_room; words_room = omega (arith, ready.words_room, c.build.ensures.long) }; values_value = c.copy.ensures; grade_value = c.graded-grade.ensures; adjacent = c.build.ensures.adjacent }
 
-pub returns : goal.returns
-returns c =     let both = c.remember.ensures in
-    record { values_value = both.0; remembers = both.1 }

@@ -4,12 +4,6 @@ use Rattle.anchors.proofs.Summing.{adds_twice, adds_once, adds_none}
 use borrow.Author.Rules.{rules}
 use Rattle.anchors.proofs.sums.balance_at.Goals as goal
 
-pub bounds-rows-k : goal.bounds-rows-k
-bounds-rows-k c = omega (arith, c.requires.shaped.rows_long, c.requires.1)
-
-pub bounds-cols-k : goal.bounds-cols-k
-bounds-cols-k c = omega (arith, c.requires.shaped.cols_long, c.requires.1)
-
 pub add-requires : goal.add-requires
 add-requires c = c.requires.sum_in_bounds
 

@@ -9,4 +9,4 @@ use borrow.Author.Rules.{rules}
 use Rattle.probes.proofs.values.take_values.Given as goal
 
 abbrev pub invariant-loop-j : goal.invariant-loop-j
-invariant-loop-j l = WrittenTo (λ l.j. get_or l.u (l.at + l.j) 0) l.initial.values l.values l.j
+invariant-loop-j l = WrittenTo (λ j. get_or l.u (l.at + j) 0) l.initial.values l.values l.j
