@@ -17,7 +17,7 @@ fn outcome_of(answer: Mended) -> Outcome {
                 is_exact: is_exact(grade),
                 count: changes,
                 pairs: entries,
-                ground: 0,
+                ground_number: 0,
                 unit: 0,
                 bound: 0.0,
             }

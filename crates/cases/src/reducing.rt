@@ -17,7 +17,7 @@ fn reduced(answer: Reduced) -> Outcome {
                 is_exact: is_exact(grade),
                 count: variables,
                 pairs: entries,
-                ground: 0,
+                ground_number: 0,
                 unit: 0,
                 bound: 0.0,
             }

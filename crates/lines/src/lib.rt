@@ -115,7 +115,7 @@ pub struct Outcome {
     pub is_exact: bool,
     pub count: usize,
     pub pairs: usize,
-    pub ground: u8,
+    pub ground_number: u8,
     pub unit: u8,
     pub bound: f64,
 }

@@ -27,7 +27,7 @@ pub fn put_reason(stdout: Stdout, out: &mut [u8], used: usize, code: u8, outcome
     if outcome.number > 0 {
         return least(used, out.len());
     }
-    let ground = put_ground(stdout, out, used, outcome.ground);
+    let ground = put_ground(stdout, out, used, outcome.ground_number);
     let unit = put_text(stdout, out, ground, b" unit=");
     let numbered = put_number(stdout, out, unit, outcome.unit as usize);
     let bound = put_text(stdout, out, numbered, b" bound=");

@@ -1,6 +1,5 @@
 -- `answer_allow` lends the parts that the head asks for. Assumes nothing.
 use native.Mathlib.Omega.{arith}
-use borrow.Author.Rules.{rules}
 use Rattle.cases.proofs.Parts.{part_fits}
 use Rattle.cases.proofs.allowing.answer_allow.Goals as goal
 
