@@ -5,6 +5,7 @@ ghost use Rattle.stream.specs.Heads.{Fits};
 use allow::Allowed;
 use lines::allowed::put_allowed;
 use lines::{BYTE, LONG, SHORT, WORD};
+use std::io::Stdout;
 use stream::head::{Head, VARIABLES, constraints_at};
 use stream::lists::{fill_words, take_shorts};
 use stream::output::least;
@@ -47,6 +48,7 @@ fn allow_in(
     counts: &mut [u16],
     w: &mut [u64],
     u: &mut [u32],
+    stdout: Stdout,
     out: &mut [u8],
     used: usize,
 ) -> usize
@@ -57,7 +59,7 @@ fn allow_in(
     let yes = is_yes(answer);
     let variable = variable_of(answer);
     put_allowed(
-        out, used, number, yes, variable, variables, assignment, counts, w, u,
+        stdout, out, used, number, yes, variable, variables, assignment, counts, w, u,
     )
 }
 
@@ -67,6 +69,7 @@ fn answer_taken(
     contents: &[u8],
     constraints: &mut [u16],
     u: &mut [u32],
+    stdout: Stdout,
     out: &mut [u8],
     used: usize,
 ) -> usize
@@ -89,6 +92,7 @@ fn answer_taken(
         &mut counts[..numbers],
         &mut w[..longs],
         u,
+        stdout,
         out,
         used,
     )
@@ -100,6 +104,7 @@ pub fn answer_allow(
     contents: &[u8],
     list: &mut [u16],
     u: &mut [u32],
+    stdout: Stdout,
     out: &mut [u8],
     used: usize,
 ) -> usize
@@ -115,6 +120,7 @@ pub fn answer_allow(
         contents,
         &mut list[..count],
         &mut u[..words],
+        stdout,
         out,
         used,
     )

@@ -6,6 +6,7 @@ use lines::Outcome;
 use lines::outcomes::{is_exact, refusing};
 use lines::reduced::put_mended;
 use mend::Mended;
+use std::io::Stdout;
 
 // Done with a grade, as many changes and as many entries, or a refusal.
 fn outcome_of(answer: Mended) -> Outcome {
@@ -16,7 +17,7 @@ fn outcome_of(answer: Mended) -> Outcome {
                 is_exact: is_exact(grade),
                 count: changes,
                 pairs: entries,
-                ground: 0,
+                ground_number: 0,
                 unit: 0,
                 bound: 0.0,
             }
@@ -35,6 +36,7 @@ pub fn mend_field(
     list: &mut [u16],
     f: &mut [f64],
     u: &mut [u32],
+    stdout: Stdout,
     out: &mut [u8],
     used: usize,
 ) -> usize
@@ -42,5 +44,7 @@ pub fn mend_field(
     ensures { result ≤ length out.new }
 {
     let outcome = outcome_of(mend::mend(c, rows, cols, q, list, f, u));
-    put_mended(out, used, outcome, contents, c, rows, cols, q, list, f, u)
+    put_mended(
+        stdout, out, used, outcome, contents, c, rows, cols, q, list, f, u,
+    )
 }

@@ -3,14 +3,15 @@ ghost use Rattle.std.specs.Prelude.{◌≤◌, length};
 ghost use Rattle.stream.specs.Heads.{Fits};
 ghost use Rattle.cases.specs.Next.{Ready};
 
-use libc::STDIN_FILENO;
+use input::read_full;
+use std::io::{Stdin, Stdout};
 use stream::head::Head;
 
 // Reads n bytes to the start of the buffer, and answers whether they were there.
-fn read(bytes: &mut [u8], n: usize) -> bool
+fn read(stdin: Stdin, bytes: &mut [u8], n: usize) -> bool
     requires { n ≤ length bytes.old }
 {
-    io::read_full(STDIN_FILENO, &mut bytes[..n]) == n
+    read_full(stdin, &mut bytes[..n]) == n
 }
 
 // A case whose contents are read, or that there is no further one.
@@ -21,52 +22,65 @@ pub enum Next {
 }
 
 // Says why there is no further case, and writes what output there is.
-fn stop(out: &mut [u8], used: usize, why: &[u8]) {
-    let at = stream::output::put_text(out, used, why);
-    stream::output::flush(out, at);
+fn stop(stdout: Stdout, out: &mut [u8], used: usize, why: &[u8]) {
+    let at = stream::output::put_text(stdout, out, used, why);
+    stream::output::flush(stdout, out, at);
 }
 
 // The next case's head, if the buffers hold the case.
-fn next_head(out: &mut [u8], used: usize, size: usize) -> Next
+fn next_head(stdin: Stdin, stdout: Stdout, out: &mut [u8], used: usize, size: usize) -> Next
     ensures { Ready result size }
 {
     let mut bytes = [0u8; 77];
-    let got = io::read_full(STDIN_FILENO, &mut bytes);
+    let got = read_full(stdin, &mut bytes);
     if got == 0 {
-        stop(out, used, b"");
+        stop(stdout, out, used, b"");
         return Next::Stop;
     }
     if got < 77 {
-        stop(out, used, b"cut\n");
+        stop(stdout, out, used, b"cut\n");
         return Next::Stop;
     }
     let head = stream::head::parse(&bytes);
     if stream::head::fits(head, size) {
         return Next::Case(head);
     }
-    stop(out, used, b"too long\n");
+    stop(stdout, out, used, b"too long\n");
     Next::Stop
 }
 
 // Reads the contents of a case.
-fn read_case(head: Head, contents: &mut [u8], out: &mut [u8], used: usize) -> Next
+fn read_case(
+    stdin: Stdin,
+    head: Head,
+    contents: &mut [u8],
+    stdout: Stdout,
+    out: &mut [u8],
+    used: usize,
+) -> Next
     requires { Fits head (length contents.old) }
     ensures { Ready result (length contents.new) }
 {
-    if read(contents, stream::head::contents(head)) {
+    if read(stdin, contents, stream::head::contents(head)) {
         return Next::Case(head);
     }
-    stop(out, used, b"cut\n");
+    stop(stdout, out, used, b"cut\n");
     Next::Stop
 }
 
 // Reads the next case of the stream, its head and its contents; stops where there is none that fits.
-pub fn next_case(contents: &mut [u8], out: &mut [u8], used: usize) -> Next
+pub fn next_case(
+    stdin: Stdin,
+    contents: &mut [u8],
+    stdout: Stdout,
+    out: &mut [u8],
+    used: usize,
+) -> Next
     ensures { Ready result (length contents.new) }
 {
-    let next = next_head(out, used, contents.len());
+    let next = next_head(stdin, stdout, out, used, contents.len());
     if let Next::Case(head) = next {
-        return read_case(head, contents, out, used);
+        return read_case(stdin, head, contents, stdout, out, used);
     }
     Next::Stop
 }

@@ -5,6 +5,7 @@ ghost use Rattle.stream.specs.Heads.{standing};
 use lines::Outcome;
 use lines::outcomes::{is_exact, refusing};
 use lines::reduced::put_reduced;
+use std::io::Stdout;
 use sub_problem::Reduced;
 
 // Done with a grade, as many variables and as many entries, or a refusal.
@@ -16,7 +17,7 @@ fn reduced(answer: Reduced) -> Outcome {
                 is_exact: is_exact(grade),
                 count: variables,
                 pairs: entries,
-                ground: 0,
+                ground_number: 0,
                 unit: 0,
                 bound: 0.0,
             }
@@ -44,6 +45,7 @@ pub fn reduce_field(
     list: &mut [u16],
     f: &mut [f64],
     u: &mut [u32],
+    stdout: Stdout,
     out: &mut [u8],
     used: usize,
 ) -> usize
@@ -54,6 +56,6 @@ pub fn reduce_field(
     let outcome = reduced(answer);
     let constant = constant_of(answer);
     put_reduced(
-        out, used, outcome, constant, contents, c, rows, cols, q, list, f, u,
+        stdout, out, used, outcome, constant, contents, c, rows, cols, q, list, f, u,
     )
 }

@@ -6,6 +6,7 @@ use crate::contents::{take_columns, take_linear, take_rows, take_weights};
 use lines::outcomes::counted;
 use lines::shifted::put_field;
 use lines::{SHIFT, put_outcome};
+use std::io::Stdout;
 use stream::head::{ENTRIES, Head, VARIABLES};
 use stream::output::put;
 
@@ -16,6 +17,7 @@ fn shift_field(
     rows: &mut [u16],
     cols: &mut [u16],
     q: &mut [f64],
+    stdout: Stdout,
     out: &mut [u8],
     used: usize,
 ) -> usize
@@ -23,13 +25,19 @@ fn shift_field(
     ensures { result ≤ length out.new }
 {
     let outcome = counted(shift::shift(c, rows, cols, q));
-    let begun = put_outcome(out, used, SHIFT, outcome);
-    let fielded = put_field(out, begun, outcome, contents, c, rows, cols, q);
-    put(out, fielded, b'\n')
+    let begun = put_outcome(stdout, out, used, SHIFT, outcome);
+    let fielded = put_field(stdout, out, begun, outcome, contents, c, rows, cols, q);
+    put(stdout, out, fielded, b'\n')
 }
 
 // Makes the call `shift` on the field of a case, in lists of its own, and writes the line of its answer.
-pub fn answer_shift(head: Head, contents: &[u8], out: &mut [u8], used: usize) -> usize
+pub fn answer_shift(
+    head: Head,
+    contents: &[u8],
+    stdout: Stdout,
+    out: &mut [u8],
+    used: usize,
+) -> usize
     requires { Fits head (length contents.now) }
     ensures { result ≤ length out.new }
 {
@@ -51,6 +59,7 @@ pub fn answer_shift(head: Head, contents: &[u8], out: &mut [u8], used: usize) ->
         &mut rows[..row_count],
         &mut cols[..column_count],
         &mut q[..weight_count],
+        stdout,
         out,
         used,
     )

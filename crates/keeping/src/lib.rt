@@ -7,6 +7,7 @@ use lines::outcomes::{answered, checked, counted};
 use lines::recorded::{put_closing, put_record, put_unmade};
 use lines::{FLOAT, KEEP, WORD, put_outcome};
 use scratch::{wide_short, wide_word};
+use std::io::Stdout;
 use stream::lists::{fill_floats, fill_words};
 use stream::output::{least, put, put_number, put_text};
 
@@ -40,18 +41,19 @@ fn operate(
 }
 
 // Between two numbers stands a comma.
-fn put_next(out: &mut [u8], used: usize, number: usize, k: usize) -> usize
+fn put_next(stdout: Stdout, out: &mut [u8], used: usize, number: usize, k: usize) -> usize
     ensures { result ≤ length out.new }
 {
     if k == 0 {
-        return put_number(out, used, number);
+        return put_number(stdout, out, used, number);
     }
-    let marked = put(out, used, b',');
-    put_number(out, marked, number)
+    let marked = put(stdout, out, used, b',');
+    put_number(stdout, out, marked, number)
 }
 
 // The operations of the script, three numbers each, in order, and the numbers of their answers.
 fn put_each(
+    stdout: Stdout,
     out: &mut [u8],
     used: usize,
     c: &[f64],
@@ -75,13 +77,14 @@ fn put_each(
         let number = operate(
             c, rows, cols, q, values, bounds, strict, operation, variable, value,
         );
-        at = put_next(out, at, number, k);
+        at = put_next(stdout, out, at, number, k);
     }
     at
 }
 
 // The answers of all operations, or a dash where there is none.
 fn put_operations(
+    stdout: Stdout,
     out: &mut [u8],
     used: usize,
     c: &[f64],
@@ -95,11 +98,13 @@ fn put_operations(
 ) -> usize
     ensures { result ≤ length out.new }
 {
-    let named = put_text(out, used, b" operations=");
+    let named = put_text(stdout, out, used, b" operations=");
     if script.len() < 3 {
-        return put(out, named, b'-');
+        return put(stdout, out, named, b'-');
     }
-    put_each(out, named, c, rows, cols, q, values, bounds, strict, script)
+    put_each(
+        stdout, out, named, c, rows, cols, q, values, bounds, strict, script,
+    )
 }
 
 // The line in a field that is taken; the values stood in the contents from `at` on.
@@ -116,6 +121,7 @@ fn keep_in_field(
     script: &[u16],
     f: &mut [f64],
     u: &mut [u32],
+    stdout: Stdout,
     out: &mut [u8],
     used: usize,
 ) -> usize
@@ -126,11 +132,12 @@ fn keep_in_field(
     let made = answered(kept::make(c, rows, cols, q, values, bounds, &mut strict, f, u));
     if made.number > 0 {
         return put_unmade(
-            out, used, made, contents, at, values, bounds, strict, found, f, u,
+            stdout, out, used, made, contents, at, values, bounds, strict, found, f, u,
         );
     }
-    let begun = put_outcome(out, used, KEEP, made);
+    let begun = put_outcome(stdout, out, used, KEEP, made);
     let operated = put_operations(
+        stdout,
         out,
         begun,
         c,
@@ -142,11 +149,11 @@ fn keep_in_field(
         &mut strict,
         script,
     );
-    let recorded = put_record(out, operated, values, bounds, strict);
+    let recorded = put_record(stdout, out, operated, values, bounds, strict);
     fill_floats(f, FLOAT);
     fill_words(u, WORD);
     let closing = counted(kept::close(c, rows, cols, q, values, bounds, found, f, u));
-    put_closing(out, recorded, closing, found, f, u)
+    put_closing(stdout, out, recorded, closing, found, f, u)
 }
 
 // With bounds of its own, as many as the case has room for.
@@ -163,6 +170,7 @@ pub fn answer_keep(
     script: &[u16],
     f: &mut [f64],
     u: &mut [u32],
+    stdout: Stdout,
     out: &mut [u8],
     used: usize,
 ) -> usize
@@ -184,6 +192,7 @@ pub fn answer_keep(
         script,
         f,
         u,
+        stdout,
         out,
         used,
     )

@@ -15,7 +15,7 @@ use Rattle.lines.specs.declared.Outcome.{Outcome}
 
 -- An outcome with a number, a grade and two counts, and with no ground, unit or bound of a reason.
 abbrev pub outcome : ℕ → Bool → ℕ → ℕ → Outcome
-outcome number exact count pairs = record { number = number; is_exact = exact; count = count; pairs = pairs; ground = 0; unit = 0; bound = zero64 }
+outcome number exact count pairs = record { number = number; is_exact = exact; count = count; pairs = pairs; ground_number = 0; unit = 0; bound = zero64 }
 
 -- Whether a grade is exact, as an outcome holds it beside its counts.
 abbrev pub is_exact_of : Grade → Bool

@@ -12,6 +12,7 @@ ghost use Rattle.std.specs.Prelude.{◌≡◌, ◌+◌, ◌≤◌, length};
 ghost use Rattle.lines.specs.Outcomes.{among};
 
 use crate::reasoned::put_reason;
+use std::io::Stdout;
 use stream::lists::{all_bytes, all_floats, all_shorts, all_words, same_bytes};
 use stream::output::{least, put, put_digits, put_list, put_number, put_promise, put_text};
 
@@ -114,7 +115,7 @@ pub struct Outcome {
     pub is_exact: bool,
     pub count: usize,
     pub pairs: usize,
-    pub ground: u8,
+    pub ground_number: u8,
     pub unit: u8,
     pub bound: f64,
 }
@@ -152,16 +153,16 @@ pub fn is_among(code: u8, first: u8, last: u8) -> bool
 }
 
 // The number and, where there is a field, its grade; the position that a refusal names.
-pub fn put_outcome(out: &mut [u8], used: usize, code: u8, outcome: Outcome) -> usize
+pub fn put_outcome(stdout: Stdout, out: &mut [u8], used: usize, code: u8, outcome: Outcome) -> usize
     ensures { result ≤ length out.new }
 {
     if outcome.number == ABSENT {
-        return put_text(out, used, b"absent");
+        return put_text(stdout, out, used, b"absent");
     }
-    let numbered = put_number(out, used, scratch::wide_word(outcome.number));
+    let numbered = put_number(stdout, out, used, scratch::wide_word(outcome.number));
     if has_position(outcome.number) {
-        let named = put_text(out, numbered, b" at=");
-        return put_number(out, named, outcome.count);
+        let named = put_text(stdout, out, numbered, b" at=");
+        return put_number(stdout, out, named, outcome.count);
     }
     if outcome.number > 0 {
         return numbered;
@@ -170,9 +171,9 @@ pub fn put_outcome(out: &mut [u8], used: usize, code: u8, outcome: Outcome) -> u
         return numbered;
     }
     if outcome.is_exact {
-        return put_text(out, numbered, b" exact");
+        return put_text(stdout, out, numbered, b" exact");
     }
-    put_text(out, numbered, b" inexact")
+    put_text(stdout, out, numbered, b" inexact")
 }
 
 fn has_values(code: u8) -> bool {
@@ -184,6 +185,7 @@ fn has_values(code: u8) -> bool {
 
 // The start values, which stood in the contents from `at` on.
 fn put_values(
+    stdout: Stdout,
     out: &mut [u8],
     used: usize,
     code: u8,
@@ -198,24 +200,24 @@ fn put_values(
     if !has_values(code) {
         return least(used, out.len());
     }
-    let named = put_text(out, used, b" values=");
+    let named = put_text(stdout, out, used, b" values=");
     if number == 0 {
-        return put_digits(out, named, start);
+        return put_digits(stdout, out, named, start);
     }
     let is_kept = same_bytes(contents, at, start);
-    put_promise(out, named, b"kept", is_kept)
+    put_promise(stdout, out, named, b"kept", is_kept)
 }
 
 // Writes ` count=` and the number of items that a call answered.
-pub fn put_count(out: &mut [u8], used: usize, count: usize) -> usize
+pub fn put_count(stdout: Stdout, out: &mut [u8], used: usize, count: usize) -> usize
     ensures { result ≤ length out.new }
 {
-    let named = put_text(out, used, b" count=");
-    put_number(out, named, count)
+    let named = put_text(stdout, out, used, b" count=");
+    put_number(stdout, out, named, count)
 }
 
 // The flat rows that the closure counts.
-fn put_flat(out: &mut [u8], used: usize, code: u8, outcome: Outcome) -> usize
+fn put_flat(stdout: Stdout, out: &mut [u8], used: usize, code: u8, outcome: Outcome) -> usize
     ensures { result ≤ length out.new }
 {
     if code != CLOSURE {
@@ -224,10 +226,10 @@ fn put_flat(out: &mut [u8], used: usize, code: u8, outcome: Outcome) -> usize
     if outcome.number > 0 {
         return least(used, out.len());
     }
-    put_count(out, used, outcome.count)
+    put_count(stdout, out, used, outcome.count)
 }
 
-fn put_pairs(out: &mut [u8], used: usize, code: u8, outcome: Outcome) -> usize
+fn put_pairs(stdout: Stdout, out: &mut [u8], used: usize, code: u8, outcome: Outcome) -> usize
     ensures { result ≤ length out.new }
 {
     if code != PAIRS {
@@ -236,8 +238,8 @@ fn put_pairs(out: &mut [u8], used: usize, code: u8, outcome: Outcome) -> usize
     if outcome.number > 0 {
         return least(used, out.len());
     }
-    let named = put_text(out, used, b" pairs=");
-    put_number(out, named, outcome.pairs)
+    let named = put_text(stdout, out, used, b" pairs=");
+    put_number(stdout, out, named, outcome.pairs)
 }
 
 // Where the last item of an answer list ends, as far as the list goes.
@@ -265,30 +267,38 @@ fn leaves_list(number: u32) -> bool {
 }
 
 // An answer list that a refusal left.
-fn put_left(out: &mut [u8], used: usize, number: u32, list: &[u16]) -> usize
+fn put_left(stdout: Stdout, out: &mut [u8], used: usize, number: u32, list: &[u16]) -> usize
     ensures { result ≤ length out.new }
 {
     if leaves_list(number) {
         let is_kept = all_shorts(list, SHORT);
-        return put_promise(out, used, b"kept", is_kept);
+        return put_promise(stdout, out, used, b"kept", is_kept);
     }
     let is_zeros = all_shorts(list, 0);
-    put_promise(out, used, b"zeros", is_zeros)
+    put_promise(stdout, out, used, b"zeros", is_zeros)
 }
 
 // The items of an answer list up to `end`, and what is past them.
-fn put_items(out: &mut [u8], used: usize, list: &[u16], end: usize, in_triples: bool) -> usize
+fn put_items(
+    stdout: Stdout,
+    out: &mut [u8],
+    used: usize,
+    list: &[u16],
+    end: usize,
+    in_triples: bool,
+) -> usize
     requires { end ≤ length list.now }
     ensures { result ≤ length out.new }
 {
-    let listed = put_list(out, used, &list[..end], in_triples);
-    let named = put_text(out, listed, b" past=");
+    let listed = put_list(stdout, out, used, &list[..end], in_triples);
+    let named = put_text(stdout, out, listed, b" past=");
     let is_kept = all_shorts(&list[end..], SHORT);
-    put_promise(out, named, b"kept", is_kept)
+    put_promise(stdout, out, named, b"kept", is_kept)
 }
 
 // An answer list under its name.
 pub fn put_answer_list(
+    stdout: Stdout,
     out: &mut [u8],
     used: usize,
     name: &[u8],
@@ -299,22 +309,29 @@ pub fn put_answer_list(
     ensures { result ≤ length out.new }
 {
     if outcome.number > 0 {
-        let named = put_text(out, used, name);
-        return put_left(out, named, outcome.number, list);
+        let named = put_text(stdout, out, used, name);
+        return put_left(stdout, out, named, outcome.number, list);
     }
-    let counted = put_count(out, used, outcome.count);
-    let named = put_text(out, counted, name);
+    let counted = put_count(stdout, out, used, outcome.count);
+    let named = put_text(stdout, out, counted, name);
     let end = end_of(outcome.count, in_triples, list.len());
-    put_items(out, named, list, end, in_triples)
+    put_items(stdout, out, named, list, end, in_triples)
 }
 
-fn put_constraints(out: &mut [u8], used: usize, code: u8, outcome: Outcome, list: &[u16]) -> usize
+fn put_constraints(
+    stdout: Stdout,
+    out: &mut [u8],
+    used: usize,
+    code: u8,
+    outcome: Outcome,
+    list: &[u16],
+) -> usize
     ensures { result ≤ length out.new }
 {
     if !is_among(code, PROBE, PAIRS) {
         return least(used, out.len());
     }
-    put_answer_list(out, used, b" constraints=", outcome, list, true)
+    put_answer_list(stdout, out, used, b" constraints=", outcome, list, true)
 }
 
 fn has_variables(code: u8) -> bool {
@@ -324,39 +341,53 @@ fn has_variables(code: u8) -> bool {
     is_among(code, ANCHORS, NO_EFFECT)
 }
 
-fn put_variables(out: &mut [u8], used: usize, code: u8, outcome: Outcome, list: &[u16]) -> usize
+fn put_variables(
+    stdout: Stdout,
+    out: &mut [u8],
+    used: usize,
+    code: u8,
+    outcome: Outcome,
+    list: &[u16],
+) -> usize
     ensures { result ≤ length out.new }
 {
     if !has_variables(code) {
         return least(used, out.len());
     }
-    put_answer_list(out, used, b" variables=", outcome, list, false)
+    put_answer_list(stdout, out, used, b" variables=", outcome, list, false)
 }
 
 // A list of values that a refusal left.
-fn put_bytes_left(out: &mut [u8], used: usize, number: u32, bytes: &[u8]) -> usize
+fn put_bytes_left(stdout: Stdout, out: &mut [u8], used: usize, number: u32, bytes: &[u8]) -> usize
     ensures { result ≤ length out.new }
 {
     if is_early(number) {
         let is_kept = all_bytes(bytes, BYTE);
-        return put_promise(out, used, b"kept", is_kept);
+        return put_promise(stdout, out, used, b"kept", is_kept);
     }
     let is_zeros = all_bytes(bytes, 0);
-    put_promise(out, used, b"zeros", is_zeros)
+    put_promise(stdout, out, used, b"zeros", is_zeros)
 }
 
 // The found values.
-fn put_found(out: &mut [u8], used: usize, code: u8, number: u32, found: &[u8]) -> usize
+fn put_found(
+    stdout: Stdout,
+    out: &mut [u8],
+    used: usize,
+    code: u8,
+    number: u32,
+    found: &[u8],
+) -> usize
     ensures { result ≤ length out.new }
 {
     if !is_among(code, SINGLE_PROBE, LIMITED_PROBE) {
         return least(used, out.len());
     }
-    let named = put_text(out, used, b" found=");
+    let named = put_text(stdout, out, used, b" found=");
     if number == 0 {
-        return put_digits(out, named, found);
+        return put_digits(stdout, out, named, found);
     }
-    put_bytes_left(out, named, number, found)
+    put_bytes_left(stdout, out, named, number, found)
 }
 
 fn has_floats(code: u8) -> bool {
@@ -375,35 +406,43 @@ fn has_floats(code: u8) -> bool {
     code < NO_EFFECT
 }
 
-fn put_floats(out: &mut [u8], used: usize, code: u8, number: u32, f: &[f64]) -> usize
+fn put_floats(
+    stdout: Stdout,
+    out: &mut [u8],
+    used: usize,
+    code: u8,
+    number: u32,
+    f: &[f64],
+) -> usize
     ensures { result ≤ length out.new }
 {
     if !has_floats(code) {
         return least(used, out.len());
     }
-    let named = put_text(out, used, b" floats=");
+    let named = put_text(stdout, out, used, b" floats=");
     if is_early(number) {
         let is_kept = all_floats(f, FLOAT);
-        return put_promise(out, named, b"kept", is_kept);
+        return put_promise(stdout, out, named, b"kept", is_kept);
     }
     let is_zeros = all_floats(f, 0.0);
-    put_promise(out, named, b"zeros", is_zeros)
+    put_promise(stdout, out, named, b"zeros", is_zeros)
 }
 
-fn put_words(out: &mut [u8], used: usize, number: u32, u: &[u32]) -> usize
+fn put_words(stdout: Stdout, out: &mut [u8], used: usize, number: u32, u: &[u32]) -> usize
     ensures { result ≤ length out.new }
 {
-    let named = put_text(out, used, b" words=");
+    let named = put_text(stdout, out, used, b" words=");
     if is_early(number) {
         let is_kept = all_words(u, WORD);
-        return put_promise(out, named, b"kept", is_kept);
+        return put_promise(stdout, out, named, b"kept", is_kept);
     }
     let is_zeros = all_words(u, 0);
-    put_promise(out, named, b"zeros", is_zeros)
+    put_promise(stdout, out, named, b"zeros", is_zeros)
 }
 
 // Writes how both scratches were left, and the end of the line.
 pub fn put_scratch(
+    stdout: Stdout,
     out: &mut [u8],
     used: usize,
     code: u8,
@@ -413,13 +452,14 @@ pub fn put_scratch(
 ) -> usize
     ensures { result ≤ length out.new }
 {
-    let floats = put_floats(out, used, code, number, f);
-    let words = put_words(out, floats, number, u);
-    put(out, words, b'\n')
+    let floats = put_floats(stdout, out, used, code, number, f);
+    let words = put_words(stdout, out, floats, number, u);
+    put(stdout, out, words, b'\n')
 }
 
 // The counts and the answer lists, where the call has them.
 fn put_answers(
+    stdout: Stdout,
     out: &mut [u8],
     used: usize,
     code: u8,
@@ -429,12 +469,12 @@ fn put_answers(
 ) -> usize
     ensures { result ≤ length out.new }
 {
-    let flat = put_flat(out, used, code, outcome);
-    let pairs = put_pairs(out, flat, code, outcome);
-    let constraints = put_constraints(out, pairs, code, outcome, list);
-    let values = put_found(out, constraints, code, outcome.number, found);
-    let ground = put_reason(out, values, code, outcome);
-    put_variables(out, ground, code, outcome, list)
+    let flat = put_flat(stdout, out, used, code, outcome);
+    let pairs = put_pairs(stdout, out, flat, code, outcome);
+    let constraints = put_constraints(stdout, out, pairs, code, outcome, list);
+    let values = put_found(stdout, out, constraints, code, outcome.number, found);
+    let ground = put_reason(stdout, out, values, code, outcome);
+    put_variables(stdout, out, ground, code, outcome, list)
 }
 
 // The code whose line a call has: the cold probes of many candidates have the lines of the fast ones.
@@ -450,6 +490,7 @@ fn shown_as(code: u8) -> u8 {
 
 // The whole line of a call that keeps the field; the start values stood in the contents from `at` on.
 pub fn put_line(
+    stdout: Stdout,
     out: &mut [u8],
     used: usize,
     code: u8,
@@ -466,8 +507,17 @@ pub fn put_line(
     ensures { result ≤ length out.new }
 {
     let shown = shown_as(code);
-    let begun = put_outcome(out, used, shown, outcome);
-    let values = put_values(out, begun, shown, outcome.number, contents, at, start);
-    let answers = put_answers(out, values, shown, outcome, found, list);
-    put_scratch(out, answers, shown, outcome.number, f, u)
+    let begun = put_outcome(stdout, out, used, shown, outcome);
+    let values = put_values(
+        stdout,
+        out,
+        begun,
+        shown,
+        outcome.number,
+        contents,
+        at,
+        start,
+    );
+    let answers = put_answers(stdout, out, values, shown, outcome, found, list);
+    put_scratch(stdout, out, answers, shown, outcome.number, f, u)
 }

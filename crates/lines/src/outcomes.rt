@@ -24,7 +24,7 @@ pub fn refused(number: u32) -> Outcome
         is_exact: false,
         count: 0,
         pairs: 0,
-        ground: 0,
+        ground_number: 0,
         unit: 0,
         bound: 0.0,
     }
@@ -39,7 +39,7 @@ pub fn refusing(refusal: Refusal) -> Outcome
         is_exact: false,
         count: refusal.position(),
         pairs: 0,
-        ground: 0,
+        ground_number: 0,
         unit: 0,
         bound: 0.0,
     }
@@ -55,7 +55,7 @@ pub fn answered(answer: Answer) -> Outcome
             is_exact: is_exact(grade),
             count: 0,
             pairs: 0,
-            ground: 0,
+            ground_number: 0,
             unit: 0,
             bound: 0.0,
         },
@@ -84,7 +84,7 @@ pub fn counted(answer: Counted) -> Outcome
                 is_exact: is_exact(grade),
                 count: count,
                 pairs: 0,
-                ground: 0,
+                ground_number: 0,
                 unit: 0,
                 bound: 0.0,
             }

@@ -3,6 +3,7 @@ ghost use Rattle.std.specs.Prelude.{◌+◌, ◌*◌, ◌≤◌, length};
 ghost use Rattle.stream.specs.Heads.{standing};
 
 use crate::Outcome;
+use std::io::Stdout;
 use stream::lists::{same_floats, same_shorts};
 use stream::output::{least, put_entries, put_number, put_promise, put_text, put_weights};
 
@@ -26,6 +27,7 @@ fn entries_kept(contents: &[u8], at: usize, rows: &[u16], cols: &[u16], q: &[f64
 
 // The entries up to m, and whether what is past the new ends was found as promised.
 pub fn put_closed(
+    stdout: Stdout,
     out: &mut [u8],
     used: usize,
     rows: &[u16],
@@ -40,10 +42,10 @@ pub fn put_closed(
     requires m_in_bounds_3 { m ≤ length q.now }
     ensures { result ≤ length out.new }
 {
-    let named = put_text(out, used, b" entries=");
-    let closed = put_entries(out, named, &rows[..m], &cols[..m], &q[..m]);
-    let past = put_text(out, closed, b" field-past=");
-    put_promise(out, past, promise, is_found)
+    let named = put_text(stdout, out, used, b" entries=");
+    let closed = put_entries(stdout, out, named, &rows[..m], &cols[..m], &q[..m]);
+    let past = put_text(stdout, out, closed, b" field-past=");
+    put_promise(stdout, out, past, promise, is_found)
 }
 
 // How many entries are in all three lists, at most `count`.
@@ -56,6 +58,7 @@ pub fn entries_in(rows: &[u16], cols: &[u16], q: &[f64], count: usize) -> usize
 }
 
 fn put_shifted(
+    stdout: Stdout,
     out: &mut [u8],
     used: usize,
     count: usize,
@@ -68,13 +71,13 @@ fn put_shifted(
     requires { standing (length c.now) (length rows.now) (length cols.now) (length q.now) ≤ length contents.now }
     ensures { result ≤ length out.new }
 {
-    let linear = put_text(out, used, b" linear=");
-    let weighed = put_weights(out, linear, c);
-    let named = put_text(out, weighed, b" m=");
-    let counted = put_number(out, named, count);
+    let linear = put_text(stdout, out, used, b" linear=");
+    let weighed = put_weights(stdout, out, linear, c);
+    let named = put_text(stdout, out, weighed, b" m=");
+    let counted = put_number(stdout, out, named, count);
     let m = entries_in(rows, cols, q, count);
     let is_kept = entries_kept(contents, 8 * c.len(), rows, cols, q, m);
-    put_closed(out, counted, rows, cols, q, m, b"kept", is_kept)
+    put_closed(stdout, out, counted, rows, cols, q, m, b"kept", is_kept)
 }
 
 // Whether the whole field is what stands at the front of the contents.
@@ -89,6 +92,7 @@ fn field_kept(contents: &[u8], c: &[f64], rows: &[u16], cols: &[u16], q: &[f64])
 
 // Writes whether a refused call left the field's lists as the case gives them.
 pub fn put_unchanged(
+    stdout: Stdout,
     out: &mut [u8],
     used: usize,
     contents: &[u8],
@@ -101,12 +105,13 @@ pub fn put_unchanged(
     ensures { result ≤ length out.new }
 {
     let is_kept = field_kept(contents, c, rows, cols, q);
-    let named = put_text(out, used, b" field=");
-    put_promise(out, named, b"kept", is_kept)
+    let named = put_text(stdout, out, used, b" field=");
+    put_promise(stdout, out, named, b"kept", is_kept)
 }
 
 // Writes the field that a call leaves in the caller's lists, or, on a refusal, whether the lists are unchanged.
 pub fn put_field(
+    stdout: Stdout,
     out: &mut [u8],
     used: usize,
     outcome: Outcome,
@@ -120,7 +125,7 @@ pub fn put_field(
     ensures { result ≤ length out.new }
 {
     if outcome.number == 0 {
-        return put_shifted(out, used, outcome.count, contents, c, rows, cols, q);
+        return put_shifted(stdout, out, used, outcome.count, contents, c, rows, cols, q);
     }
-    put_unchanged(out, used, contents, c, rows, cols, q)
+    put_unchanged(stdout, out, used, contents, c, rows, cols, q)
 }

@@ -1,6 +1,6 @@
 // The record program.
 #![tactic(auto)]
 
-fn main() {
-    record_program::run();
+fn main(rt: HostRuntime) {
+    record_program::run(&rt);
 }

@@ -1,12 +1,13 @@
 // Answers many inputs, each after its length as two bytes, the lower first: the tests of the record format, made by tools/record_cases.
 #![tactic(auto)]
 
-use libc::{STDIN_FILENO, STDOUT_FILENO};
+use input::read_full;
+use std::io::{Stdin, Stdout};
 
 // Whether there was one more input.
-fn answer_next() -> bool {
+fn answer_next(stdin: Stdin, stdout: Stdout) -> bool {
     let mut head = [0u8; 2];
-    if io::read_full(STDIN_FILENO, &mut head) < 2 {
+    if read_full(stdin, &mut head) < 2 {
         return false;
     }
     let size = scratch::wide_short(endian::short(&head, 0));
@@ -14,20 +15,20 @@ fn answer_next() -> bool {
         return false;
     }
     let mut input = [0u8; 18179];
-    let n = io::read_full(STDIN_FILENO, &mut input[..size]);
+    let n = read_full(stdin, &mut input[..size]);
     if n < size {
         return false;
     }
     let mut text = [0u8; 2582];
     let r = answering::answer(&input, n, &mut text);
-    io::write_all(STDOUT_FILENO, &text[..r])
+    stdout.write_all(&text[..r]).is_ok()
 }
 
-fn main() {
+fn main(rt: HostRuntime) {
     let mut left: usize = 1000;
     while left > 0 {
         left -= 1;
-        if !answer_next() {
+        if !answer_next(rt.stdin(), rt.stdout()) {
             return;
         }
     }

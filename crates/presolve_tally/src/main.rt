@@ -1,6 +1,6 @@
 // The record program, run with the argument `tally`.
 #![tactic(auto)]
 
-fn main() {
-    record_program::run();
+fn main(rt: HostRuntime) {
+    record_program::run(&rt);
 }

@@ -1,5 +1,5 @@
 // What the record program does with its argument, its input and its output: the answer to one field, or, where its first argument is `tally`, the tally
-// of many.
+// of many. A failed read is the end of the input, and what a failed write leaves out is lost.
 #![tactic(auto)]
 
 ghost use Rattle.std.specs.Prelude.{◌≡◌, ◌+◌, ◌<◌, ◌≤◌, length};
@@ -8,52 +8,53 @@ ghost use Rattle.tally.specs.Tally.{tally, Small};
 ghost use Rattle.tally.specs.Text.{tally_text};
 ghost use Rattle.record_program.specs.Handed.{Handed};
 
-use libc::{STDIN_FILENO, STDOUT_FILENO};
+use input::read_full;
+use std::env::Env;
+use std::io::{Read, Stdin, Stdout};
 use tally::{Ending, Totals};
 use tallying::{Turned, turn};
 
 // Answers one field.
-fn answer() -> usize
+fn answer(stdin: Stdin, stdout: Stdout) -> usize
     ensures { Handed result }
 {
     // One byte more than the longest well-formed input, as `answer` asks: what follows it changes no answer.
     let mut input = [0u8; 18179];
-    let n = io::read_full(STDIN_FILENO, &mut input);
+    let n = read_full(stdin, &mut input);
     let mut text = [0u8; 2582];
     let size = answering::answer(&input, n, &mut text);
-    io::write_all(STDOUT_FILENO, &text[..size]);
+    let _ = stdout.write_all(&text[..size]);
     size
 }
 
 // Reads behind the bytes that are held, where there is room for one at least; how many came, where none is the end of the input.
-fn read_more(buffer: &mut [u8], held: usize) -> usize
+fn read_more(mut stdin: Stdin, buffer: &mut [u8], held: usize) -> usize
     requires { held < length buffer.old }
     ensures { held + result ≤ length buffer.new }
 {
-    let got = libc::read(STDIN_FILENO, &mut buffer[held..]);
-    io::count(got, &buffer[held..])
+    stdin.read(&mut buffer[held..]).unwrap_or(0)
 }
 
 // Writes a tally; how many bytes it has.
-pub fn write(ending: Ending, totals: Totals) -> usize
+pub fn write(stdout: Stdout, ending: Ending, totals: Totals) -> usize
     requires { Small totals }
     ensures { result ≡ length (tally_text (tally ending totals)) }
 {
     let mut text = [0u8; 192];
     let size = tally::write(ending, totals, &mut text);
-    io::write_all(STDOUT_FILENO, &text[..size]);
+    let _ = stdout.write_all(&text[..size]);
     size
 }
 
 // Reads on until the input ends, a record is malformed, or a total would pass 2^53, and writes the tally.
-fn tally_all(buffer: &mut [u8]) -> usize
+fn tally_all(stdin: Stdin, stdout: Stdout, buffer: &mut [u8]) -> usize
     requires { longest_input < length buffer.old }
     ensures { Handed result }
 {
     let mut held: usize = 0;
     let mut totals = tally::nothing();
     loop {
-        let n = read_more(buffer, held);
+        let n = read_more(stdin, buffer, held);
         let turned = turn(buffer, held, n, totals, 0x20_0000_0000_0000);
         match turned {
             Turned::On(next, kept) => {
@@ -61,28 +62,28 @@ fn tally_all(buffer: &mut [u8]) -> usize
                 held = kept;
             }
             Turned::Over(ending, last) => {
-                return write(ending, last);
+                return write(stdout, ending, last);
             }
         }
     }
 }
 
 // Whether the first argument is `tally`.
-fn is_tally() -> bool {
+fn is_tally(rt: &HostRuntime) -> bool {
     let mut word = [0u8; 6];
-    if os::arg(1, &mut word) != 5 {
-        return false;
+    match rt.arg(1, &mut word) {
+        Ok(n) => &word[..n] == b"tally".as_slice(),
+        Err(_) => false,
     }
-    word[0] == b't' && word[1] == b'a' && word[2] == b'l' && word[3] == b'l' && word[4] == b'y'
 }
 
 // What both programs do; how many bytes they hand over.
-pub fn run() -> usize
+pub fn run(rt: &HostRuntime) -> usize
     ensures { Handed result }
 {
-    if is_tally() {
-        let mut buffer = io::large_buffer();
-        return tally_all(&mut buffer);
+    if is_tally(rt) {
+        let mut buffer = [0u8; 65536];
+        return tally_all(rt.stdin(), rt.stdout(), &mut buffer);
     }
-    answer()
+    answer(rt.stdin(), rt.stdout())
 }

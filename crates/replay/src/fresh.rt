@@ -12,6 +12,7 @@ use cases::reducing::reduce_field;
 use cases::shifting::answer_shift;
 use keeping::answer_keep;
 use lines::{ALLOW, BYTE, KEEP, MEND, SHIFT, SUB_PROBLEM, put_line};
+use std::io::Stdout;
 use stream::head::{ENTRIES, FLOATS, Head, VARIABLES};
 
 // Makes a call that keeps the field and puts its line; the start values stood in the contents from `at` on.
@@ -28,6 +29,7 @@ fn answer_kept(
     list: &mut [u16],
     f: &mut [f64],
     u: &mut [u32],
+    stdout: Stdout,
     out: &mut [u8],
     used: usize,
 ) -> usize
@@ -36,7 +38,7 @@ fn answer_kept(
 {
     let outcome = make(head, c, rows, cols, q, start, found, list, f, u);
     put_line(
-        out, used, head.code, outcome, contents, at, start, found, list, f, u,
+        stdout, out, used, head.code, outcome, contents, at, start, found, list, f, u,
     )
 }
 
@@ -54,6 +56,7 @@ fn answer_call(
     list: &mut [u16],
     f: &mut [f64],
     u: &mut [u32],
+    stdout: Stdout,
     out: &mut [u8],
     used: usize,
 ) -> usize
@@ -62,18 +65,20 @@ fn answer_call(
     ensures { result ≤ length out.new }
 {
     if head.code == SUB_PROBLEM {
-        return reduce_field(contents, c, rows, cols, q, start, list, f, u, out, used);
+        return reduce_field(
+            contents, c, rows, cols, q, start, list, f, u, stdout, out, used,
+        );
     }
     if head.code == MEND {
-        return mend_field(contents, c, rows, cols, q, list, f, u, out, used);
+        return mend_field(contents, c, rows, cols, q, list, f, u, stdout, out, used);
     }
     if head.code == KEEP {
         return answer_keep(
-            head.least, contents, at, c, rows, cols, q, start, found, list, f, u, out, used,
+            head.least, contents, at, c, rows, cols, q, start, found, list, f, u, stdout, out, used,
         );
     }
     answer_kept(
-        head, contents, at, c, rows, cols, q, start, found, list, f, u, out, used,
+        head, contents, at, c, rows, cols, q, start, found, list, f, u, stdout, out, used,
     )
 }
 
@@ -87,6 +92,7 @@ fn answer_in_field(
     list: &mut [u16],
     f: &mut [f64],
     u: &mut [u32],
+    stdout: Stdout,
     out: &mut [u8],
     used: usize,
 ) -> usize
@@ -119,6 +125,7 @@ fn answer_in_field(
         list,
         f,
         u,
+        stdout,
         out,
         used,
     )
@@ -131,6 +138,7 @@ fn answer_in_parts(
     list: &mut [u16],
     f: &mut [f64],
     u: &mut [u32],
+    stdout: Stdout,
     out: &mut [u8],
     used: usize,
 ) -> usize
@@ -153,6 +161,7 @@ fn answer_in_parts(
         list,
         f,
         u,
+        stdout,
         out,
         used,
     )
@@ -164,6 +173,7 @@ pub fn answer(
     contents: &[u8],
     list: &mut [u16],
     u: &mut [u32],
+    stdout: Stdout,
     out: &mut [u8],
     used: usize,
 ) -> usize
@@ -172,10 +182,10 @@ pub fn answer(
     ensures { result ≤ length out.new }
 {
     if head.code == SHIFT {
-        return answer_shift(head, contents, out, used);
+        return answer_shift(head, contents, stdout, out, used);
     }
     if head.code == ALLOW {
-        return answer_allow(head, contents, list, u, out, used);
+        return answer_allow(head, contents, list, u, stdout, out, used);
     }
     let mut f = [0.0f64; FLOATS];
     let listed = stream::head::list(head);
@@ -187,6 +197,7 @@ pub fn answer(
         &mut list[..listed],
         &mut f[..floats],
         &mut u[..words],
+        stdout,
         out,
         used,
     )

@@ -20,7 +20,7 @@ fn paired(answer: Paired) -> Outcome
                 is_exact: is_exact(grade),
                 count: count,
                 pairs: examined,
-                ground: 0,
+                ground_number: 0,
                 unit: 0,
                 bound: 0.0,
             }
@@ -38,7 +38,7 @@ fn grounded(ground: u8, unit: u8, bound: f64, count: usize) -> Outcome
         is_exact: true,
         count: count,
         pairs: 0,
-        ground: ground,
+        ground_number: ground,
         unit: unit,
         bound: bound,
     }

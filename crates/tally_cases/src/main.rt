@@ -4,8 +4,9 @@
 ghost use Rattle.std.specs.Prelude.{◌+◌, ◌^◌, ◌<◌, ◌≤◌, length};
 ghost use Rattle.records.specs.WellFormed.{longest_input};
 
-use libc::STDIN_FILENO;
+use input::read_full;
 use record_program::write;
+use std::io::{Stdin, Stdout};
 use tallying::{Turned, turn};
 use text::put_bytes;
 
@@ -39,7 +40,7 @@ fn read_more(buffer: &mut [u8], held: usize, input: &[u8], at: usize, size: usiz
 }
 
 // The input in reads of `size` bytes.
-fn tally_reads(input: &[u8], size: usize, buffer: &mut [u8], most: u64)
+fn tally_reads(stdout: Stdout, input: &[u8], size: usize, buffer: &mut [u8], most: u64)
     requires longest_input_in_bounds { longest_input < length buffer.old }
     requires most_bound { most ≤ 2 ^ 53 }
 {
@@ -56,7 +57,7 @@ fn tally_reads(input: &[u8], size: usize, buffer: &mut [u8], most: u64)
                 held = kept;
             }
             Turned::Over(ending, last) => {
-                write(ending, last);
+                write(stdout, ending, last);
                 return;
             }
         }
@@ -64,36 +65,36 @@ fn tally_reads(input: &[u8], size: usize, buffer: &mut [u8], most: u64)
 }
 
 // Reads an input that is as long as the bytes lent for it, and tallies it.
-fn tally_next(input: &mut [u8], size: usize, most: u64) -> bool
+fn tally_next(stdin: Stdin, stdout: Stdout, input: &mut [u8], size: usize, most: u64) -> bool
     requires { most ≤ 2 ^ 53 }
 {
-    if io::read_full(STDIN_FILENO, input) < input.len() {
+    if read_full(stdin, input) < input.len() {
         return false;
     }
     // room for the longest field and a byte
     let mut buffer = [0u8; 18179];
-    tally_reads(input, size, &mut buffer, most);
+    tally_reads(stdout, input, size, &mut buffer, most);
     true
 }
 
 // Whether there was one more input.
-fn next() -> bool {
+fn next(stdin: Stdin, stdout: Stdout) -> bool {
     let mut head = [0u8; 5];
-    if io::read_full(STDIN_FILENO, &mut head) < 5 {
+    if read_full(stdin, &mut head) < 5 {
         return false;
     }
     let length = scratch::wide_short(endian::short(&head, 0));
     let size = scratch::wide_short(endian::short(&head, 2));
     let most = limit(head[4]);
     let mut input = [0u8; 65535];
-    tally_next(&mut input[..length], size, most)
+    tally_next(stdin, stdout, &mut input[..length], size, most)
 }
 
-fn main() {
+fn main(rt: HostRuntime) {
     let mut left: usize = 1000;
     while left > 0 {
         left -= 1;
-        if !next() {
+        if !next(rt.stdin(), rt.stdout()) {
             return;
         }
     }

@@ -1,6 +1,5 @@
 -- `keep_in_field` makes the record, operates in it and closes from it. Assumes nothing.
 use native.Mathlib.Omega.{arith}
-use borrow.Author.Rules.{rules}
 use Rattle.keeping.proofs.keep_in_field.Goals as goal
 
 pub put_unmade-requires : goal.put_unmade-requires

@@ -1,13 +1,6 @@
 -- `put_each` makes one operation a turn. Assumes nothing.
-use Prim.Native.Nat.{◌-◌, ◌≤◌}
-use mathlib.Core.Path.{◌≡◌}
 use native.Mathlib.Omega.{arith}
-use lib.ListN.{length}
-use borrow.Author.Rules.{rules}
 use Rattle.keeping.proofs.put_each.Goals as goal
-
-pub overflow_step-k : goal.overflow_step-k
-overflow_step-k c = omega (arith, c.loop-k-test.true, c.well-formed.1.1.1.1.1.1.1.1.1.0)
 
 pub loop-k-preserved : goal.loop-k-preserved
 loop-k-preserved c = omega (arith, c.put_next-at.ensures, c.put_next-at.auto.out, c.operate-number.auto.values, c.operate-number.auto.bounds, c.loop-k.invariant)

@@ -1,7 +1,6 @@
 -- `put_items` lends the items and what is past them. Assumes nothing.
 use mathlib.Core.Path.{sym}
 use lib.Seq.{length-take-le}
-use borrow.Author.Rules.{rules}
 use Rattle.lines.proofs.put_items.Goals as goal
 
 pub slice_bounds-put_list-end : goal.slice_bounds-put_list-end

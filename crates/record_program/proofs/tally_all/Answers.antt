@@ -11,7 +11,7 @@ pub loop-next-init : goal.loop-next-init
 loop-next-init c = reading_none c.nothing-totals.ensures (omega (arith, c.requires))
 
 pub turn-turned-requires : goal.turn-turned-requires
-turn-turned-requires c =     record { longest_input_in_bounds = omega (arith, c.requires, c.loop-next.invariant.long, c.read_more-n.auto.buffer); n_in_bounds = c.read_more-n.ensures; small = c.loop-next.invariant.small; most_bound = omega arith }
+turn-turned-requires c = record { longest_input_in_bounds = omega (arith, c.requires, c.loop-next.invariant.long, c.read_more-n.auto.buffer); n_in_bounds = c.read_more-n.ensures; small = c.loop-next.invariant.small; most_bound = omega arith }
 
 pub loop-next-smaller : goal.loop-next-smaller
 loop-next-smaller c =

@@ -7,4 +7,4 @@ use borrow.Author.Rules.{rules}
 use Rattle.replay.proofs.answer_all.Goals as goal
 
 pub answer-used-requires : goal.answer-used-requires
-answer-used-requires c =     record { fits = ready_case c.next_case-next.ensures c.in-Case.is; buffers = record { list_room = omega arith; floats_room = omega arith; words_room = omega arith } }
+answer-used-requires c = record { fits = ready_case c.next_case-next.ensures c.in-Case.is; buffers = record { list_room = omega arith; floats_room = omega arith; words_room = omega arith } }

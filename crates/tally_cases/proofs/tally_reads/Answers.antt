@@ -11,13 +11,13 @@ pub loop-next-init : goal.loop-next-init
 loop-next-init c = (reading_none c.nothing-totals.ensures (omega (arith, c.requires.longest_input_in_bounds)), omega arith)
 
 pub read_more-n-requires : goal.read_more-n-requires
-read_more-n-requires c =     record { held_in_bounds = c.loop-next.invariant.0.inside; at_in_bounds = c.loop-next.invariant.1 }
+read_more-n-requires c = record { held_in_bounds = c.loop-next.invariant.0.inside; at_in_bounds = c.loop-next.invariant.1 }
 
 pub overflow_add-at : goal.overflow_add-at
 overflow_add-at c = omega (arith, c.read_more-n.ensures.result_in_bounds_2, c.loop-next.invariant.1)
 
 pub turn-turned-requires : goal.turn-turned-requires
-turn-turned-requires c =     record { longest_input_in_bounds = omega (arith, c.requires.longest_input_in_bounds, c.loop-next.invariant.0.long, c.read_more-n.auto.buffer); n_in_bounds = c.read_more-n.ensures.result_in_bounds; small = c.loop-next.invariant.0.small; most_bound = c.requires.most_bound }
+turn-turned-requires c = record { longest_input_in_bounds = omega (arith, c.requires.longest_input_in_bounds, c.loop-next.invariant.0.long, c.read_more-n.auto.buffer); n_in_bounds = c.read_more-n.ensures.result_in_bounds; small = c.loop-next.invariant.0.small; most_bound = c.requires.most_bound }
 
 pub loop-next-smaller : goal.loop-next-smaller
 loop-next-smaller c =

@@ -1,6 +1,5 @@
 -- `answer_taken` lends lists and scratch as long as the head says. Assumes nothing.
 use native.Mathlib.Omega.{arith}
-use borrow.Author.Rules.{rules}
 use Rattle.cases.proofs.Parts.{part_long}
 use Rattle.cases.proofs.allowing.answer_taken.Goals as goal
 

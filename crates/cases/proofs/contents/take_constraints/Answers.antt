@@ -1,6 +1,5 @@
 -- `take_constraints` takes as many as there are, or fills. Assumes nothing.
 use Rattle.cases.proofs.Taken.{constraints_taken, none_taken}
-use borrow.Author.Rules.{rules}
 use Rattle.cases.proofs.contents.take_constraints.Goals as goal
 
 pub returns-then-list-head : goal.returns-then-list-head

@@ -1,7 +1,6 @@
 -- `take_rows` lends as much of the list as the head says, and what it takes lies over that. Assumes nothing.
 use Rattle.cases.proofs.Parts.{part_fits, rows_stand}
 use Rattle.cases.proofs.Taken.{taken}
-use borrow.Author.Rules.{rules}
 use Rattle.cases.proofs.contents.take_rows.Goals as goal
 
 pub slice_bounds-take_shorts-end-2 : goal.slice_bounds-take_shorts-end-2

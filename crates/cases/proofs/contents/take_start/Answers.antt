@@ -1,7 +1,6 @@
 -- `take_start` lends as much of the list as the head says, and what it takes lies over that. Assumes nothing.
 use Rattle.cases.proofs.Parts.{part_fits, start_stands}
 use Rattle.cases.proofs.Taken.{start_taken}
-use borrow.Author.Rules.{rules}
 use Rattle.cases.proofs.contents.take_start.Goals as goal
 
 pub slice_bounds-take_bytes-end-2 : goal.slice_bounds-take_bytes-end-2

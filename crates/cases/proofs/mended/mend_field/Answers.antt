@@ -1,6 +1,5 @@
 -- `mend_field` has lists as long as they were. Assumes nothing.
 use native.Mathlib.Omega.{arith}
-use borrow.Author.Rules.{rules}
 use Rattle.cases.proofs.mended.mend_field.Goals as goal
 
 pub put_mended-requires : goal.put_mended-requires

@@ -1,6 +1,5 @@
 -- `next_case` passes a head on to be read. Assumes nothing.
 use Rattle.cases.proofs.Parts.{ready_case}
-use borrow.Author.Rules.{rules}
 use Rattle.cases.proofs.reading.next_case.Goals as goal
 
 pub read_case-requires : goal.read_case-requires

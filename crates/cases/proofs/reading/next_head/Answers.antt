@@ -1,5 +1,4 @@
 -- `next_head` answers a case only where it fits. Assumes nothing.
-use borrow.Author.Rules.{rules}
 use Rattle.cases.proofs.reading.next_head.Goals as goal
 
 pub returns-then-fits : goal.returns-then-fits

@@ -1,7 +1,6 @@
 -- `read_case` answers the case where its contents were there. Assumes nothing.
 use Rattle.cases.proofs.Parts.{fits_more}
 use native.Mathlib.Omega.{arith}
-use borrow.Author.Rules.{rules}
 use Rattle.cases.proofs.reading.read_case.Goals as goal
 
 pub returns-then-read : goal.returns-then-read

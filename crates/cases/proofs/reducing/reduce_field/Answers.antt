@@ -1,6 +1,5 @@
 -- `reduce_field` has lists as long as they were. Assumes nothing.
 use native.Mathlib.Omega.{arith}
-use borrow.Author.Rules.{rules}
 use Rattle.cases.proofs.reducing.reduce_field.Goals as goal
 
 pub put_reduced-requires : goal.put_reduced-requires

@@ -1,19 +1,18 @@
 -- `answer_shift` lends a field as long as the head says. Assumes nothing.
 use Rattle.cases.proofs.Parts.{part_kept, field_stands}
-use borrow.Author.Rules.{rules}
 use Rattle.cases.proofs.shifting.answer_shift.Goals as goal
 
 pub take_linear-requires : goal.take_linear-requires
-take_linear-requires c =     record { fits = c.requires; linear_in_bounds = c.requires.lists.linear_fits }
+take_linear-requires c = record { fits = c.requires; linear_in_bounds = c.requires.lists.linear_fits }
 
 pub take_rows-requires : goal.take_rows-requires
-take_rows-requires c =     record { fits = c.requires; rows_in_bounds = c.requires.lists.rows_fit }
+take_rows-requires c = record { fits = c.requires; rows_in_bounds = c.requires.lists.rows_fit }
 
 pub take_columns-requires : goal.take_columns-requires
-take_columns-requires c =     record { fits = c.requires; columns_in_bounds = c.requires.lists.columns_fit }
+take_columns-requires c = record { fits = c.requires; columns_in_bounds = c.requires.lists.columns_fit }
 
 pub take_weights-requires : goal.take_weights-requires
-take_weights-requires c =     record { fits = c.requires; weights_in_bounds = c.requires.lists.weights_fit }
+take_weights-requires c = record { fits = c.requires; weights_in_bounds = c.requires.lists.weights_fit }
 
 pub slice_bounds-shift_field-end : goal.slice_bounds-shift_field-end
 slice_bounds-shift_field-end c =

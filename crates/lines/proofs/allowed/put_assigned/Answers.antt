@@ -1,7 +1,6 @@
 -- `put_assigned` lends the values and what is past them. Assumes nothing.
 use mathlib.Core.Path.{sym}
 use lib.Seq.{length-take-le}
-use borrow.Author.Rules.{rules}
 use Rattle.lines.proofs.allowed.put_assigned.Goals as goal
 
 pub slice_bounds-put_digits-end : goal.slice_bounds-put_digits-end

@@ -1,7 +1,6 @@
 -- The outcome of this answer, by its cases. Assumes nothing.
 use mathlib.Core.Path.{sym, ap, ◌∙◌}
 use Rattle.lines.specs.Outcomes.{outcome, answered}
-use borrow.Author.Rules.{rules}
 use Rattle.lines.proofs.outcomes.answered.Goals as goal
 
 pub returns-in-Done : goal.returns-in-Done

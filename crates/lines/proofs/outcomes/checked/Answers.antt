@@ -1,7 +1,6 @@
 -- The outcome of this answer, by its cases. Assumes nothing.
 use mathlib.Core.Path.{sym, ap, ◌∙◌}
 use Rattle.lines.specs.Outcomes.{checked}
-use borrow.Author.Rules.{rules}
 use Rattle.lines.proofs.outcomes.checked.Goals as goal
 
 pub returns-in-Passed : goal.returns-in-Passed

@@ -1,7 +1,6 @@
 -- The outcome of this answer, by its cases. Assumes nothing.
 use mathlib.Core.Path.{sym, ap, ◌∙◌}
 use Rattle.lines.specs.Outcomes.{outcome, counted}
-use borrow.Author.Rules.{rules}
 use Rattle.lines.proofs.outcomes.counted.Goals as goal
 
 pub returns-in-Counts : goal.returns-in-Counts

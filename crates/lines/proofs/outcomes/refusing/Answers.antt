@@ -3,7 +3,6 @@ use Prim.Native.Nat.{ℕ}
 use mathlib.Core.Path.{◌≡◌}
 use mathlib.Core.Bool.{false}
 use Rattle.lines.specs.Outcomes.{outcome}
-use borrow.Author.Rules.{rules}
 use Rattle.lines.proofs.outcomes.refusing.Goals as goal
 
 same_parts : {a b k j : ℕ} → a ≡ b → k ≡ j → outcome a false k 0 ≡ outcome b false j 0

@@ -2,7 +2,6 @@
 use mathlib.Core.Path.{sym}
 use lib.Seq.{length-take-le}
 use native.Mathlib.Omega.{arith}
-use borrow.Author.Rules.{rules}
 use Rattle.lines.proofs.reduced.put_linear.Goals as goal
 
 pub slice_bounds-put_weights-end : goal.slice_bounds-put_weights-end

@@ -14,5 +14,8 @@ pub slice_bounds-answer_in_field-end-2 : goal.slice_bounds-answer_in_field-end-2
 slice_bounds-answer_in_field-end-2 c = part_long _ 4100 _ c.requires.lent.found_fits
 
 pub answer_in_field-requires : goal.answer_in_field-requires
-answer_in_field-requires c =     record { fits = c.requires; start_in_bounds = start_stands c.args.head c.requires.read _ c.start_at-at.ensures
-          (part_fits _ c.take_start.new.start (omega (arith, c.take_start.auto.start, length-replicate {A = ℕ} 4100 0, c.requires.lists.start_fits))) }
+answer_in_field-requires c = record {
+  fits = c.requires;
+  start_in_bounds = start_stands c.args.head c.requires.read _ c.start_at-at.ensures
+      (part_fits _ c.take_start.new.start (omega (arith, c.take_start.auto.start, length-replicate {A = ℕ} 4100 0, c.requires.lists.start_fits)));
+}

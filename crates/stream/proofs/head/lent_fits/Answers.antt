@@ -20,15 +20,14 @@ pub returns-then-head-gt-FLOATS : goal.returns-then-head-gt-FLOATS
 returns-then-head-gt-FLOATS c = ((λ e. absurd (false≢true e)), λ f. absurd (omega (arith, f.floats_fit)))
 
 pub returns : goal.returns
-returns c =
-    (
-      (λ e. record {
-        constraints_fit = omega arith;
-        answers_fit = omega arith;
-        variables_fit = omega arith;
-        found_fits = omega arith;
-        floats_fit = omega arith;
-        words_fit = leb-true c.args.head.words 589900 e;
-      }),
-      λ f. le-leb c.args.head.words 589900 f.words_fit,
-    )
+returns c = (
+  (λ e. record {
+    constraints_fit = omega arith;
+    answers_fit = omega arith;
+    variables_fit = omega arith;
+    found_fits = omega arith;
+    floats_fit = omega arith;
+    words_fit = leb-true c.args.head.words 589900 e;
+  }),
+  λ f. le-leb c.args.head.words 589900 f.words_fit,
+)

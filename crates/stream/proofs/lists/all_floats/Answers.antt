@@ -1,10 +1,5 @@
 -- `all_floats` tests one element a turn. Assumes nothing.
-use Prim.Native.Nat.{◌-◌}
 use mathlib.Core.Path.{sym, ◌∙◌}
-use lib.Ieee.{eq, nan}
-use borrow.Author.Tests.{not-true, not-false}
-use lib.ListN.{length, get_or}
-use Rattle.scratch.specs.All.{Passing}
 use Rattle.scratch.proofs.All.{all_start, all_turn, all_stop, all_done}
 use borrow.Author.Rules.{rules}
 use Rattle.stream.proofs.lists.all_floats.Goals as goal

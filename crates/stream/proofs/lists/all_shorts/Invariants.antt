@@ -1,11 +1,8 @@
 -- `all_shorts` tests one element a turn. Assumes nothing.
 use Prim.Native.Nat.{◌-◌}
 use lib.Dec.{eqb}
-use borrow.Author.Tests.{eq-eqb, ne_eqb}
 use lib.ListN.{length, get_or}
 use Rattle.scratch.specs.All.{Passing}
-use Rattle.scratch.proofs.All.{all_start, all_turn, all_stop, all_done}
-use borrow.Author.Rules.{rules}
 use Rattle.stream.proofs.lists.all_shorts.Given as goal
 
 abbrev pub invariant-loop-i : goal.invariant-loop-i

@@ -1,9 +1,6 @@
 -- `fill_words` sets one element a turn. Assumes nothing.
-use Prim.Native.Nat.{◌-◌}
 use native.Mathlib.Omega.{arith}
-use Rattle.scratch.specs.Cleared.{ClearedTo}
 use Rattle.scratch.proofs.Cleared.{clear_start, clear_turn, clear_done}
-use borrow.Author.Rules.{rules}
 use Rattle.stream.proofs.lists.fill_words.Goals as goal
 
 pub loop-i-init : goal.loop-i-init

@@ -1,14 +1,7 @@
 -- `same_floats` tests one element a turn. Assumes nothing.
 use mathlib.Core.Path.{ap}
-use Prim.Native.Nat.{◌+◌, ◌*◌, ◌-◌}
 use mathlib.Core.Path.{sym, ◌∙◌}
-use lib.ListN.{length, get_or}
-use Rattle.scratch.specs.All.{Passing}
 use Rattle.scratch.proofs.All.{all_start, all_turn, all_stop, all_done}
-use native.Mathlib.Omega.{arith}
-use lib.Ieee.{nan}
-use borrow.Author.Tests.{not-true, not-false}
-use Rattle.endian.specs.Bytes.{float_at}
 use Rattle.stream.specs.Lists.{same_weight}
 use borrow.Author.Rules.{rules}
 use Rattle.stream.proofs.lists.same_floats.Goals as goal

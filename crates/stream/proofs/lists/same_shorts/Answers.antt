@@ -1,13 +1,7 @@
 -- `same_shorts` tests one element a turn. Assumes nothing.
-use Prim.Native.Nat.{◌+◌, ◌*◌, ◌-◌}
 use mathlib.Core.Path.{sym, ◌∙◌}
-use lib.ListN.{length, get_or}
-use Rattle.scratch.specs.All.{Passing}
 use Rattle.scratch.proofs.All.{all_start, all_turn, all_stop, all_done}
-use native.Mathlib.Omega.{arith}
-use lib.Dec.{eqb}
 use borrow.Author.Tests.{eq-eqb, ne_eqb}
-use Rattle.endian.specs.Bytes.{number_at}
 use borrow.Author.Rules.{rules}
 use Rattle.stream.proofs.lists.same_shorts.Goals as goal
 

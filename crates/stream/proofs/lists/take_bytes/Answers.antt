@@ -1,10 +1,7 @@
 -- `take_bytes` stores one element a turn. Assumes nothing.
-use Prim.Native.Nat.{◌+◌, ◌-◌}
 use native.Mathlib.Omega.{arith}
-use Rattle.stream.proofs.Taken.{TakenTo, take_start, take_turn, take_done}
+use Rattle.stream.proofs.Taken.{take_start, take_turn, take_done}
 use mathlib.Core.Path.{refl}
-use lib.ListN.{get_or}
-use borrow.Author.Rules.{rules}
 use Rattle.stream.proofs.lists.take_bytes.Goals as goal
 
 pub loop-i-init : goal.loop-i-init

@@ -1,10 +1,6 @@
 -- `take_floats` stores one element a turn. Assumes nothing.
-use Prim.Native.Nat.{◌+◌, ◌*◌, ◌-◌}
 use native.Mathlib.Omega.{arith}
-use Rattle.stream.proofs.Taken.{TakenTo, take_start, take_turn, take_done}
-use lib.Ieee.{nan}
-use Rattle.endian.specs.Bytes.{float_at}
-use borrow.Author.Rules.{rules}
+use Rattle.stream.proofs.Taken.{take_start, take_turn, take_done}
 use Rattle.stream.proofs.lists.take_floats.Goals as goal
 
 pub loop-i-init : goal.loop-i-init

@@ -1,9 +1,6 @@
 -- `take_shorts` stores one element a turn. Assumes nothing.
-use Prim.Native.Nat.{◌+◌, ◌*◌, ◌-◌}
 use native.Mathlib.Omega.{arith}
-use Rattle.stream.proofs.Taken.{TakenTo, take_start, take_turn, take_done}
-use Rattle.endian.specs.Bytes.{number_at}
-use borrow.Author.Rules.{rules}
+use Rattle.stream.proofs.Taken.{take_start, take_turn, take_done}
 use Rattle.stream.proofs.lists.take_shorts.Goals as goal
 
 pub loop-i-init : goal.loop-i-init

@@ -1,6 +1,5 @@
 -- `digit` is by cases. Assumes nothing.
 use borrow.Author.Tests.{lt-ltb, le-ltb}
-use borrow.Author.Rules.{rules}
 use Rattle.stream.proofs.output.digit.Goals as goal
 
 pub returns-then-value-lt10 : goal.returns-then-value-lt10

@@ -1,7 +1,6 @@
 -- `put` stores at the place that is used, or first of all. Assumes nothing.
 use lib.ListN.{length-set}
 use native.Mathlib.Omega.{arith}
-use borrow.Author.Rules.{rules}
 use Rattle.stream.proofs.output.put.Goals as goal
 
 pub returns-then-used-out : goal.returns-then-used-out
