@@ -115,7 +115,7 @@ module _ {u : ℕ} {F : Field} (S : Shaped F) (x : ExactIn u F) where
   plain_over_lem [] n hn all l p = plain_as p (omega arith)
   plain_over_lem {e} {a} (k ∷ ks) n hn all l p =
       let here : k < entries F = all 0 (omega arith) in
-      plain_as (plain_over_lem ks (suc n) (omega arith) (λ h b. all (suc h) (omega arith)) (omega (arith, quad_under x k here)) (plain_at n k (omega arith) here l p)) (omega arith)
+      plain_as (plain_over_lem {e = balance_at F e k} ks (suc n) (omega arith) (λ h b. all (suc h) (omega arith)) (omega (arith, quad_under x k here)) (plain_at n k (omega arith) here l p)) (omega arith)
 
   -- every sum of a plain sum is whole, and below 2^53
   worth_over : {y : Float} {a : Whole} (ks : List ℕ) (n : ℕ) → n + length ks ≤ 32768 → ((h : ℕ) → h < length ks → get_or ks h 0 < entries F) → Sized n a → Worth u y a
@@ -125,7 +125,7 @@ module _ {u : ℕ} {F : Field} (S : Shaped F) (x : ExactIn u F) where
   worth_over {y} {a} (k ∷ ks) n hn all l w =
       let here : k < entries F = all 0 (omega arith) in
       let under = quad_under x k here in
-      as_worth (worth_over ks (suc n) (omega arith) (λ h b. all (suc h) (omega arith)) (omega (arith, under)) (add_worth w (quad_half k here) (omega (arith, under)))) (omega arith)
+      as_worth (worth_over {y = add binary64 y (quad_of F k)} ks (suc n) (omega arith) (λ h b. all (suc h) (omega arith)) (omega (arith, under)) (add_worth w (quad_half k here) (omega (arith, under)))) (omega arith)
 
   module _ (i : ℕ) (hi : i < variables F) where
     -- 4c and the entries, in half units

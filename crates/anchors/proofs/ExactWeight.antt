@@ -54,9 +54,9 @@ module _ {u : ℕ} {F : Field} (S : Shaped F) (x : Serves u F) where
       → Worth (suc u) (weight_over F y ks) (a ⊕ gather size_at ks)
   unfolding weight_over gather
   weight_over_lem [] n hn all l w = as_worth w (omega arith)
-  weight_over_lem (k ∷ ks) n hn all l w =
+  weight_over_lem {y = y} (k ∷ ks) n hn all l w =
       let here : k < entries F = all 0 (omega arith) in
-      as_worth (weight_over_lem ks (suc n) (omega arith) (λ h b. all (suc h) (omega arith)) (omega (arith, quad_under x.exact k here)) (weight_at_lem n k (omega arith) here l w)) (omega arith)
+      as_worth (weight_over_lem {y = weight_at F y k} ks (suc n) (omega arith) (λ h b. all (suc h) (omega arith)) (omega (arith, quad_under x.exact k here)) (weight_at_lem n k (omega arith) here l w)) (omega arith)
 
   -- an entry off the diagonal counts where it touches i
   edge_is : (i k : ℕ) → k < entries F → only (touches F i k) (size_at k) ≈ edge W i k

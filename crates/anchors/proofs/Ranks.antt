@@ -45,7 +45,7 @@ module _ {F : Field} (S : Shaped F) (fine : Finite F) where
   weight_over_lem : {w : Float} (ks : List ℕ) → ((h : ℕ) → h < length ks → get_or ks h 0 < entries F) → Weight w → Weight (weight_over F w ks)
   unfolding weight_over
   weight_over_lem [] all p = p
-  weight_over_lem (k ∷ ks) all p = weight_over_lem ks (λ h b. all (suc h) (omega arith)) (weight_at_lem k (all 0 (omega arith)) p)
+  weight_over_lem {w = w} (k ∷ ks) all p = weight_over_lem {w = weight_at F w k} ks (λ h b. all (suc h) (omega arith)) (weight_at_lem k (all 0 (omega arith)) p)
 
   weight_of_lem : (i : ℕ) → Weight (weight_of F i)
   unfolding weight_of of_bits fits

@@ -83,10 +83,10 @@ pub fn pack_paired(answer: Paired) -> u64
     }
 }
 
-fn ground_number(ground: Ground) -> usize
-    ensures { result ≡ ground_number_of ground }
+fn ground_number(because: Ground) -> usize
+    ensures { result ≡ ground_number_of because }
 {
-    match ground {
+    match because {
         Ground::Given => 0,
         Ground::Lower(_) => 1,
         Ground::Upper(_) => 2,
@@ -111,10 +111,10 @@ pub fn pack_reasoned(answer: Reasoned) -> u64
     }
 }
 
-fn bound_of(ground: Ground) -> f64
-    ensures { result ≡ the_bound_of ground }
+fn bound_of(because: Ground) -> f64
+    ensures { result ≡ the_bound_of because }
 {
-    match ground {
+    match because {
         Ground::Given => 0.0,
         Ground::Lower(bound) => bound,
         Ground::Upper(bound) => bound,

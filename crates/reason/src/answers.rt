@@ -11,9 +11,9 @@ use crate::{Ground, Reasoned};
 use field::Refusal;
 
 // The marked variables go into the list, if it has room.
-fn fit(ground: Ground, unit: u8, values: &[u8], list: &mut [u16]) -> Reasoned
+fn fit(because: Ground, unit: u8, values: &[u8], list: &mut [u16]) -> Reasoned
     requires { length values.now ≤ 4096 }
-    ensures { told result list.new ≡ fitted ground unit (threes values.now (length values.now)) list.old }
+    ensures { told result list.new ≡ fitted because unit (threes values.now (length values.now)) list.old }
 {
     let count = count_marked(values);
     if count > list.len() {
@@ -21,15 +21,15 @@ fn fit(ground: Ground, unit: u8, values: &[u8], list: &mut [u16]) -> Reasoned
         return Reasoned::Refuses(Refusal::Room);
     }
     list_marked(values, list);
-    Reasoned::Because(ground, unit, count)
+    Reasoned::Because(because, unit, count)
 }
 
 // No bound is strict: the variable stays free.
-fn finish(ground: Ground, unit: u8, values: &[u8], list: &mut [u16]) -> Reasoned
+fn finish(because: Ground, unit: u8, values: &[u8], list: &mut [u16]) -> Reasoned
     requires { length values.now ≤ 4096 }
-    ensures { told result list.new ≡ with_list ground unit (threes values.now (length values.now)) list.old }
+    ensures { told result list.new ≡ with_list because unit (threes values.now (length values.now)) list.old }
 {
-    match ground {
+    match because {
         Ground::Given => Reasoned::Refuses(Refusal::Unforced),
         Ground::Lower(bound) => fit(Ground::Lower(bound), unit, values, list),
         Ground::Upper(bound) => fit(Ground::Upper(bound), unit, values, list),

@@ -9,10 +9,6 @@ use Rattle.probes.proofs.Answers.{settled_as}
 use borrow.Author.Rules.{rules}
 use Rattle.probes.proofs.probe_all.Goals as goal
 
-pub prepare-known-requires : goal.prepare-known-requires
-prepare-known-requires c =     let both = c.requires in
-    record { ready = both.0; values_len = both.1 }
-
 pub list_free-count-requires : goal.list_free-count-requires
 list_free-count-requires c =     let both = free_room c.requires.ready c.prepare-known.auto.u in
     record { start_len_bound = both.0; start_in_bounds = both.1 }

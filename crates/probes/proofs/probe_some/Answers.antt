@@ -10,10 +10,6 @@ use Rattle.probes.proofs.Answers.{settled_as}
 use borrow.Author.Rules.{rules}
 use Rattle.probes.proofs.probe_some.Goals as goal
 
-pub prepare-known-requires : goal.prepare-known-requires
-prepare-known-requires c =     let both = c.requires in
-    record { ready = both.0; values_len = both.1 }
-
 pub choose-count-requires : goal.choose-count-requires
 choose-count-requires c =
     ready_same c.requires.ready c.prepare-known.auto.f c.prepare-known.auto.u

@@ -10,10 +10,6 @@ use Rattle.probes.proofs.Answers.{done_answer, full_answer}
 use borrow.Author.Rules.{rules}
 use Rattle.probes.proofs.settling.settle.Goals as goal
 
-pub gather-merged-requires : goal.gather-merged-requires
-gather-merged-requires c =     let both = c.requires in
-    record { standing = both.0; values_value = both.1 }
-
 pub hand_over-requires : goal.hand_over-requires
 hand_over-requires c =
     let a = c.args in
