@@ -9,7 +9,7 @@ use native.Mathlib.Omega.{arith}
 use borrow.Author.Tests.{eqb-true, eq-eqb, ne_eqb}
 use lib.Dec.{eqb}
 use lib.ListN.{length, get_or, take}
-use lib.Ieee.{Float, binary64, mul, eq, ne}
+use lib.Ieee.{add, Float, binary64, mul, eq, ne}
 use Rattle.whole.specs.Whole.{Whole, nothing, ◌⊕◌, ◌⊙◌, only, sum, ◌≈◌, Zero, Under}
 use Rattle.whole.proofs.Sums.{sum_add}
 use Rattle.weights.specs.Worth.{Worth, zero64, four64}

@@ -5,10 +5,6 @@ use borrow.Author.Rules.{rules}
 use Rattle.packing.specs.Layout.{packed_counted, count_of}
 use Rattle.packing.proofs.pack_counted.Goals as goal
 
-pub pack_done-requires : goal.pack_done-requires
-pack_done-requires c =     let both = omega (arith, ap count_of c.in-Counts.is) in
-    record { count_bound = both.0; pairs_bound = both.1 }
-
 pub pack_refusal-requires : goal.pack_refusal-requires
 pack_refusal-requires c = omega (arith, ap count_of c.in-Refuses.is)
 
