@@ -2,7 +2,6 @@
 use mathlib.Core.Path.{sym}
 use lib.Seq.{length-take-le}
 use Rattle.text.proofs.Writes.{written_fits}
-use borrow.Author.Rules.{rules}
 use Rattle.presolve_cases.proofs.answer_next.Goals as goal
 
 pub slice_bounds-read_full-end-2 : goal.slice_bounds-read_full-end-2

@@ -1,6 +1,5 @@
 -- `main` answers a thousand inputs at most. Assumes nothing.
 use Prim.Native.Nat.{◌≤◌}
-use borrow.Author.Rules.{rules}
 use Rattle.presolve_cases.proofs.main.Given as goal
 
 abbrev pub invariant-loop-left : goal.invariant-loop-left

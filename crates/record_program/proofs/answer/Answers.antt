@@ -3,7 +3,6 @@ use mathlib.Core.Path.{sym}
 use lib.Seq.{length-take-le}
 use Rattle.text.proofs.Writes.{written_fits}
 use Rattle.record_program.specs.Handed.{an_answer}
-use borrow.Author.Rules.{rules}
 use Rattle.record_program.proofs.answer.Goals as goal
 
 pub slice_bounds-text-end : goal.slice_bounds-text-end

@@ -1,10 +1,7 @@
 -- `tally_all` reads on, and each read comes nearer to the end. Assumes nothing.
-use native.Mathlib.Omega.{arith}
 use lib.ListN.{length}
 use Rattle.tallying.specs.Reads.{to_go}
-use Rattle.record_program.proofs.Loop.{Reading, reading_none, reading_again, reading_less, over_small}
-use Rattle.record_program.specs.Handed.{a_tally}
-use borrow.Author.Rules.{rules}
+use Rattle.record_program.proofs.Loop.{Reading}
 use Rattle.record_program.proofs.tally_all.Given as goal
 
 abbrev pub invariant-loop-next : goal.invariant-loop-next

@@ -2,7 +2,6 @@
 use mathlib.Core.Path.{sym}
 use lib.Seq.{length-take-le}
 use Rattle.text.proofs.Writes.{written_fits}
-use borrow.Author.Rules.{rules}
 use Rattle.record_program.proofs.write.Goals as goal
 
 pub slice_bounds-text-end : goal.slice_bounds-text-end

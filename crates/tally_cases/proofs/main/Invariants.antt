@@ -1,6 +1,5 @@
 -- `main` tallies a thousand inputs at most. Assumes nothing.
 use Prim.Native.Nat.{◌≤◌}
-use borrow.Author.Rules.{rules}
 use Rattle.tally_cases.proofs.main.Given as goal
 
 abbrev pub invariant-loop-left : goal.invariant-loop-left

@@ -2,7 +2,6 @@
 use mathlib.Core.Path.{sym}
 use native.Mathlib.Omega.{arith}
 use lib.Seq.{length-take-le}
-use borrow.Author.Rules.{rules}
 use Rattle.tally_cases.proofs.next.Goals as goal
 
 pub slice_bounds-tally_next-end : goal.slice_bounds-tally_next-end

@@ -1,10 +1,6 @@
 -- `tally_reads` reads on, and each read comes nearer to the end. Assumes nothing.
-use Prim.Native.Nat.{◌≤◌}
 use native.Mathlib.Omega.{arith}
-use lib.ListN.{length}
-use Rattle.tallying.specs.Reads.{to_go}
-use Rattle.record_program.proofs.Loop.{Reading, reading_none, reading_again, reading_less, over_small}
-use borrow.Author.Rules.{rules}
+use Rattle.record_program.proofs.Loop.{reading_none, reading_again, reading_less, over_small}
 use Rattle.tally_cases.proofs.tally_reads.Goals as goal
 
 pub loop-next-init : goal.loop-next-init
