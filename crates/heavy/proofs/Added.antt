@@ -179,7 +179,7 @@ module _ {F : Field} where
   pub rounds_are : {s : List ℕ} (k : ℕ) → Sound F s → rounds F k s ≡ all_rounds F k s
   unfolding rounds all_rounds
   rounds_are {s} zero S = refl
-  rounds_are {s} (suc k) S = by (eqb (frees (round F s)) (frees s)) refl (rounds_are k (round_sound S))
+  rounds_are {s} (suc k) S = by (eqb (frees (round F s)) (frees s)) refl (rounds_are {s = round F s} k (round_sound S))
     where
       by : (b : Bool) → eqb (frees (round F s)) (frees s) ≡ b → rounds F k (round F s) ≡ all_rounds F k (round F s)
           → cond b s (rounds F k (round F s)) ≡ all_rounds F k (round F s)
@@ -190,7 +190,7 @@ module _ {F : Field} where
   pub rounds_close : {s : List ℕ} (k : ℕ) → Sound F s → frees s ≤ k → round F (rounds F k s) ≡ rounds F k s
   unfolding rounds
   rounds_close {s} zero S few = adds_none S (omega (arith, (frees_fewer s (round F s) (round_extends S)).0))
-  rounds_close {s} (suc k) S few = by (eqb (frees (round F s)) (frees s)) refl (rounds_close k (round_sound S))
+  rounds_close {s} (suc k) S few = by (eqb (frees (round F s)) (frees s)) refl (rounds_close {s = round F s} k (round_sound S))
     where
       by : (b : Bool) → eqb (frees (round F s)) (frees s) ≡ b → (frees (round F s) ≤ k → round F (rounds F k (round F s)) ≡ rounds F k (round F s))
           → round F (cond b s (rounds F k (round F s))) ≡ cond b s (rounds F k (round F s))

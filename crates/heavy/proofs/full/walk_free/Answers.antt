@@ -8,5 +8,4 @@ walk_values-requires c =     record { walkable = all_walkable c.requires.remembe
 
 pub returns : goal.returns
 returns c =
-    let walked = c.walk_values.ensures.1 in
     record { values = all_walked c.requires.remembers c.requires.q_in_bounds c.list_free-count.ensures c.set_none.ensures c.walk_values.ensures.valued; adjacent = c.walk_values.ensures.adjacent }
