@@ -168,7 +168,7 @@ only_six s bytes u w first = by first
     by (passes _ (passes _ (passes _ (passes _ (fails e))))) = inr (inr refl)
     by (passes _ (passes _ (passes _ (passes _ (passes _ (fails e)))))) =
         never ((start_means (length u.linear) u.start).1 (record { long = within.start; small = start_small w.told (λ k. omega arith) })) e
-by (passes _ (passes _ (passes _ (passes _ (passes _ (passes _ x48)))))) = elim x48 [ ]
+    by (passes _ (passes _ (passes _ (passes _ (passes _ (passes _ x48)))))) = elim x48 [ ]
 
 -- the second byte after `refused ` tells 11 from any number of the table
 not_eleven : (k : Checked) (F : Field) (s : List ℕ) → checked_text k F s ≢ refused_text 11
