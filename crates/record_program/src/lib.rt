@@ -69,7 +69,7 @@ fn tally_all(stdin: Stdin, stdout: Stdout, buffer: &mut [u8]) -> usize
 }
 
 // Whether the first argument is `tally`.
-fn is_tally(rt: &HostRuntime) -> bool {
+fn is_tally(rt: &impl Env) -> bool {
     let mut word = [0u8; 6];
     match rt.arg(1, &mut word) {
         Ok(n) => &word[..n] == b"tally".as_slice(),

@@ -1,9 +1,6 @@
 -- `answer_all` has fewer turns left after each case, and every buffer stays as long as it was. Assumes nothing.
-use mathlib.Core.Path.{◌≡◌}
 use native.Mathlib.Omega.{arith}
-use lib.ListN.{length}
 use Rattle.cases.proofs.Parts.{ready_case}
-use borrow.Author.Rules.{rules}
 use Rattle.replay.proofs.answer_all.Goals as goal
 
 pub answer-used-requires : goal.answer-used-requires

@@ -3,7 +3,6 @@ use mathlib.Core.Path.{sym}
 use lib.Seq.{length-take-le}
 use native.Mathlib.Omega.{arith}
 use Rattle.cases.proofs.Parts.{part_long}
-use borrow.Author.Rules.{rules}
 use Rattle.replay.proofs.fresh.answer.Goals as goal
 
 pub slice_bounds-answer_in_parts-end-2 : goal.slice_bounds-answer_in_parts-end-2

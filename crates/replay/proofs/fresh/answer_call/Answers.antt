@@ -1,5 +1,4 @@
 -- `answer_call` hands on where the start values stood. Assumes nothing.
-use borrow.Author.Rules.{rules}
 use Rattle.replay.proofs.fresh.answer_call.Goals as goal
 
 pub answer_keep-requires : goal.answer_keep-requires

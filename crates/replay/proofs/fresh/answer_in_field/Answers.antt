@@ -1,6 +1,5 @@
 -- `answer_in_field` lends a field as long as the head says. Assumes nothing.
 use Rattle.cases.proofs.Parts.{part_kept, field_stands}
-use borrow.Author.Rules.{rules}
 use Rattle.replay.proofs.fresh.answer_in_field.Goals as goal
 
 pub take_linear-requires : goal.take_linear-requires

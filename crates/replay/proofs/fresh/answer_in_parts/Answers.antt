@@ -3,7 +3,6 @@ use Prim.Native.Nat.{ℕ}
 use native.Mathlib.Omega.{arith}
 use lib.ListN.{length-replicate}
 use Rattle.cases.proofs.Parts.{part_fits, part_long, start_stands}
-use borrow.Author.Rules.{rules}
 use Rattle.replay.proofs.fresh.answer_in_parts.Goals as goal
 
 pub slice_bounds-answer_in_field-end : goal.slice_bounds-answer_in_field-end

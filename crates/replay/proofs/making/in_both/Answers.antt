@@ -1,6 +1,5 @@
 -- The number is the answer's. Assumes nothing.
 use Rattle.lines.proofs.Numbers.{counted_few}
-use borrow.Author.Rules.{rules}
 use Rattle.replay.proofs.making.in_both.Goals as goal
 
 pub returns-then-head-eq-PROBE : goal.returns-then-head-eq-PROBE

@@ -1,6 +1,5 @@
 -- The number is the answer's. Assumes nothing.
 use Rattle.lines.proofs.Numbers.{answered_few}
-use borrow.Author.Rules.{rules}
 use Rattle.replay.proofs.making.make.Goals as goal
 
 pub returns-then-head-eq-HEAVY : goal.returns-then-head-eq-HEAVY

@@ -1,6 +1,5 @@
 -- The number is the answer's, or that of a call that is absent. Assumes nothing.
 use Rattle.lines.proofs.Numbers.{absent_few, counted_few}
-use borrow.Author.Rules.{rules}
 use Rattle.replay.proofs.others.in_list.Goals as goal
 
 pub returns-then-head-eq-ANCHORS : goal.returns-then-head-eq-ANCHORS

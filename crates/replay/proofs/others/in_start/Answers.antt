@@ -1,6 +1,5 @@
 -- The number is the answer's. Assumes nothing.
 use Rattle.lines.proofs.Numbers.{counted_few}
-use borrow.Author.Rules.{rules}
 use Rattle.replay.proofs.others.in_start.Goals as goal
 
 pub returns-then-code-eq-CLOSURE : goal.returns-then-code-eq-CLOSURE

@@ -1,6 +1,5 @@
 -- The number is the answer's. Assumes nothing.
 use Rattle.lines.proofs.Numbers.{answered_few, checked_few}
-use borrow.Author.Rules.{rules}
 use Rattle.replay.proofs.others.make.Goals as goal
 
 pub returns-then-code-eq-COLD_PROBE : goal.returns-then-code-eq-COLD_PROBE

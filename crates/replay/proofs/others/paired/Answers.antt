@@ -1,6 +1,5 @@
 -- The number is 0 or a refusal's. Assumes nothing.
 use Rattle.lines.proofs.Numbers.{refusing_few}
-use borrow.Author.Rules.{rules}
 use Rattle.replay.proofs.others.paired.Goals as goal
 
 pub returns-in-Refused : goal.returns-in-Refused
