@@ -1,5 +1,5 @@
 -- A shift of whole weights rounds nothing, and keeps the objective at every choice of values. Assumes nothing.
-use Prim.Native.Nat.{ℕ, zero, suc, ◌+◌, ◌*◌, ◌<◌, ◌≤◌, ◌^◌}
+use Prim.Native.Nat.{ℕ, zero, suc, ◌<◌, ◌≤◌}
 use mathlib.Core.Path.{◌≡◌, refl, ap, ◌∙◌}
 use mathlib.Core.Logic.{◌≢◌}
 use mathlib.Core.Bool.{Bool, true, false, cond, not}
@@ -9,41 +9,26 @@ use native.Mathlib.Omega.{arith}
 use borrow.Author.Tests.{eqb-true}
 use lib.ListN.{length, get_or}
 use lib.Seq.{get_or-set_same, get_or-set_other}
-use lib.Ieee.{Float, nan, binary64, add, mul}
+use lib.Ieee.{Float, nan}
 use Rattle.whole.specs.Whole.{Whole, ◌⊕◌, ◌⊙◌, sum, ◌≈◌}
 use Rattle.whole.proofs.Sums.{sum_same, sum_update}
 use Rattle.meaning.specs.Field.{variable_term, entry_term, twice_f}
-use Rattle.weights.specs.Worth.{Worth, read, half64}
-use Rattle.weights.proofs.Worth.{add_worth, half_worth, worth_read}
+use Rattle.weights.specs.Worth.{read}
 use Rattle.field.specs.Field.{Field, variables, entries, linear_of, row_end, column_end, quad_of, Shaped}
 use Rattle.field.specs.Grade.{Weighs}
 use Rattle.field.specs.Reading.{whole_of}
-use Rattle.field.proofs.Exact.{weighs_read, weighs_under}
 use Rattle.shift.specs.Picked.{picked}
 use Rattle.shift.specs.Closing.{on_diagonal, into_linear, linear_to, kept_to}
 use Rattle.shift.specs.Shifted.{shifted, WholeIn}
 use Rattle.shift.proofs.Picked.{sum_more}
 use Rattle.shift.proofs.Turns.{linear_long}
+use Rattle.shift.proofs.Halves.{most, half_in, half_counts}
 use Rattle.shift.proofs.Kept.{from, shifted_is, new_variables, new_entries, new_row, new_column, new_quad}
 
 -- ---- one sum
 
--- 2^31 units more for each entry
-abbrev pub most : ℕ → ℕ
-most k = 2 ^ 32 + k * 2 ^ 31
-
 pub weighs_more : {u a b : ℕ} {x : Float} → a ≤ b → Weighs u a x → Weighs u b x
 weighs_more l w = record { ledger = w.ledger; worth = w.worth; at_most = omega (arith, w.at_most); at_least = omega (arith, w.at_least) }
-
-module _ {u k : ℕ} {x q : Float} (few : k ≤ 32768) (a : Weighs u (most k) x) (b : Weighs (suc u) (2 ^ 31) q) where
-  half_sum : Worth u (add binary64 x (mul binary64 half64 q)) (read u x ⊕ read (suc u) q)
-  half_sum = let l = weighs_under a in let r = weighs_under b in add_worth (weighs_read a) (half_worth (weighs_read b) (omega arith)) (omega arith)
-
-  half_in : Weighs u (most (suc k)) (add binary64 x (mul binary64 half64 q))
-  half_in = let l = weighs_under a in let r = weighs_under b in record { ledger = read u x ⊕ read (suc u) q; worth = half_sum; at_most = omega arith; at_least = omega arith }
-
-  half_counts : read u (add binary64 x (mul binary64 half64 q)) ≈ read u x ⊕ read (suc u) q
-  half_counts = omega (arith, worth_read half_sum)
 
 pub equal : {a b : Whole} → a ≡ b → a ≈ b
 equal e = rw e refl
@@ -85,11 +70,11 @@ module _ {u : ℕ} {F : Field} (S : Shaped F) (w : WholeIn u F) where
       moved i = read u (get_or (into_linear F k (linear_to F k)) i nan) ⊙ get_or x i 0
 
       elsewhere : (i : ℕ) → i ≢ row_end F k → moved i ≡ value k i
-      elsewhere i n = rw (get_or-set_other (linear_to F k) (row_end F k) i (add binary64 (get_or (linear_to F k) (row_end F k) nan) (mul binary64 half64 (quad_of F k))) nan n)
+      elsewhere i n = rw (get_or-set_other (linear_to F k) (row_end F k) i _ nan n)
 
       here : moved (row_end F k) ≈ value k (row_end F k) ⊕ read (suc u) (quad_of F k) ⊙ get_or x (row_end F k) 0 ⊙ get_or x (row_end F k) 0
       here =
-          rw (get_or-set_same (linear_to F k) (row_end F k) (add binary64 (get_or (linear_to F k) (row_end F k) nan) (mul binary64 half64 (quad_of F k))) nan (omega (arith, linear_long F k, S.row_below k h)))
+          rw (get_or-set_same (linear_to F k) (row_end F k) _ nan (omega (arith, linear_long F k, S.row_below k h)))
           (counted _ (read u (get_or (linear_to F k) (row_end F k) nan)) (read (suc u) (quad_of F k)) (get_or x (row_end F k) 0) (full (row_end F k))
           (half_counts (omega (arith, S.few_entries)) (weighs_to k (omega arith) (row_end F k) (S.row_below k h)) (w.quad k h)))
 

@@ -3,6 +3,7 @@ pub mod Turns
 pub mod Loop
 pub mod Laws
 pub mod Kept
+pub mod Halves
 pub mod Keeps
 pub mod Demands
 pub mod Worked
