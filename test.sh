@@ -1,6 +1,6 @@
 #!/bin/sh
-# Passes all tests: where python3 is there those of tools/records, of what the pages cite and of the sentences above definitions, those of the scripts, then every crate
-# proved from nothing, the must-fail edits and the programs' runs, then those of the program presolve, of the planner's command and of the library for C and Rust, which
+# Passes all tests: where python3 is there those of tools/records, of what the pages cite and of the sentences above definitions, those of the scripts, then every crate's
+# proofs, tests, must-fail edits and programs, by `rt ci`, then those of the program presolve, of the planner's command and of the library for C and Rust, which
 # rest on the crates proved just before.
 # The last line is `N passed, 0 failed`.
 set -eu
@@ -29,16 +29,10 @@ else
     echo "There is no python3 here: the tests of tools/records, of what the pages cite, and of the sentences above definitions are passed over."
 fi
 
-# The moments of the last run that passed tell how much time is left. They stand in target/, which rt ci removes, so they are kept aside meanwhile.
+# The moments of the last run that proved every crate tell how much time is left at most.
 room=$(mktemp -d)
 start=$(date +%s)
-times=$room/last
-[ ! -f target/times ] || cp target/times "$times"
-leave() {
-    [ ! -f "$times" ] || { mkdir -p target && cp "$times" target/times; }
-    rm -rf "$room"
-}
-trap leave EXIT
+trap 'rm -rf "$room"' EXIT
 trap 'exit 130' INT
 trap 'exit 143' TERM
 
@@ -66,28 +60,36 @@ finish() {
     exit "$(cat "$room"/*.status | sort -n | tail -n 1)"
 }
 
-# rt ci waits for the slowest of each batch, so six to a processor leave none idle; a job takes up to 1 GiB.
-jobs=$((6 * $(nproc 2>/dev/null || echo 1)))
-[ "$jobs" -le 12 ] || jobs=12
-export RT_JOBS="${RT_JOBS:-$jobs}"
-
+# All that rt ci proves, tries and runs. An edit that cannot be applied, compiled or read fails nothing there, and its line `rt: ok` counts it as bad: here it fails.
 prove() {
     echo 0 >"$room/ci"
-    { rt ci || echo $? >"$room/ci"; } | LAST=$room/last NEW=$room/new START=$start tools/progress
+    tools/sums --before "$room/sums"
+    { rt ci || echo $? >"$room/ci"; } | tee "$room/said" | LAST=target/times NEW=$room/new START=$start tools/progress |
+        awk 'NR > 1 { print last; fflush() } { last = $0 }'
+    line=$(tail -n 1 "$room/said")
+    bad=$(sed -n '/^rt: ok/s/.*, \([0-9][0-9]*\) bad.*/\1/p' "$room/said" | tail -n 1)
+    if [ -n "$bad" ]; then
+        echo "$bad must-fail edits are bad, as told above: each is to be mended."
+        line=$(echo "$line" | awk -v bad="$bad" '{ print $1 " passed, " $3 + bad " failed" }')
+        [ "$(cat "$room/ci")" -ne 0 ] || echo 1 >"$room/ci"
+    fi
+    echo "$line"
     return "$(cat "$room/ci")"
 }
 
 count scripts tools/test_run.sh
 count proofs prove
 if failed proofs; then
-    echo "What each crate said stands in target/log/NAME.say. The program presolve, ombradiec and the library for C and Rust are not tried, since not all is proved."
+    echo "What is wrong stands above, in the words of rt. The program presolve, ombradiec and the library for C and Rust are not tried, since not all is proved."
     finish
 fi
+tools/sums --proved "$room/sums"
 count presolve ./test_presolve.sh
 count planner ./test_planner.sh
 count library ./test_library.sh
-if ! failed scripts && ! failed presolve && ! failed planner && ! failed library; then
+if ! failed scripts && ! failed presolve && ! failed planner && ! failed library && grep -q '^rt: ok.* every proof and must-fail edit was done in this run' "$room/said"; then
     echo "$(($(date +%s) - start)) end" >>"$room/new"
-    times=$room/new
+    mkdir -p target
+    cp "$room/new" target/times
 fi
 finish

@@ -37,15 +37,15 @@ FILES = {
     "docs/GUIDE.md": "The table.\n",
     "README.md": "Shown by `paired`, `crates/a/proofs/Pairs.antt`.\n",
     "crates/a/specs/Call.antt": "-- rule 1.1\npub record Counts (n : ℕ) : Type 0 where\n  pub is : n ≡ 1\n",
-    "crates/a/src/lib.rt": "ghost use Rattle·a·specs.specs.Call.{Counts};\npub fn count() {}\n",
+    "crates/a/src/lib.rt": "ghost use Rattle.std.proofs.Math.Seq.{slice};\nghost use Rattle.a.specs.Call.{Counts};\npub fn count()\n    ensures { Counts 1 }\n{\n}\n",
     "crates/a/must-fail/wrong.edit": "file: src/lib.rt\n",
     "crates/a/proofs/Laws.antt": "abbrev pub Helper : ℕ → Type 0\nHelper n = Counts n\n",
     "crates/a/proofs/Demands.antt": (
-        "use Rattle·a·specs.specs.Call.{Counts}\nuse Rattle·a·proofs.proofs.Laws.{Helper, law}\nuse Rattle·a·proofs.proofs.Laws as laws\n\n"
+        "use Rattle.a.specs.Call.{Counts}\nuse Rattle.a.proofs.Laws.{Helper, law}\nuse Rattle.a.proofs.Laws as laws\n\n"
         "-- Own is a name in a comment\nabbrev Own : ℕ → Type 0\nOwn n = Counts n\n\n"
         "module _ (n : ℕ) where\n  pub counted : (Helper : ℕ) → Counts n\n  counted h = law n\n"
     ),
-    "crates/a/proofs/Pairs.antt": "use Rattle·a·specs.specs.Call.{Counts}\n\npub paired : (n : ℕ)\n    → Counts n\npaired n = refl\n",
+    "crates/a/proofs/Pairs.antt": "use Rattle.a.specs.Call.{Counts}\n\npub paired : (n : ℕ)\n    → Counts n\npaired n = refl\n",
 }
 
 
@@ -81,10 +81,13 @@ class Cited(unittest.TestCase):
         self.names("counted of crates/a/proofs/Demands.antt: `Own` is defined in this file", ("crates/a/proofs/Demands.antt", "→ Counts n\n  counted", "→ Own n\n  counted"))
 
     def test_brought_definition(self):
-        self.names("`Helper` is defined in Rattle·a·proofs.proofs.Laws", ("crates/a/proofs/Demands.antt", "(Helper : ℕ) → Counts n", "Helper n"))
+        self.names("`Helper` is defined in Rattle.a.proofs.Laws", ("crates/a/proofs/Demands.antt", "(Helper : ℕ) → Counts n", "Helper n"))
 
     def test_behind_a_module(self):
-        self.names("`Helper` is defined in Rattle·a·proofs.proofs.Laws", ("crates/a/proofs/Demands.antt", "(Helper : ℕ) → Counts n", "laws.Helper n"))
+        self.names("`Helper` is defined in Rattle.a.proofs.Laws", ("crates/a/proofs/Demands.antt", "(Helper : ℕ) → Counts n", "laws.Helper n"))
+
+    def test_before_a_field(self):
+        self.names("`Helper` is defined in Rattle.a.proofs.Laws", ("crates/a/proofs/Demands.antt", "(Helper : ℕ) → Counts n", "Counts Helper.is"))
 
     def test_in_the_parameters(self):
         self.names("`Own` is defined in this file", ("crates/a/proofs/Demands.antt", "module _ (n : ℕ)", "module _ (n : ℕ) (o : Own n)"))
@@ -102,10 +105,16 @@ class Cited(unittest.TestCase):
         self.names("docs/PROMISES.md:10: crates/a/must-fail/other.edit: there is no such file", ("docs/PROMISES.md", "wrong.edit", "other.edit"))
 
     def test_specs_on_proofs(self):
-        self.names("crates/a/specs/Call.antt: `Helper` is defined in Rattle·a·proofs.proofs.Laws", ("crates/a/specs/Call.antt", "pub record", "use Rattle·a·proofs.proofs.Laws.{Helper}\npub record"))
+        self.names("crates/a/specs/Call.antt: `Helper` is defined in Rattle.a.proofs.Laws", ("crates/a/specs/Call.antt", "pub record", "use Rattle.a.proofs.Laws.{Helper}\npub record"))
 
     def test_contract_on_proofs(self):
-        self.names("crates/a/src/lib.rt: `Helper` is defined in Rattle·a·proofs.proofs.Laws", ("crates/a/src/lib.rt", "pub fn", "ghost use Rattle·a·proofs.proofs.Laws.{Helper};\npub fn"))
+        self.names("crates/a/src/lib.rt: `Helper` is defined in Rattle.a.proofs.Laws", ("crates/a/src/lib.rt", "pub fn", "ghost use Rattle.a.proofs.Laws.{Helper};\npub fn"))
+
+    def test_contract_on_proofs_in_lines(self):
+        self.names("crates/a/src/lib.rt: `Helper, law` is defined in Rattle.a.proofs.Laws", ("crates/a/src/lib.rt", "pub fn", "ghost use Rattle.a.proofs.Laws.{\n    Helper, law\n};\npub fn"))
+
+    def test_contract_on_a_proof_module(self):
+        self.names("crates/a/src/lib.rt: `laws` is defined in Rattle.a.proofs.Laws", ("crates/a/src/lib.rt", "pub fn", "ghost use Rattle.a.proofs.Laws as laws;\npub fn"))
 
     def test_rule_in_a_page(self):
         self.names("docs/USING.md:1: rule 2.2: there is no such rule", ("docs/USING.md", "to 2.1", "and 2.2"))

@@ -16,10 +16,10 @@ FILES = {
     "docs/PROMISES.md": "| It counts | T `counted`, `crates/a/proofs/Demands.antt` |\n",
     "crates/a/specs/Lib.antt": "pub mod Call\n",
     "crates/a/specs/Call.antt": (
-        "-- What is counted.\nuse lib.Nat.{ℕ}\n\n-- It counts n.\npub record Counts (n : ℕ) : Type 0 where\n  pub records : n ≡ 1\n\n"
-        "-- The sum.\ninfixl 65 _⊕_\nabbrev pub _⊕_ : ℕ → ℕ → ℕ\na ⊕ b = a\n\nmodule _ (n : ℕ) where\n  -- One more.\n  unfoldable pub more : ℕ\n  more = n\n"
+        "-- What is counted.\nuse Rattle.std.specs.Prelude.{ℕ}\n\n-- It counts n.\npub record Counts (n : ℕ) : Type 0 where\n  pub records : n ≡ 1\n\n"
+        "-- The sum.\ninfixl 65 ◌⊕◌\nabbrev pub ◌⊕◌ : ℕ → ℕ → ℕ\na ⊕ b = a\n\nmodule _ (n : ℕ) where\n  -- One more.\n  unfoldable pub more : ℕ\n  more = n\n"
     ),
-    "crates/a/src/lib.rt": '// Counts.\n#[no_mangle]\npub extern "C" fn count() {}\n\nimpl Sum {\n    // The limit.\n    pub const LIMIT: u16 = 4;\n}\n\nfn inner() {}\n',
+    "crates/a/src/lib.rt": '// Counts.\n#[unsafe(no_mangle)]\npub extern "C" fn count()\n    ensures { result ≡ 1 }\n{\n    1\n}\n\nimpl Sum {\n    // The limit.\n    pub const LIMIT: u16 = 4;\n}\n\nfn inner() {}\n',
     "crates/a/proofs/Demands.antt": "-- a lemma\npub law : ℕ\nlaw = 1\n\nmodule _ (n : ℕ) where\n  -- Theorem. It counts,\n  -- and no more.\n  pub counted : ℕ\n  counted = law\n",
 }
 SPECS, SOURCE, PROOFS = (f"crates/a/{name}" for name in ("specs/Call.antt", "src/lib.rt", "proofs/Demands.antt"))
@@ -51,7 +51,7 @@ class Sentences(unittest.TestCase):
         self.names("crates/a/specs/Call.antt:5: Counts: has no sentence", (SPECS, "-- It counts n.", "-- ---- counting"))
 
     def test_sign(self):
-        self.names("crates/a/specs/Call.antt:10: _⊕_: has no sentence", (SPECS, "-- The sum.", ""))
+        self.names("crates/a/specs/Call.antt:10: ◌⊕◌: has no sentence", (SPECS, "-- The sum.", ""))
 
     def test_in_a_module(self):
         self.names("crates/a/specs/Call.antt:15: more: has no sentence", (SPECS, "  -- One more.", ""))
@@ -60,7 +60,7 @@ class Sentences(unittest.TestCase):
         self.names("crates/a/src/lib.rt:3: count: has no sentence", (SOURCE, "// Counts.", ""))
 
     def test_constant(self):
-        self.names("crates/a/src/lib.rt:7: LIMIT: has no sentence", (SOURCE, "    // The limit.", ""))
+        self.names("crates/a/src/lib.rt:11: LIMIT: has no sentence", (SOURCE, "    // The limit.", ""))
 
     def test_not_marked(self):
         self.names("crates/a/proofs/Demands.antt:8: counted: is cited and not marked", (PROOFS, "Theorem. It", "It"))
