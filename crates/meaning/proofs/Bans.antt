@@ -1,11 +1,11 @@
 -- What a list of records forbids, and lists of equal meaning. Assumes nothing.
-use mathlib.Core.Path.{◌≡◌, refl}
+use mathlib.Core.Path.{refl}
 use mathlib.Core.Logic.{◌⊎◌, inl, inr, ⊎_elim}
 use mathlib.Core.List.Memᴰ
-use mathlib.Core.List.{List, [], ◌∷◌, ◌++◌, Memᴰ}
+use mathlib.Core.List.{List, [], ◌++◌, Memᴰ}
 use Prim.Native.Nat.{ℕ}
 use Rattle.meaning.specs.Kinds.{Pair}
-use Rattle.meaning.specs.Records.{Record, pairs_in, Bans, Covered, SameBans}
+use Rattle.meaning.specs.Records.{Record, pairs_in, Bans, SameBans}
 
 -- a record of l forbids the pairs of its set
 pub bans_of : {l : List Record} {x : Record} {p : Pair} → Memᴰ x l → Memᴰ p (pairs_in x.set) → Bans l x.lower x.higher p

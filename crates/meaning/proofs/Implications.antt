@@ -1,6 +1,6 @@
 -- The implications of a list of records: between variables, obeyed by values that meet every record, and as many as the list forbids. Assumes nothing.
-use mathlib.Core.Path.{◌≡◌, refl, sym, ap, ◌∙◌}
-use mathlib.Core.Logic.{◌⊎◌, inl, inr, ⊎_elim, ◌↔◌}
+use mathlib.Core.Path.{◌≡◌, sym, ◌∙◌}
+use mathlib.Core.Logic.{inl, inr, ⊎_elim}
 use mathlib.Core.List.{List, Memᴰ}
 use Prim.Native.Nat.{ℕ, ◌-◌, ◌<◌}
 use native.Mathlib.Decide.{ℕ_discrete}
@@ -8,9 +8,9 @@ use native.Mathlib.Omega.{arith}
 use lib.ListN.{length, get_or}
 use Rattle.meaning.specs.Steps.{Valid}
 use Rattle.meaning.specs.Field.{Completion}
-use Rattle.meaning.specs.Kinds.{Pair, pair}
+use Rattle.meaning.specs.Kinds.{Pair}
 use Rattle.meaning.specs.Literal.{Implication, Holds, given, follows, BothWays, Settled, propagate}
-use Rattle.meaning.specs.Records.{Record, pairs_in, Ends, MeetsRecord, rules_of, Bans}
+use Rattle.meaning.specs.Records.{Record, Ends, MeetsRecord, rules_of, Bans}
 use Rattle.meaning.proofs.Values.{fixed}
 use Rattle.meaning.proofs.Sets.{pair_small}
 use Rattle.meaning.proofs.Records.{RuleOf, ahead, backward, rule_of}

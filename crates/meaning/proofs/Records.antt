@@ -1,9 +1,9 @@
 -- The record of a constraint says what the constraint says: it forbids the same, is met alike, and gives the same implications. Assumes nothing.
 use mathlib.Core.Path.{◌≡◌, refl, sym, ap, ◌∙◌, subst}
-use mathlib.Core.Logic.{◌≢◌, ◌⊎◌, inl, inr, ⊎_elim, ◌↔◌}
+use mathlib.Core.Logic.{◌≢◌, inl, inr, ⊎_elim, ◌↔◌}
 use mathlib.Core.Bool.{Bool, true, false, cond}
 use mathlib.Core.List.Memᴰ
-use mathlib.Core.List.{List, [], ◌∷◌, ◌++◌, map, Memᴰ}
+use mathlib.Core.List.{List, [], ◌∷◌, map, Memᴰ}
 use Prim.Native.Nat.{ℕ, ◌+◌, ◌<◌}
 use native.Mathlib.Decide.{dec_lt}
 use native.Mathlib.Omega.{arith}
@@ -13,7 +13,7 @@ use lib.ListN.{get_or, set, replicate, length-set, length-replicate}
 use lib.Seq.{get_or-set_same, get_or-set_other}
 use Rattle.meaning.specs.Kinds.{Kind, at_least_one, exactly_one, no_more_than_one, greater_than, less_than, equal, Pair, pair, forbidden, Forbids, Constraint, Meets, Apart}
 use Rattle.meaning.specs.Literal.{Implication, forth, back, bars, implications}
-use Rattle.meaning.specs.Records.{Record, record_on, pairs_in, Proper, AllProper, MeetsRecord, rules_of, set_of, turned, record_of, Excludes, Bans, Covered, SameBans}
+use Rattle.meaning.specs.Records.{Record, record_on, pairs_in, Proper, AllProper, MeetsRecord, rules_of, set_of, turned, record_of, Excludes, Bans, Covered}
 use Rattle.meaning.specs.Rising.{Rising}
 use Rattle.meaning.proofs.Values.{zero_or_one}
 use Rattle.meaning.proofs.Forbidden.{only_pair, either_pair}

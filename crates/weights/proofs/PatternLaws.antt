@@ -1,12 +1,12 @@
 -- What a weight's bit pattern says of it: in which units it is whole, and whether it is at most 2 ^ 31 of them. Assumes nothing.
 use mathlib.Core.Path.{◌≡◌, refl, sym, ap, ap₂, ◌∙◌, subst}
 use mathlib.Core.Logic.{◌⊎◌, inl, inr, ◌↔◌}
-use mathlib.Core.Bool.{Bool, true, false, not, cond, true≢false}
+use mathlib.Core.Bool.{Bool, true, false, cond}
 use Prim.Native.Nat.{ℕ, zero, suc, ◌+◌, ◌*◌, ◌/◌, ◌%◌, ◌^◌, ◌≤◌, ◌<◌}
 use native.Mathlib.Nat.{mod-lt, zero-lt-suc, mul_assoc, mul_comm, mul-le-mul_right, le_of_mul-le-mul_right, le_trans, le_of_eq, eq_of_mul-eq-mul_right, div-add-mod', le_refl}
 use native.Mathlib.Omega.{arith}
 use lib.Dec.{T, lit<, leb, eqb, leb→le, le→leb, eqb→eq}
-use borrow.Author.Tests.{ne_eqb, not-true}
+use borrow.Author.Tests.{ne_eqb}
 use lib.Count.{count_trailing_zeros, trailing_le}
 use lib.Pow.{field, pow_pos, pow-add, pow-lt, pow_mono, mod-pow-add, high, low as low-digits}
 use lib.Ieee.{Float, nan, inf, fin, binary64, of_fields, of_bits, to_bits, fits, hid, top, ones, low, up, down, odd}

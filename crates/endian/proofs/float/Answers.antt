@@ -3,7 +3,6 @@ use mathlib.Core.Path.{ap}
 use lib.Ieee.{binary64, of_bits, nan_bits}
 use Rattle.endian.specs.Bytes.{float_at}
 use Rattle.endian.proofs.Numbers.{nan_read, no_nan}
-use borrow.Author.Rules.{rules}
 use Rattle.endian.proofs.float.Goals as goal
 
 pub float_from_bits-top : goal.float_from_bits-top

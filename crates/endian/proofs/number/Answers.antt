@@ -1,8 +1,7 @@
 -- `number` reads one byte a turn, the highest first. Assumes nothing.
-use borrow.Author.Rules.{rules}
 use Prim.Native.Nat.{◌+◌, ◌-◌}
 use native.Mathlib.Omega.{arith}
-use Rattle.endian.proofs.Numbers.{Gathered, gather_start, gather_turn, gather_fits, gather_done}
+use Rattle.endian.proofs.Numbers.{gather_start, gather_turn, gather_fits, gather_done}
 use Rattle.endian.proofs.number.Goals as goal
 
 pub loop-i-init : goal.loop-i-init

@@ -1,7 +1,6 @@
 -- `short` reads two bytes, whose number fits. Assumes nothing.
 use native.Mathlib.Omega.{arith}
 use Rattle.endian.proofs.Numbers.{number_below}
-use borrow.Author.Rules.{rules}
 use Rattle.endian.proofs.short.Goals as goal
 
 pub overflow_cast-result : goal.overflow_cast-result

@@ -1,8 +1,5 @@
 -- `clear_bytes` sets one element a turn. Assumes nothing.
-use Prim.Native.Nat.{◌-◌}
-use native.Mathlib.Omega.{arith}
 use Rattle.scratch.specs.Cleared.{ClearedTo}
-use Rattle.scratch.proofs.Cleared.{clear_start, clear_turn, clear_done}
 use Rattle.scratch.proofs.clear_bytes.Given as goal
 
 abbrev pub invariant-loop-i : goal.invariant-loop-i

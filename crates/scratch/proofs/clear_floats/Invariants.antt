@@ -1,9 +1,6 @@
 -- `clear_floats` sets one element a turn. Assumes nothing.
-use Prim.Native.Nat.{◌-◌}
-use native.Mathlib.Omega.{arith}
 use lib.Ieee.{binary64, of_bits}
 use Rattle.scratch.specs.Cleared.{ClearedTo}
-use Rattle.scratch.proofs.Cleared.{clear_start, clear_turn, clear_done}
 use Rattle.scratch.proofs.clear_floats.Given as goal
 
 abbrev pub invariant-loop-i : goal.invariant-loop-i
