@@ -1,7 +1,7 @@
 #!/bin/sh
-# Installs the static library for this machine's processor, the headers and ombradiec.pc below a prefix; the library is made first.
+# Installs the static library for x86-64, the headers and ombradiec.pc below a prefix; the library is made first.
 # Usage: install.sh [PREFIX], /usr/local where none is named. DESTDIR in the environment stands before every path that is written to,
-# and not in ombradiec.pc. ARCHIVE in the environment names a library that is made already.
+# and not in ombradiec.pc. ARCHIVE in the environment names a library that is made already, as for another processor by tools/native.
 set -eu
 [ $# -le 1 ] || { echo 'usage: install.sh [PREFIX]' >&2; exit 2; }
 prefix=${1:-/usr/local}

@@ -1,7 +1,7 @@
 #!/bin/sh
-# Makes the static library for this machine's processor, and builds and runs the examples in C and C++ and all tests of rust/ over it,
+# Makes the static library for x86-64, and builds and runs the examples in C and C++ and all tests of rust/ over it,
 # installs it below a prefix of its own, and holds the version and the words of the refusals to be the same wherever they stand.
-# On x86-64 the library is that of `rt staticlib`; on another processor the one that tools/native makes of the same proved program.
+# On another processor ARCHIVE names the library that tools/native made for it of the same proved program.
 # What cannot be run here is said in a line, with what is missing; nothing is installed outside target/. The last line is `N passed, M failed`.
 set -eu
 cd "$(dirname "$0")"
@@ -40,11 +40,11 @@ try 'one version in the header, the crate and README.md' one_version
 
 # ---- the archive
 made() {
-    tools/archive >"$room/archive" && [ -f "$(cat "$room/archive")" ]
+    if [ -n "${ARCHIVE:-}" ]; then echo "$ARCHIVE"; else tools/archive; fi >"$room/archive" && [ -f "$(cat "$room/archive")" ]
 }
 try 'the archive' made
 [ -s "$room/archive" ] || finish
-archive=$PWD/$(cat "$room/archive")
+archive=$(realpath "$(cat "$room/archive")")
 
 # ---- C and C++
 # Whether a compiler is there, with the headers of the C library.
@@ -132,27 +132,6 @@ if [ -z "$c" ]; then
 else
     try 'the words of the refusals' words "$c"
     if command -v pkg-config >/dev/null; then try 'the library below a prefix' installed "$c"; else pass_over 'the library below a prefix' 'there is no pkg-config here'; fi
-fi
-
-# ---- the x86-64 archive on another processor, under the kit's emulator: clang compiles with this machine's headers, and the kit has the rest
-kit=$(dirname "$(dirname "$(rt doc)")")/on/$(uname -m)/toolchain
-across="--target=x86_64-linux-gnu -isystem /usr/include/$(uname -m)-linux-gnu"
-emulated() { # NAME
-    clang $across -std=c99 $strict -O2 -Iinclude -c "example/$1.c" -o "$room/$1.o" || return 1
-    "$kit/bin/ld.lld" -pie -dynamic-linker /lib64/ld-linux-x86-64.so.2 "$kit/lib/Scrt1.o" "$kit/lib/crti.o" "$kit/lib/crtbeginS.o" "$room/$1.o" \
-        target/staticlib/libombradiec.a "$kit/lib/libc.so.6" "$kit/lib/libc_nonshared.a" "$kit/lib/crtendS.o" "$kit/lib/crtn.o" -o "$room/$1.x86-64" || return 1
-    "$kit/bin/qemu-x86_64" "$kit/lib/ld-linux-x86-64.so.2" --library-path "$kit/lib" "$room/$1.x86-64" | cmp - "example/$1.out"
-}
-if [ "$(uname -m)" != x86_64 ]; then
-    for name in plan calls fields; do
-        if ! command -v clang >/dev/null || ! echo '#include <stdio.h>' | clang $across -x c -fsyntax-only - 2>/dev/null; then
-            pass_over "$name.c for x86-64, emulated" 'there is no clang here that compiles for it with the headers of this machine'
-        elif [ ! -x "$kit/bin/qemu-x86_64" ]; then
-            pass_over "$name.c for x86-64, emulated" 'the kit has no emulator here'
-        else
-            try "$name.c for x86-64, emulated" emulated "$name"
-        fi
-    done
 fi
 
 # ---- Rust

@@ -1,7 +1,7 @@
 /* Ombradiec: a presolver for quadratic 0/1 problems.
  *
- * Link target/staticlib/libombradiec.a, which `rt staticlib ombradiec` makes, into an x86-64 Linux program, or
- * target/native/libombradiec.a, which `tools/native ombradiec` makes, on another processor; docs/LINKING.md has the lines. Of
+ * Link crates/ombradiec/out/libombradiec.a, which `tools/archive` makes, into an x86-64 Linux program, or
+ * target/native/libombradiec.a, which `tools/native ombradiec` makes, into one for Arm; docs/LINKING.md has the lines. Of
  * the C library it needs memset and memcpy, and nothing else. ombradiec_field.h has the same calls with fewer arguments.
  *
  * A slice is a pointer and a length in elements. A slice that a call writes to overlaps no other slice of the call.

@@ -1,6 +1,5 @@
-"""The compiled program: found in target/, built with the kit where it is not there or older than its sources, and run on cases."""
+"""The compiled program: found in its crate's out/, built with the kit where it is not there or older than its sources, and run on cases."""
 import os
-import platform
 import shutil
 import subprocess
 import threading
@@ -11,15 +10,15 @@ from .stream import Answer
 
 ROOT = os.path.dirname(os.path.dirname(os.path.abspath(__file__)))
 NAME = "replay"
-PROGRAM = os.path.join(ROOT, "target", "bin", NAME)
+PROGRAM = os.path.join(ROOT, "crates", NAME, "out", NAME)
 
 
 def is_newer(folder, moment):
-    """Whether a file in the folder changed after the moment."""
+    """Whether a file in the folder changed after the moment, but for what rt makes in folders out/."""
     with os.scandir(folder) as items:
         for item in items:
             if item.is_dir(follow_symlinks=False):
-                if is_newer(item.path, moment):
+                if item.name != "out" and is_newer(item.path, moment):
                     return True
             elif item.stat(follow_symlinks=False).st_mtime > moment:
                 return True
@@ -43,16 +42,14 @@ def build():
 
 
 def command():
-    """The words that run the program under the kit's loader, and under its emulator on another processor; as in tools/run."""
+    """The words that run the program under the kit's loader, as in tools/run."""
     if shutil.which("rt") is None:
         raise Unusable("there is no rt here: it is the command of the Rattle kit, which README.md names, and makes the program")
     if not is_built():
         build()
     guide = subprocess.run(["rt", "doc"], capture_output=True, text=True, check=True).stdout.strip()
-    kit = os.path.join(os.path.dirname(os.path.dirname(guide)), "on", platform.machine(), "toolchain")
-    emulator = os.path.join(kit, "bin", "qemu-x86_64")
-    loader = [os.path.join(kit, "lib", "ld-linux-x86-64.so.2"), "--library-path", os.path.join(kit, "lib"), PROGRAM]
-    return [emulator] * os.access(emulator, os.X_OK) + loader
+    lib = os.path.join(os.path.dirname(guide), "toolchain", "lib")
+    return [os.path.join(lib, "ld-linux-x86-64.so.2"), "--library-path", lib, PROGRAM]
 
 
 def feed(pipe, cases):

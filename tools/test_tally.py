@@ -1,11 +1,11 @@
 #!/usr/bin/env python3
 """Holds `presolve tally` to the sum over the answers to the same fields alone, and to one answer for every cut of a pipe's reads.
 
-  test_tally.py [SEED [INPUTS [CUTS]]]      from the root, after `rt check presolve presolve_cases`
+  test_tally.py [SEED [INPUTS [CUTS]]]      from the root, after `rt ci`, or `rt run` of presolve and of presolve_cases
 
 It draws so many inputs of up to 40 fields each, among them refused, inexact, malformed and cut ones, and cuts one input at so many offsets, or at all of them.
 The fields are answered alone by presolve_cases, a thousand a run, and some of them by presolve too. Where BIN is set it is the folder of native programs to
-run, instead of those of target/bin under the kit's loader.
+run, instead of those of crates/NAME/out under the kit's loader.
 """
 import fcntl
 import functools
@@ -37,11 +37,9 @@ def FX(variable, value):
 def command(name):
     if "BIN" in os.environ:
         return [os.path.join(os.environ["BIN"], name)]
-    home = os.path.dirname(os.path.dirname(subprocess.run(["rt", "doc"], capture_output=True, text=True, check=True).stdout.strip()))
-    kit = os.path.join(home, "on", os.uname().machine, "toolchain")
-    emulator = os.path.join(kit, "bin", "qemu-x86_64")
-    loader = [os.path.join(kit, "lib", "ld-linux-x86-64.so.2"), "--library-path", os.path.join(kit, "lib")]
-    return ([emulator] if os.path.exists(emulator) else []) + loader + ["target/bin/" + name]
+    kit = os.path.dirname(subprocess.run(["rt", "doc"], capture_output=True, text=True, check=True).stdout.strip())
+    lib = os.path.join(kit, "toolchain", "lib")
+    return [os.path.join(lib, "ld-linux-x86-64.so.2"), "--library-path", lib, f"crates/{name}/out/{name}"]
 
 
 def answer(data, *words, program="presolve"):
