@@ -15,7 +15,7 @@ graded-grade-requires c =
     admitted_loose ((admitted_passes _ _ _ _).0 (sym c.admitted-checked.ensures ∙ c.in_default.is))
 
 pub work-found-requires : goal.work-found-requires
-work-found-requires c =     record { admitted = (admitted_passes _ _ _ _).0 (sym c.admitted-checked.ensures ∙ c.in_default.is); grade_value = c.graded-grade.ensures }
+work-found-requires c = record { admitted = (admitted_passes _ _ _ _).0 (sym c.admitted-checked.ensures ∙ c.in_default.is); grade_value = c.graded-grade.ensures }
 
 pub returns-then-list-found : goal.returns-then-list-found
 returns-then-list-found c =

@@ -8,7 +8,7 @@ use borrow.Author.Rules.{rules}
 use Rattle.answering.proofs.answer_field.Goals as goal
 
 pub write_refused-requires : goal.write_refused-requires
-write_refused-requires c =     record { number_bound = refusal_small c.in-Refuses.is (c.wide_word.ensures ∙ c.number.ensures); in_bounds = omega (arith, c.requires.enough.text) }
+write_refused-requires c = record { number_bound = refusal_small c.in-Refuses.is (c.wide_word.ensures ∙ c.number.ensures); in_bounds = omega (arith, c.requires.enough.text) }
 
 pub returns-in-Counts : goal.returns-in-Counts
 returns-in-Counts c =

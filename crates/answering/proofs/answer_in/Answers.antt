@@ -59,7 +59,7 @@ slice_bounds-answer_field-end-in-Field-11 c =
     )))
 
 pub answer_field-requires : goal.answer_field-requires
-answer_field-requires c =     record { fits = front_fits c.parse-parsed.ensures c.args.values.now c.in-Field.is c.requires.in_bounds; enough = c.requires.enough }
+answer_field-requires c = record { fits = front_fits c.parse-parsed.ensures c.args.values.now c.in-Field.is c.requires.in_bounds; enough = c.requires.enough }
 
 pub returns-else-end-bytes : goal.returns-else-end-bytes
 returns-else-end-bytes c = as_written (field_text_lem c.parse-parsed.ensures c.in-Field.is c.if-end-bytes.false) c.answer_field.ensures

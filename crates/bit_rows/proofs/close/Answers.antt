@@ -10,7 +10,7 @@ pub loop-k-init : goal.loop-k-init
 loop-k-init c = close_start _ _
 
 pub pass-requires : goal.pass-requires
-pass-requires c = let room = c.requires.room in let few = c.requires.few in let long = c.loop-k.invariant.held.long in      record { rows = record { room = omega arith; few = few }; k_lt_n = c.loop-k-test.true }
+pass-requires c = let room = c.requires.room in let few = c.requires.few in let long = c.loop-k.invariant.held.long in record { rows = record { room = omega arith; few = few }; k_lt_n = c.loop-k-test.true }
 
 pub loop-k-preserved : goal.loop-k-preserved
 loop-k-preserved c = close_turn c.requires.few c.loop-k-test.true c.loop-k.invariant c.pass.ensures

@@ -13,11 +13,11 @@ use borrow.Author.Rules.{rules}
 use Rattle.cold.proofs.probe_all.Goals as goal
 
 pub build-requires : goal.build-requires
-build-requires c =     let both = begin_places c.args.f.now c.args.u.now c.requires.ready in
+build-requires c = let both = begin_places c.args.f.now c.args.u.now c.requires.ready in
     record { ends_below = both.0; rows_in_bounds = both.1 }
 
 pub list_free-count-requires : goal.list_free-count-requires
-list_free-count-requires c =     let both = free_room c.requires.ready c.build.ensures.long in
+list_free-count-requires c = let both = free_room c.requires.ready c.build.ensures.long in
     record { start_len_bound = both.0; start_in_bounds = both.1 }
 
 pub settle-requires : goal.settle-requires

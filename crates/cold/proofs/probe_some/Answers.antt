@@ -13,7 +13,7 @@ use borrow.Author.Rules.{rules}
 use Rattle.cold.proofs.probe_some.Goals as goal
 
 pub build-requires : goal.build-requires
-build-requires c =     let both = begin_places c.args.f.now c.args.u.now c.requires.ready in
+build-requires c = let both = begin_places c.args.f.now c.args.u.now c.requires.ready in
     record { ends_below = both.0; rows_in_bounds = both.1 }
 
 pub choose-count-requires : goal.choose-count-requires

@@ -4,7 +4,7 @@ use borrow.Author.Rules.{rules}
 use Rattle.components.proofs.solve.Goals as goal
 
 pub begin-requires : goal.begin-requires
-begin-requires c =     record { shaped = c.requires.shaped; values_len = c.requires.values_long; q_in_bounds = c.requires.room }
+begin-requires c = record { shaped = c.requires.shaped; values_len = c.requires.values_long; q_in_bounds = c.requires.room }
 
 pub solve_all-requires : goal.solve_all-requires
 solve_all-requires c =

@@ -10,7 +10,7 @@ pub loop-start-init : goal.loop-start-init
 loop-start-init c = staging_start c.requires
 
 pub solve_start-requires : goal.solve_start-requires
-solve_start-requires c =     record { standing = c.loop-start.invariant.staged.standing; start_bound = c.loop-start-test.true }
+solve_start-requires c = record { standing = c.loop-start.invariant.staged.standing; start_bound = c.loop-start-test.true }
 
 pub loop-start-preserved : goal.loop-start-preserved
 loop-start-preserved c =

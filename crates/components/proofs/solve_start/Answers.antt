@@ -18,15 +18,18 @@ returns-then-u-base-ne2 c =
     stage_shut c.requires.standing c.requires.start_bound c.if-u-base-ne2.true
 
 pub walk-count-requires : goal.walk-count-requires
-walk-count-requires c =     record { placed = c.requires.standing.placed; start_bound = c.requires.start_bound }
+walk-count-requires c = record { placed = c.requires.standing.placed; start_bound = c.requires.start_bound }
 
 pub returns-then-count-gt10 : goal.returns-then-count-gt10
 returns-then-count-gt10 c =
     stage_large c.requires.standing c.requires.start_bound c.if-u-base-ne2.false c.walk-count.ensures c.if-count-gt10.true
 
 pub solve-requires : goal.solve-requires
-solve-requires c =     record { held = walk_held c.requires.standing c.requires.start_bound c.if-u-base-ne2.false c.walk-count.ensures; small = walk_small c.requires.standing c.requires.start_bound c.if-u-base-ne2.false
-          c.walk-count.ensures c.if-count-gt10.false }
+solve-requires c = record {
+  held = walk_held c.requires.standing c.requires.start_bound c.if-u-base-ne2.false c.walk-count.ensures;
+  small = walk_small c.requires.standing c.requires.start_bound c.if-u-base-ne2.false
+      c.walk-count.ensures c.if-count-gt10.false;
+}
 
 pub returns : goal.returns
 returns c =

@@ -6,7 +6,7 @@ use borrow.Author.Rules.{rules}
 use Rattle.components.proofs.work.Goals as goal
 
 pub build-requires : goal.build-requires
-build-requires c =     record { ends_below = ends_below c.requires.sound.shaped; rows_in_bounds = omega (arith, c.requires.words_room, c.requires.sound.shaped.rows_long) }
+build-requires c = record { ends_below = ends_below c.requires.sound.shaped; rows_in_bounds = omega (arith, c.requires.words_room, c.requires.sound.shaped.rows_long) }
 
 pub solve-requires : goal.solve-requires
 solve-requires c =

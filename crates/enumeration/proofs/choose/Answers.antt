@@ -7,16 +7,16 @@ use borrow.Author.Rules.{rules}
 use Rattle.enumeration.proofs.choose.Goals as goal
 
 pub list_linear-linear-requires : goal.list_linear-linear-requires
-list_linear-linear-requires c =     record { held = c.requires.held; small = c.requires.small; room = room_less c.requires.room (omega arith) }
+list_linear-linear-requires c = record { held = c.requires.held; small = c.requires.small; room = room_less c.requires.room (omega arith) }
 
 pub list_pairs-end-requires : goal.list_pairs-end-requires
-list_pairs-end-requires c =     record { placed = c.requires.held.placed; small = c.requires.small; room = room_after 100 c.list_linear-linear.ensures (linear_few _ _ _ _) c.requires.room (omega (arith, c.requires.small.few)) }
+list_pairs-end-requires c = record { placed = c.requires.held.placed; small = c.requires.small; room = room_after 100 c.list_linear-linear.ensures (linear_few _ _ _ _) c.requires.room (omega (arith, c.requires.small.few)) }
 
 pub bit-size-requires : goal.bit-size-requires
 bit-size-requires c = c.requires.small.few
 
 pub lowest-requires : goal.lowest-requires
-lowest-requires c =     record { room = all_fit _ _ _ _ _ c.requires.small.few c.requires.small.room refl c.requires.room c.list_linear-linear.ensures c.list_pairs-end.ensures; size_bound = size_most c.requires.small.few c.bit-size.ensures }
+lowest-requires c = record { room = all_fit _ _ _ _ _ c.requires.small.few c.requires.small.room refl c.requires.room c.list_linear-linear.ensures c.list_pairs-end.ensures; size_bound = size_most c.requires.small.few c.bit-size.ensures }
 
 pub shape_of-terms : goal.shape_of-terms
 shape_of-terms c = c.list_pairs-end.ensures.values_long ∙ c.list_linear-linear.ensures.values_long

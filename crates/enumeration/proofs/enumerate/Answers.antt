@@ -4,4 +4,4 @@ use borrow.Author.Rules.{rules}
 use Rattle.enumeration.proofs.enumerate.Goals as goal
 
 pub choose-requires : goal.choose-requires
-choose-requires c =     record { held = c.requires.held; small = c.requires.small; room = blank_room }
+choose-requires c = record { held = c.requires.held; small = c.requires.small; room = blank_room }

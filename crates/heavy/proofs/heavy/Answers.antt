@@ -10,7 +10,7 @@ pub graded-grade-requires : goal.graded-grade-requires
 graded-grade-requires c = ready_loose (tests_ready c.ready-checked.ensures c.in_default.is)
 
 pub work-requires : goal.work-requires
-work-requires c =     record { ready = tests_ready c.ready-checked.ensures c.in_default.is; grade_value = c.graded-grade.ensures }
+work-requires c = record { ready = tests_ready c.ready-checked.ensures c.in_default.is; grade_value = c.graded-grade.ensures }
 
 pub returns : goal.returns
 returns c =

@@ -5,7 +5,7 @@ use borrow.Author.Rules.{rules}
 use Rattle.heavy.proofs.round.Goals as goal
 
 pub work-requires : goal.work-requires
-work-requires c =     record { ready = c.requires.ready; adjacent = c.requires.adjacent }
+work-requires c = record { ready = c.requires.ready; adjacent = c.requires.adjacent }
 
 pub shape_of-values-then-count_free-eq0 : goal.shape_of-values-then-count_free-eq0
 shape_of-values-then-count_free-eq0 c = c.work.auto.values
@@ -21,7 +21,7 @@ returns-then-count_free-eq0 c =
     record { values = round_ends c.requires.ready c.work.ensures.values c.count_free.ensures c.if-count_free-eq0.true; adjacent = c.work.ensures.adjacent }
 
 pub probe_values-requires : goal.probe_values-requires
-probe_values-requires c =     record { ready = ready_probe c.requires.ready c.work.ensures.values c.work.auto.f c.work.auto.u; values_len = c.requires.probed_len; grade_value = c.requires.grade_value; adjacent = c.work.ensures.adjacent }
+probe_values-requires c = record { ready = ready_probe c.requires.ready c.work.ensures.values c.work.auto.f c.work.auto.u; values_len = c.requires.probed_len; grade_value = c.requires.grade_value; adjacent = c.work.ensures.adjacent }
 
 pub lay-requires : goal.lay-requires
 lay-requires c =

@@ -12,7 +12,7 @@ loop-k-init c =
     going_start c.requires.ready c.requires.adjacent c.requires.probed_len c.count_free-free.ensures
 
 pub round-requires : goal.round-requires
-round-requires c =     record { ready = c.loop-k.invariant.ready; probed_len = c.loop-k.invariant.working; grade_value = c.requires.grade_value; adjacent = c.loop-k.invariant.adjacent }
+round-requires c = record { ready = c.loop-k.invariant.ready; probed_len = c.loop-k.invariant.working; grade_value = c.requires.grade_value; adjacent = c.loop-k.invariant.adjacent }
 
 pub shape_of-values-then-still-eq0 : goal.shape_of-values-then-still-eq0
 shape_of-values-then-still-eq0 c =

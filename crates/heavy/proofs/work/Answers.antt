@@ -6,7 +6,7 @@ use borrow.Author.Rules.{rules}
 use Rattle.heavy.proofs.work.Goals as goal
 
 pub build-requires : goal.build-requires
-build-requires c =     let both = places_asked c.requires.ready in
+build-requires c = let both = places_asked c.requires.ready in
     record { ends_below = both.0; rows_in_bounds = both.1 }
 
 pub slice_bounds-probed-end : goal.slice_bounds-probed-end
@@ -16,7 +16,7 @@ pub slice_bounds-rounds-end : goal.slice_bounds-rounds-end
 slice_bounds-rounds-end c = front_long _ 4096 c.requires.ready.sound.shaped.few_variables
 
 pub rounds-requires : goal.rounds-requires
-rounds-requires c =     record { ready = ready_built c.requires.ready c.build.ensures.long; probed_len = sym (front_long _ 4096 c.requires.ready.sound.shaped.few_variables); grade_value = c.requires.grade_value; adjacent = c.build.ensures.adjacent }
+rounds-requires c = record { ready = ready_built c.requires.ready c.build.ensures.long; probed_len = sym (front_long _ 4096 c.requires.ready.sound.shaped.few_variables); grade_value = c.requires.grade_value; adjacent = c.build.ensures.adjacent }
 
 pub shape_of-u : goal.shape_of-u
 shape_of-u c =

@@ -6,10 +6,10 @@ use borrow.Author.Rules.{rules}
 use Rattle.no_effect.proofs.find.Goals as goal
 
 pub mark_ends-requires : goal.mark_ends-requires
-mark_ends-requires c =     record { ends_below = ends_below c.requires.shaped; n_in_bounds = c.requires.q_in_bounds }
+mark_ends-requires c = record { ends_below = ends_below c.requires.shaped; n_in_bounds = c.requires.q_in_bounds }
 
 pub put_all-requires : goal.put_all-requires
-put_all-requires c =     record { c_len_bound = c.requires.shaped.few_variables; c_in_bounds = search rules }
+put_all-requires c = record { c_len_bound = c.requires.shaped.few_variables; c_in_bounds = search rules }
 
 pub returns : goal.returns
 returns c =

@@ -8,4 +8,4 @@ pack_reasoned-requires c = let few = reason_few _ _ _ _ _ _ c.reason-answer.ensu
     record { answer_bound = few.count; answer_bound_2 = few.unit }
 
 pub returns : goal.returns
-returns c =     record { exported = record { answer = c.reason-answer.result; number = c.pack_reasoned.ensures; leaves = c.reason-answer.ensures }; bound_value = bound_is _ _ _ _ _ _ _ c.reason-answer.ensures c.bound_after.ensures }
+returns c = record { exported = record { answer = c.reason-answer.result; number = c.pack_reasoned.ensures; leaves = c.reason-answer.ensures }; bound_value = bound_is _ _ _ _ _ _ _ c.reason-answer.ensures c.bound_after.ensures }

@@ -6,7 +6,7 @@ use Rattle.packing.specs.Layout.{packed_mended, mended_entries, mended_changes}
 use Rattle.packing.proofs.pack_mended.Goals as goal
 
 pub pack_done-requires : goal.pack_done-requires
-pack_done-requires c =     record { count_bound = omega (arith, ap mended_entries c.in-Done.is); pairs_bound = omega (arith, ap mended_changes c.in-Done.is) }
+pack_done-requires c = record { count_bound = omega (arith, ap mended_entries c.in-Done.is); pairs_bound = omega (arith, ap mended_changes c.in-Done.is) }
 
 pub pack_refusal-requires : goal.pack_refusal-requires
 pack_refusal-requires c = omega (arith, ap mended_entries c.in-Refused.is)

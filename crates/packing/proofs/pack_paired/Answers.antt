@@ -6,7 +6,7 @@ use Rattle.packing.specs.Layout.{packed_paired, paired_count, pairs_examined}
 use Rattle.packing.proofs.pack_paired.Goals as goal
 
 pub pack_done-requires : goal.pack_done-requires
-pack_done-requires c =     record { count_bound = omega (arith, ap paired_count c.in-Done.is); pairs_bound = omega (arith, ap pairs_examined c.in-Done.is) }
+pack_done-requires c = record { count_bound = omega (arith, ap paired_count c.in-Done.is); pairs_bound = omega (arith, ap pairs_examined c.in-Done.is) }
 
 pub pack_refusal-requires : goal.pack_refusal-requires
 pack_refusal-requires c = omega (arith, ap paired_count c.in-Refused.is)

@@ -10,7 +10,7 @@ pub overflow_add-unit : goal.overflow_add-unit
 overflow_add-unit c = omega (arith, parts_few _ _ _ c.in-Because.is c.ground_number.ensures c.requires.answer_bound_2)
 
 pub pack_done-requires : goal.pack_done-requires
-pack_done-requires c =     record { count_bound = omega (arith, ap reasoned_count c.in-Because.is); pairs_bound = parts_few _ _ _ c.in-Because.is c.ground_number.ensures c.requires.answer_bound_2 }
+pack_done-requires c = record { count_bound = omega (arith, ap reasoned_count c.in-Because.is); pairs_bound = parts_few _ _ _ c.in-Because.is c.ground_number.ensures c.requires.answer_bound_2 }
 
 pub pack_refusal-requires : goal.pack_refusal-requires
 pack_refusal-requires c = omega (arith, ap reasoned_count c.in-Refuses.is)

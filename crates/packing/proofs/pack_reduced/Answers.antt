@@ -6,7 +6,7 @@ use Rattle.packing.specs.Layout.{packed_reduced, new_entries, new_variables}
 use Rattle.packing.proofs.pack_reduced.Goals as goal
 
 pub pack_done-requires : goal.pack_done-requires
-pack_done-requires c =     record { count_bound = omega (arith, ap new_entries c.in-Done.is); pairs_bound = omega (arith, ap new_variables c.in-Done.is) }
+pack_done-requires c = record { count_bound = omega (arith, ap new_entries c.in-Done.is); pairs_bound = omega (arith, ap new_variables c.in-Done.is) }
 
 pub pack_refusal-requires : goal.pack_refusal-requires
 pack_refusal-requires c = omega (arith, ap new_entries c.in-Refused.is)

@@ -14,13 +14,13 @@ pub slice_bounds-clear_words-end-2 : goal.slice_bounds-clear_words-end-2
 slice_bounds-clear_words-end-2 c = sym (length-take-le _ c.args.u.now (omega (arith, c.requires.rows_in_bounds)))
 
 pub count-requires : goal.count-requires
-count-requires c =     record { ends_below = c.requires.ends_below; n_in_bounds = omega (arith, c.requires.rows_in_bounds, (zeroed_front c.args.n c.args.u.now c.clear_words.new.words (omega (arith, c.requires.rows_in_bounds)) c.clear_words.ensures).long); begins = (zeroed_front c.args.n c.args.u.now c.clear_words.new.words (omega (arith, c.requires.rows_in_bounds)) c.clear_words.ensures).zeros }
+count-requires c = record { ends_below = c.requires.ends_below; n_in_bounds = omega (arith, c.requires.rows_in_bounds, (zeroed_front c.args.n c.args.u.now c.clear_words.new.words (omega (arith, c.requires.rows_in_bounds)) c.clear_words.ensures).long); begins = (zeroed_front c.args.n c.args.u.now c.clear_words.new.words (omega (arith, c.requires.rows_in_bounds)) c.clear_words.ensures).zeros }
 
 pub sums-requires : goal.sums-requires
-sums-requires c =     record { n_in_bounds = omega (arith, c.requires.rows_in_bounds, c.count.auto.u, (zeroed_front c.args.n c.args.u.now c.clear_words.new.words (omega (arith, c.requires.rows_in_bounds)) c.clear_words.ensures).long); n_bound = sums_small c.requires.ends_below c.count.new.u c.count.ensures.begins_2 }
+sums-requires c = record { n_in_bounds = omega (arith, c.requires.rows_in_bounds, c.count.auto.u, (zeroed_front c.args.n c.args.u.now c.clear_words.new.words (omega (arith, c.requires.rows_in_bounds)) c.clear_words.ensures).long); n_bound = sums_small c.requires.ends_below c.count.new.u c.count.ensures.begins_2 }
 
 pub place-requires : goal.place-requires
-place-requires c =     record { ends_below = c.requires.ends_below; rows_in_bounds = omega (arith, c.requires.rows_in_bounds, c.sums.auto.u, c.count.auto.u, (zeroed_front c.args.n c.args.u.now c.clear_words.new.words (omega (arith, c.requires.rows_in_bounds)) c.clear_words.ensures).long); begins = ends_stand c.requires.ends_below c.count.new.u c.count.ensures.begins_2 c.sums.new.u c.sums.ensures.begins; n_value = last_stands c.requires.ends_below c.count.new.u c.count.ensures.begins_2 c.sums.ensures.n_value }
+place-requires c = record { ends_below = c.requires.ends_below; rows_in_bounds = omega (arith, c.requires.rows_in_bounds, c.sums.auto.u, c.count.auto.u, (zeroed_front c.args.n c.args.u.now c.clear_words.new.words (omega (arith, c.requires.rows_in_bounds)) c.clear_words.ensures).long); begins = ends_stand c.requires.ends_below c.count.new.u c.count.ensures.begins_2 c.sums.new.u c.sums.ensures.begins; n_value = last_stands c.requires.ends_below c.count.new.u c.count.ensures.begins_2 c.sums.ensures.n_value }
 
 pub shape_of-u : goal.shape_of-u
 shape_of-u c =

@@ -12,11 +12,11 @@ pub graded-grade-requires : goal.graded-grade-requires
 graded-grade-requires c = ready_loose (tests_ready c.ready-checked.ensures c.in_default.is)
 
 pub build-requires : goal.build-requires
-build-requires c =     let both = places_asked (tests_ready c.ready-checked.ensures c.in_default.is) in
+build-requires c = let both = places_asked (tests_ready c.ready-checked.ensures c.in_default.is) in
     record { ends_below = both.0; rows_in_bounds = both.1 }
 
 pub work-requires : goal.work-requires
-work-requires c =     record { ready = ready_built (tests_ready c.ready-checked.ensures c.in_default.is) c.build.ensures.long; adjacent = c.build.ensures.adjacent }
+work-requires c = record { ready = ready_built (tests_ready c.ready-checked.ensures c.in_default.is) c.build.ensures.long; adjacent = c.build.ensures.adjacent }
 
 pub returns : goal.returns
 returns c =

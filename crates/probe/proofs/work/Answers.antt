@@ -6,7 +6,7 @@ use borrow.Author.Rules.{rules}
 use Rattle.probe.proofs.work.Goals as goal
 
 pub assume-requires : goal.assume-requires
-assume-requires c =     record { values_len = c.requires.values_len ∙ sym c.requires.probable.ready.sound.start.long; variable_in_bounds = omega (arith, c.requires.probable.below, c.requires.probable.ready.sound.start.long) }
+assume-requires c = record { values_len = c.requires.values_len ∙ sym c.requires.probable.ready.sound.start.long; variable_in_bounds = omega (arith, c.requires.probable.below, c.requires.probable.ready.sound.start.long) }
 
 pub close-requires : goal.close-requires
 close-requires c =

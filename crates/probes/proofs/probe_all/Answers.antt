@@ -10,12 +10,15 @@ use borrow.Author.Rules.{rules}
 use Rattle.probes.proofs.probe_all.Goals as goal
 
 pub list_free-count-requires : goal.list_free-count-requires
-list_free-count-requires c =     let both = free_room c.requires.ready c.prepare-known.auto.u in
+list_free-count-requires c = let both = free_room c.requires.ready c.prepare-known.auto.u in
     record { start_len_bound = both.0; start_in_bounds = both.1 }
 
 pub settle-requires : goal.settle-requires
-settle-requires c =     record { standing = free_standing c.requires.ready c.list_free-count.ensures {f = c.prepare-known.new.f}
-          c.prepare-known.ensures.remembers c.prepare-known.auto.u; values_value = c.prepare-known.ensures.values_value }
+settle-requires c = record {
+  standing = free_standing c.requires.ready c.list_free-count.ensures {f = c.prepare-known.new.f}
+      c.prepare-known.ensures.remembers c.prepare-known.auto.u;
+  values_value = c.prepare-known.ensures.values_value;
+}
 
 pub returns : goal.returns
 returns c =

@@ -21,7 +21,7 @@ graded-grade-requires c =
     sound_loose ((probe_passes _ _ _ _ _ _).0 (sym c.ready_to_probe-checked.ensures ∙ c.in_default.is)).ready.sound
 
 pub work-requires : goal.work-requires
-work-requires c =     record { probable = (probe_passes _ _ _ _ _ _).0 (sym c.ready_to_probe-checked.ensures ∙ c.in_default.is); values_len = c.if-values-c.false }
+work-requires c = record { probable = (probe_passes _ _ _ _ _ _).0 (sym c.ready_to_probe-checked.ensures ∙ c.in_default.is); values_len = c.if-values-c.false }
 
 pub keep_new-requires : goal.keep_new-requires
 keep_new-requires c =

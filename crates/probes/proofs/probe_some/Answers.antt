@@ -20,8 +20,11 @@ settle-requires c =
     let F = field_of a.c.now a.rows.now a.cols.now a.q.now in
     let p = c.prepare-known in
     let h = c.choose-count in
-    record { standing = chosen_standing F a.start.now a.candidates p.new.f h.new.f
-          p.new.u h.new.u h.ensures c.requires.ready p.ensures.remembers p.auto.u; values_value = p.ensures.values_value }
+    record {
+      standing = chosen_standing F a.start.now a.candidates p.new.f h.new.f
+          p.new.u h.new.u h.ensures c.requires.ready p.ensures.remembers p.auto.u;
+      values_value = p.ensures.values_value;
+    }
 
 pub returns : goal.returns
 returns c =

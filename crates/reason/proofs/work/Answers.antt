@@ -10,7 +10,7 @@ pub returns-then-unit-eq41 : goal.returns-then-unit-eq41
 returns-then-unit-eq41 c = inexact_told c.requires c.least_unit-unit.ensures _ _ c.if-unit-eq41.true
 
 pub answer-requires : goal.answer-requires
-answer-requires c =     record { ready = c.requires; exact_in = (work_exact c.requires c.least_unit-unit.ensures c.if-unit-eq41.false).exact }
+answer-requires c = record { ready = c.requires; exact_in = (work_exact c.requires c.least_unit-unit.ensures c.if-unit-eq41.false).exact }
 
 pub returns : goal.returns
 returns c = exact_told c.requires c.least_unit-unit.ensures _ _ c.if-unit-eq41.false c.answer.ensures

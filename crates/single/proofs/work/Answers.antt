@@ -6,7 +6,7 @@ use borrow.Author.Rules.{rules}
 use Rattle.single.proofs.work.Goals as goal
 
 pub run_on-requires : goal.run_on-requires
-run_on-requires c =     let both = runs_on _ _ _ _ _ _ _ _ c.requires.probable c.assume.ensures c.make.ensures in
+run_on-requires c = let both = runs_on _ _ _ _ _ _ _ _ c.requires.probable c.assume.ensures c.make.ensures in
     record { closable = both.0; filled = both.1 }
 
 pub returns : goal.returns

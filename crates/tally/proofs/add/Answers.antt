@@ -7,13 +7,13 @@ use borrow.Author.Rules.{rules}
 use Rattle.tally.proofs.add.Goals as goal
 
 pub plus-sum-requires : goal.plus-sum-requires
-plus-sum-requires c =     record { small = c.requires.small; small_2 = small_counts c.requires.small_met c.in-Field.is }
+plus-sum-requires c = record { small = c.requires.small; small_2 = small_counts c.requires.small_met c.in-Field.is }
 
 pub returns-then-is_within : goal.returns-then-is_within
 returns-then-is_within c = added_on _ _ c.in-Field.is c.plus-sum.ensures c.is_within.ensures c.if-is_within.true
 
 pub plus-sum-requires-in-Malformed : goal.plus-sum-requires-in-Malformed
-plus-sum-requires-in-Malformed c =     record { small = c.requires.small; small_2 = subst Small (sym c.refused_field.ensures) small_fault }
+plus-sum-requires-in-Malformed c = record { small = c.requires.small; small_2 = subst Small (sym c.refused_field.ensures) small_fault }
 
 pub returns-then-is_within-2 : goal.returns-then-is_within-2
 returns-then-is_within-2 c = fault_on _ _ c.in-Malformed.is c.refused_field.ensures c.plus-sum-in-Malformed.ensures c.is_within-in-Malformed.ensures c.if-is_within-2.true

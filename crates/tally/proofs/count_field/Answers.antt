@@ -10,7 +10,7 @@ pub put_bytes-requires : goal.put_bytes-requires
 put_bytes-requires c = omega (arith, c.requires.start_long, c.requires.values_long)
 
 pub read_field-requires : goal.read_field-requires
-read_field-requires c =     record { values_len = omega (arith, c.requires.start_long, c.requires.values_long, c.put_bytes.auto.out, c.closure-answer.auto); start_len_bound = omega (arith, c.requires.start_long, c.requires.few_variables) }
+read_field-requires c = record { values_len = omega (arith, c.requires.start_long, c.requires.values_long, c.put_bytes.auto.out, c.closure-answer.auto); start_len_bound = omega (arith, c.requires.start_long, c.requires.few_variables) }
 
 pub returns-in-Counts : goal.returns-in-Counts
 returns-in-Counts c = counts_read _ _ (done_is _ _ _ c.requires.floats c.requires.words (copied c.put_bytes.ensures (omega (arith, c.requires.start_long, c.requires.values_long))) c.closure-answer.ensures c.in-Counts.is) c.read_field.ensures

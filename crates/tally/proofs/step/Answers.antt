@@ -7,10 +7,10 @@ use borrow.Author.Rules.{rules}
 use Rattle.tally.proofs.step.Goals as goal
 
 pub meet-found-requires : goal.meet-found-requires
-meet-found-requires c =     record { room = c.requires.room; few = c.requires.few }
+meet-found-requires c = record { room = c.requires.room; few = c.requires.few }
 
 pub add-requires : goal.add-requires
-add-requires c =     record { small = c.requires.small; small_met = subst SmallMet (sym c.meet-found.ensures) (met_small _) }
+add-requires c = record { small = c.requires.small; small_met = subst SmallMet (sym c.meet-found.ensures) (met_small _) }
 
 pub returns : goal.returns
 unfolding stepped

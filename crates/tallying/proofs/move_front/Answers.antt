@@ -25,5 +25,5 @@ pub shape_of-buffer : goal.shape_of-buffer
 shape_of-buffer c = c.loop-i.invariant.long
 
 pub returns : goal.returns
-returns c =     let both = moving_done c.loop-i.invariant c.loop-i-test.false in
+returns c = let both = moving_done c.loop-i.invariant c.loop-i-test.false in
     record { value = both.0; buffer_value = both.1 }

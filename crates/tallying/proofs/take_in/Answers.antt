@@ -8,11 +8,10 @@ use borrow.Author.Rules.{rules}
 use Rattle.tallying.proofs.take_in.Goals as goal
 
 pub loop-c-init : goal.loop-c-init
-loop-c-init c =
-    (
-      taking_start c.args.last c.args.most c.args.t c.args.bytes.now (λ i. omega (arith, c.shared_slice_known-1.given i)) c.requires.small,
-      record { linear_long = refl; rows_long = refl; cols_long = refl; quad_long = refl; start_long = refl; values_long = refl; floats_long = refl; words_long = refl },
-    )
+loop-c-init c = (
+  taking_start c.args.last c.args.most c.args.t c.args.bytes.now (λ i. omega (arith, c.shared_slice_known-1.given i)) c.requires.small,
+  record { linear_long = refl; rows_long = refl; cols_long = refl; quad_long = refl; start_long = refl; values_long = refl; floats_long = refl; words_long = refl },
+)
 
 pub overflow_sub-bytes : goal.overflow_sub-bytes
 overflow_sub-bytes c = c.loop-c.invariant.0.inside
@@ -21,7 +20,7 @@ pub slice_bounds-step-count : goal.slice_bounds-step-count
 slice_bounds-step-count c = c.loop-c.invariant.0.inside
 
 pub step-stepped-requires : goal.step-stepped-requires
-step-stepped-requires c =     record { room = long_room c.loop-c.invariant.1 c.requires.room; few = long_few c.loop-c.invariant.1 c.requires.few; small = c.loop-c.invariant.0.small }
+step-stepped-requires c = record { room = long_room c.loop-c.invariant.1 c.requires.room; few = long_few c.loop-c.invariant.1 c.requires.few; small = c.loop-c.invariant.0.small }
 
 pub overflow_add-at : goal.overflow_add-at
 overflow_add-at c =

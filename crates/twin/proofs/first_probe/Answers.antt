@@ -6,7 +6,7 @@ use Rattle.twin.proofs.Halfway.{probe_asks, from_start, keep_asks, lay_asks, lai
 use Rattle.twin.proofs.first_probe.Goals as goal
 
 pub probe-forced-requires : goal.probe-forced-requires
-probe-forced-requires c =     let both = probe_asks
+probe-forced-requires c = let both = probe_asks
     c.requires.values_value
     c.requires.twinnable.remembers
     _
@@ -16,7 +16,7 @@ probe-forced-requires c =     let both = probe_asks
     record { remembers = both.0; variable_value = both.1.0; value_bound = both.1.1 }
 
 pub keep-requires : goal.keep-requires
-keep-requires c =     let both = keep_asks
+keep-requires c = let both = keep_asks
     c.requires.twinnable
     (from_start
     c.requires.values_value
@@ -74,24 +74,29 @@ shape_of-u c =
     c.lay.ensures).long
 
 pub returns : goal.returns
-returns c =     record { values_value_2 = c.restore.ensures.values_value; f_value = half_floats
-        c.requires.twinnable
-        (from_start
-        c.requires.values_value
-        c.probe-forced.ensures)
-        c.keep.ensures
-        c.lay.ensures
-        c.restore.ensures.filled; halfway = half_done
-          c.requires.twinnable
-          (from_start
-          c.requires.values_value
-          c.probe-forced.ensures)
-          c.keep.ensures
-          c.lay.ensures
-          c.restore.ensures.filled; beside = half_beside
-          c.requires.twinnable
-          (from_start
-          c.requires.values_value
-          c.probe-forced.ensures)
-          c.keep.ensures
-          c.lay.ensures }
+returns c = record {
+  values_value_2 = c.restore.ensures.values_value;
+  f_value = half_floats
+      c.requires.twinnable
+      (from_start
+      c.requires.values_value
+      c.probe-forced.ensures)
+      c.keep.ensures
+      c.lay.ensures
+      c.restore.ensures.filled;
+  halfway = half_done
+      c.requires.twinnable
+      (from_start
+      c.requires.values_value
+      c.probe-forced.ensures)
+      c.keep.ensures
+      c.lay.ensures
+      c.restore.ensures.filled;
+  beside = half_beside
+      c.requires.twinnable
+      (from_start
+      c.requires.values_value
+      c.probe-forced.ensures)
+      c.keep.ensures
+      c.lay.ensures;
+}

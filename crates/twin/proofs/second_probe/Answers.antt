@@ -7,7 +7,7 @@ use Rattle.twin.proofs.Twinned.{emit_asks, emit_asks_2, emitted_touched, emitted
 use Rattle.twin.proofs.second_probe.Goals as goal
 
 pub probe-again-requires : goal.probe-again-requires
-probe-again-requires c =     let both = probe_asks
+probe-again-requires c = let both = probe_asks
     c.requires.values_value
     c.requires.halfway.remembers
     _
@@ -93,21 +93,25 @@ shape_of-u c =
     c.emit_list-last.ensures
 
 pub returns : goal.returns
-returns c =     record { values_value_2 = c.restore.ensures.values_value; f_value = second_floats
-        c.requires.halfway
-        c.requires.end_for
-        (from_start
-        c.requires.values_value
-        c.probe-again.ensures)
-        c.emit_list-both.ensures
-        c.emit_list-last.ensures
-        c.restore.ensures.filled; twinned = second_done
-        c.requires.halfway
-        c.requires.end_for
-        (from_start
-        c.requires.values_value
-        c.probe-again.ensures)
-        c.emit_list-both.ensures
-        c.emit_list-last.ensures
-        c.restore.ensures.filled
-        c.lay.ensures }
+returns c = record {
+  values_value_2 = c.restore.ensures.values_value;
+  f_value = second_floats
+      c.requires.halfway
+      c.requires.end_for
+      (from_start
+      c.requires.values_value
+      c.probe-again.ensures)
+      c.emit_list-both.ensures
+      c.emit_list-last.ensures
+      c.restore.ensures.filled;
+  twinned = second_done
+      c.requires.halfway
+      c.requires.end_for
+      (from_start
+      c.requires.values_value
+      c.probe-again.ensures)
+      c.emit_list-both.ensures
+      c.emit_list-last.ensures
+      c.restore.ensures.filled
+      c.lay.ensures;
+}

@@ -4,14 +4,18 @@ use mathlib.Core.Path.{◌∙◌}
 use Rattle.twin.proofs.twin.Goals as goal
 
 pub first_probe-forced-requires : goal.first_probe-forced-requires
-first_probe-forced-requires c =     record { twinnable = c.requires.twinnable; values_value = c.requires.values_value }
+first_probe-forced-requires c = record { twinnable = c.requires.twinnable; values_value = c.requires.values_value }
 
 pub second_probe-requires : goal.second_probe-requires
-second_probe-requires c =     record { halfway = half_again
+second_probe-requires c = record {
+  halfway = half_again
       c.first_probe-forced.ensures.f_value
-      c.first_probe-forced.ensures.halfway; end_for = end_beside
-        c.requires.end_for
-        c.first_probe-forced.ensures.beside; values_value = c.first_probe-forced.ensures.values_value_2 }
+      c.first_probe-forced.ensures.halfway;
+  end_for = end_beside
+      c.requires.end_for
+      c.first_probe-forced.ensures.beside;
+  values_value = c.first_probe-forced.ensures.values_value_2;
+}
 
 pub shape_of-values : goal.shape_of-values
 shape_of-values c =
@@ -29,8 +33,12 @@ shape_of-u c =
     ∙ c.first_probe-forced.auto.u
 
 pub returns : goal.returns
-returns c =     record { values_value_2 = c.second_probe.ensures.values_value_2; f_value = c.second_probe.ensures.f_value
-        ∙ c.first_probe-forced.ensures.f_value; twinned = twin_done
-        c.first_probe-forced.ensures.f_value
-        c.first_probe-forced.ensures.beside
-        c.second_probe.ensures.twinned }
+returns c = record {
+  values_value_2 = c.second_probe.ensures.values_value_2;
+  f_value = c.second_probe.ensures.f_value
+      ∙ c.first_probe-forced.ensures.f_value;
+  twinned = twin_done
+      c.first_probe-forced.ensures.f_value
+      c.first_probe-forced.ensures.beside
+      c.second_probe.ensures.twinned;
+}

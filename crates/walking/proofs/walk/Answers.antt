@@ -14,7 +14,7 @@ pub end_after-next-requires : goal.end_after-next-requires
 end_after-next-requires c = going_end c.loop-h.invariant.going
 
 pub make_room-merged-requires : goal.make_room-merged-requires
-make_room-merged-requires c =     let both = going_asks c.loop-h.invariant.going in
+make_room-merged-requires c = let both = going_asks c.loop-h.invariant.going in
     record { held = both.0; keys = both.1 }
 
 pub shape_of-values-in-Full : goal.shape_of-values-in-Full
@@ -35,13 +35,16 @@ pub shape_of-u-in-Full : goal.shape_of-u-in-Full
 shape_of-u-in-Full c = c.make_room-merged.auto.u ∙ c.loop-h.invariant.going.words_long
 
 pub returns-in-Full : goal.returns-in-Full
-returns-in-Full c =     record { values_value_2 = c.loop-h.invariant.same; walked = walking_full
+returns-in-Full c = record {
+  values_value_2 = c.loop-h.invariant.same;
+  walked = walking_full
       c.loop-h.invariant
       c.make_room-merged.ensures
-      c.in-Full.is }
+      c.in-Full.is;
+}
 
 pub twin-end-requires : goal.twin-end-requires
-twin-end-requires c =     let both = walking_twin
+twin-end-requires c = let both = walking_twin
     c.loop-h.invariant
     c.make_room-merged.ensures
     c.loop-h-test.true
@@ -75,7 +78,7 @@ loop-h-preserved c =
     c.twin-end.ensures.twinned
 
 pub flush-requires : goal.flush-requires
-flush-requires c =     let both = going_asks c.loop-h.invariant.going in
+flush-requires c = let both = going_asks c.loop-h.invariant.going in
     record { held = both.0; keys = both.1 }
 
 pub shape_of-values : goal.shape_of-values
@@ -96,7 +99,10 @@ pub shape_of-u : goal.shape_of-u
 shape_of-u c = c.flush.auto.u ∙ c.loop-h.invariant.going.words_long
 
 pub returns : goal.returns
-returns c =     record { values_value_2 = c.loop-h.invariant.same; walked = walking_done
+returns c = record {
+  values_value_2 = c.loop-h.invariant.same;
+  walked = walking_done
       c.loop-h.invariant
       c.loop-h-test.false
-      c.flush.ensures }
+      c.flush.ensures;
+}

@@ -11,7 +11,7 @@ pub loop-h-init : goal.loop-h-init
 loop-h-init c = valuing_start c.requires.walkable c.requires.values_value
 
 pub twin-requires : goal.twin-requires
-twin-requires c =     let both = valuing_twin c.loop-h.invariant c.loop-h-test.true c.wide_word-candidate.ensures in
+twin-requires c = let both = valuing_twin c.loop-h.invariant c.loop-h-test.true c.wide_word-candidate.ensures in
     record { twinnable = both.0; end_for = both.1.0; values_value = both.1.1 }
 
 pub overflow_step-h : goal.overflow_step-h

@@ -35,12 +35,16 @@ pub returns-then-start-i-ne2 : goal.returns-then-start-i-ne2
 returns-then-start-i-ne2 c = turning_fixed c.loop-h.invariant.0 c.loop-h-test.true c.wide_word-i.ensures c.if-start-i-ne2.true
 
 pub is_balanced-requires : goal.is_balanced-requires
-is_balanced-requires c =     record { walkable = member_walkable c.requires.members
-      c.loop-h.h c.loop-h-test.true c.wide_word-i.ensures; q_in_bounds = omega (
-      arith,
-      c.requires.q_in_bounds,
-      c.loop-h.invariant.1,
-    ); grade_value = c.requires.grade_value }
+is_balanced-requires c = record {
+  walkable = member_walkable c.requires.members
+      c.loop-h.h c.loop-h-test.true c.wide_word-i.ensures;
+  q_in_bounds = omega (
+    arith,
+    c.requires.q_in_bounds,
+    c.loop-h.invariant.1,
+  );
+  grade_value = c.requires.grade_value;
+}
 
 pub shape_of-f-then-not-is_balanced : goal.shape_of-f-then-not-is_balanced
 shape_of-f-then-not-is_balanced c = c.is_balanced.auto.f ∙ c.loop-h.invariant.1

@@ -10,7 +10,7 @@ pub loop-i-init : goal.loop-i-init
 loop-i-init c = search_start _ c.requires.standing c.requires.u_value
 
 pub visit-found-requires : goal.visit-found-requires
-visit-found-requires c =     record { standing = c.loop-i.invariant.standing; i_bound = c.loop-i-test.true; found_le_i = c.loop-i.invariant.few; grade_value = c.requires.grade_value }
+visit-found-requires c = record { standing = c.loop-i.invariant.standing; i_bound = c.loop-i-test.true; found_le_i = c.loop-i.invariant.few; grade_value = c.requires.grade_value }
 
 pub loop-i-smaller : goal.loop-i-smaller
 loop-i-smaller c = omega (arith, c.loop-i-test.true)

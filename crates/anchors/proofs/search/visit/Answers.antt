@@ -25,7 +25,7 @@ returns-then-u-n-ne2 c =
     c.requires.i_bound _ c.if-u-n-ne2.true
 
 pub walk-count-requires : goal.walk-count-requires
-walk-count-requires c =     record { placed = c.requires.standing.placed; start_bound = c.requires.i_bound }
+walk-count-requires c = record { placed = c.requires.standing.placed; start_bound = c.requires.i_bound }
 
 pub shape_of-u-then-count-least : goal.shape_of-u-then-count-least
 shape_of-u-then-count-least c = c.walk-count.auto.u
@@ -37,7 +37,7 @@ returns-then-count-least c =
     c.if-u-n-ne2.false c.walk-count.ensures c.if-count-least.true
 
 pub all_turnable-requires : goal.all_turnable-requires
-all_turnable-requires c =     record { members = walked_members c.requires.standing.placed c.requires.i_bound c.if-u-n-ne2.false c.walk-count.ensures; start_len = c.requires.standing.start_long; q_in_bounds = c.requires.standing.floats_room; grade_value = c.requires.grade_value }
+all_turnable-requires c = record { members = walked_members c.requires.standing.placed c.requires.i_bound c.if-u-n-ne2.false c.walk-count.ensures; start_len = c.requires.standing.start_long; q_in_bounds = c.requires.standing.floats_room; grade_value = c.requires.grade_value }
 
 pub shape_of-f-then-not-all_turnable : goal.shape_of-f-then-not-all_turnable
 shape_of-f-then-not-all_turnable c = c.all_turnable.auto.f
@@ -55,11 +55,14 @@ returns-then-not-all_turnable c =
     c.all_turnable.ensures c.if-not-all_turnable.true
 
 pub find_leader-anchor-requires : goal.find_leader-anchor-requires
-find_leader-anchor-requires c =     record { members = walked_members
+find_leader-anchor-requires c = record {
+  members = walked_members
       c.requires.standing.placed
       c.requires.i_bound
       c.if-u-n-ne2.false
-      c.walk-count.ensures; first_bound = c.requires.i_bound }
+      c.walk-count.ensures;
+  first_bound = c.requires.i_bound;
+}
 
 pub overflow_cast-anchor : goal.overflow_cast-anchor
 overflow_cast-anchor c =

@@ -46,12 +46,16 @@ pub bounds-u-n : goal.bounds-u-n
 bounds-u-n c = (walk_turn c.loop-p.invariant.along.walk c.loop-p-test.true).index
 
 pub balance_at-sum-requires : goal.balance_at-sum-requires
-balance_at-sum-requires c =     record { shaped = c.requires.walkable.shaped; k_bound = omega (
-      arith,
-      c.entry_in-k.ensures,
-      (walk_turn c.loop-p.invariant.along.walk c.loop-p-test.true).word.entry,
-      c.requires.walkable.shaped.rows_long,
-    ); sum_in_bounds = balance_room c.loop-p.invariant c.loop-p-test.true }
+balance_at-sum-requires c = record {
+  shaped = c.requires.walkable.shaped;
+  k_bound = omega (
+    arith,
+    c.entry_in-k.ensures,
+    (walk_turn c.loop-p.invariant.along.walk c.loop-p-test.true).word.entry,
+    c.requires.walkable.shaped.rows_long,
+  );
+  sum_in_bounds = balance_room c.loop-p.invariant c.loop-p-test.true;
+}
 
 pub loop-p-smaller : goal.loop-p-smaller
 loop-p-smaller c = omega (arith, c.loop-p-test.true)

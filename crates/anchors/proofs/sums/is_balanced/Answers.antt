@@ -10,7 +10,7 @@ pub returns-in-Exact : goal.returns-in-Exact
 returns-in-Exact c = exact_tells c.requires.walkable.shaped c.requires.walkable.below c.requires.grade_value c.in-Exact.is c.plain_sum.ensures
 
 pub comes_to_zero-requires : goal.comes_to_zero-requires
-comes_to_zero-requires c =     record { walkable = c.requires.walkable; q_in_bounds = c.requires.q_in_bounds }
+comes_to_zero-requires c = record { walkable = c.requires.walkable; q_in_bounds = c.requires.q_in_bounds }
 
 pub returns : goal.returns
 returns c = c.comes_to_zero.ensures

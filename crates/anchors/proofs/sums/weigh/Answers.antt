@@ -30,12 +30,15 @@ pub bounds-u-n : goal.bounds-u-n
 bounds-u-n c = (walk_turn c.loop-p.invariant.along.walk c.loop-p-test.true).index
 
 pub weigh_at-weight-requires : goal.weigh_at-weight-requires
-weigh_at-weight-requires c =     record { shaped = c.requires.shaped; k_bound = omega (
+weigh_at-weight-requires c = record {
+  shaped = c.requires.shaped;
+  k_bound = omega (
     arith,
     c.entry_in-k.ensures,
     (walk_turn c.loop-p.invariant.along.walk c.loop-p-test.true).word.entry,
     c.requires.shaped.rows_long,
-  ) }
+  );
+}
 
 pub loop-p-smaller : goal.loop-p-smaller
 loop-p-smaller c = omega (arith, c.loop-p-test.true)

@@ -9,7 +9,7 @@ pub set_none-requires : goal.set_none-requires
 set_none-requires c = omega (arith, space_enough c.requires.ready)
 
 pub walk-requires : goal.walk-requires
-walk-requires c =     let both = lined_walks c.requires c.set_none.ensures in
+walk-requires c = let both = lined_walks c.requires c.set_none.ensures in
     record { afresh = both.0; begins = both.1 }
 
 pub returns : goal.returns

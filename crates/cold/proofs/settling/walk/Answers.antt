@@ -14,7 +14,7 @@ pub end_after-next-requires : goal.end_after-next-requires
 end_after-next-requires c = going_end c.loop-h.invariant.going
 
 pub make_room-merged-requires : goal.make_room-merged-requires
-make_room-merged-requires c =     let both = going_asks c.loop-h.invariant.going in
+make_room-merged-requires c = let both = going_asks c.loop-h.invariant.going in
     record { held = both.0; keys = both.1 }
 
 pub shape_of-values-in-Full : goal.shape_of-values-in-Full
@@ -36,7 +36,7 @@ returns-in-Full c =
     walking_full c.loop-h.invariant c.make_room-merged.ensures c.in-Full.is
 
 pub both-end-requires : goal.both-end-requires
-both-end-requires c =     let both = walking_both c.loop-h.invariant c.make_room-merged.ensures c.loop-h-test.true c.in_default.is
+both-end-requires c = let both = walking_both c.loop-h.invariant c.make_room-merged.ensures c.loop-h-test.true c.in_default.is
     c.held_of-held.ensures c.end_after-next.ensures c.wide_word-variable.ensures c.requires.afresh in
     record { afresh = both.0; variable_bound = both.1.0; end_for = both.1.1 }
 
@@ -57,7 +57,7 @@ loop-h-preserved c =
     b.ensures.adds b.ensures.adjacent
 
 pub flush-requires : goal.flush-requires
-flush-requires c =     let both = going_asks c.loop-h.invariant.going in
+flush-requires c = let both = going_asks c.loop-h.invariant.going in
     record { held = both.0; keys = both.1 }
 
 pub shape_of-values : goal.shape_of-values

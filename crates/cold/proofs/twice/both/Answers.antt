@@ -5,7 +5,7 @@ use borrow.Author.Rules.{rules}
 use Rattle.cold.proofs.twice.both.Goals as goal
 
 pub probe_afresh-requires : goal.probe_afresh-requires
-probe_afresh-requires c =     record { afresh = c.requires.afresh; variable_bound = c.requires.variable_bound }
+probe_afresh-requires c = record { afresh = c.requires.afresh; variable_bound = c.requires.variable_bound }
 
 pub lay-requires : goal.lay-requires
 lay-requires c =
@@ -18,8 +18,11 @@ probe_afresh-requires-2 c =
     let probed = c.probe_afresh in
     let v_long = probed.auto.values ∙ c.requires.afresh.values_long in
     let laid = c.lay in
-    record { afresh = afresh_again c.requires.afresh c.requires.variable_bound c.requires.end_for probed.ensures.values_value v_long probed.ensures.behind
-          laid.ensures probed.auto.values probed.auto.f; variable_bound = c.requires.variable_bound }
+    record {
+      afresh = afresh_again c.requires.afresh c.requires.variable_bound c.requires.end_for probed.ensures.values_value v_long probed.ensures.behind
+          laid.ensures probed.auto.values probed.auto.f;
+      variable_bound = c.requires.variable_bound;
+    }
 
 pub pass-requires : goal.pass-requires
 pass-requires c =
@@ -38,6 +41,9 @@ returns c =
     let again = c.probe_afresh-2 in
     let w-long = again.auto.values ∙ v_long in
     let passed = c.pass.ensures in
-    record { adds = both_adds c.requires.afresh c.requires.variable_bound c.requires.end_for probed.ensures.values_value v_long probed.ensures.behind
-          laid.ensures again.ensures.values_value w-long again.ensures.behind passed; adjacent = both_places c.requires.afresh c.requires.variable_bound c.requires.end_for probed.ensures.values_value v_long probed.ensures.behind
-          laid.ensures again.ensures.values_value w-long again.ensures.behind passed }
+    record {
+      adds = both_adds c.requires.afresh c.requires.variable_bound c.requires.end_for probed.ensures.values_value v_long probed.ensures.behind
+          laid.ensures again.ensures.values_value w-long again.ensures.behind passed;
+      adjacent = both_places c.requires.afresh c.requires.variable_bound c.requires.end_for probed.ensures.values_value v_long probed.ensures.behind
+          laid.ensures again.ensures.values_value w-long again.ensures.behind passed;
+    }

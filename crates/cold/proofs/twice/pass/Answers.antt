@@ -8,7 +8,7 @@ pub loop-j-init : goal.loop-j-init
 loop-j-init c = passing_start c.requires
 
 pub emit-last-requires : goal.emit-last-requires
-emit-last-requires c =     let both = passing_asks c.loop-j.invariant c.loop-j-test.true in
+emit-last-requires c = let both = passing_asks c.loop-j.invariant c.loop-j-test.true in
     record { emits = both.0; end_in_bounds = both.1 }
 
 pub loop-j-preserved : goal.loop-j-preserved

@@ -6,7 +6,7 @@ use borrow.Author.Rules.{rules}
 use Rattle.cold.proofs.twice.probe_afresh.Goals as goal
 
 pub assume-requires : goal.assume-requires
-assume-requires c =     record { values_len = c.requires.afresh.values_long ∙ sym c.requires.afresh.start.long; variable_in_bounds = omega (arith, c.requires.variable_bound, c.requires.afresh.start.long) }
+assume-requires c = record { values_len = c.requires.afresh.values_long ∙ sym c.requires.afresh.start.long; variable_in_bounds = omega (arith, c.requires.variable_bound, c.requires.afresh.start.long) }
 
 pub fill-requires : goal.fill-requires
 fill-requires c =

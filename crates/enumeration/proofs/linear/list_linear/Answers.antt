@@ -22,13 +22,13 @@ pub bounds-u-at : goal.bounds-u-at
 bounds-u-at c = omega (arith, c.loop-b-test.true, c.requires.small.room)
 
 pub linear_of-value-requires : goal.linear_of-value-requires
-linear_of-value-requires c =     record { held = c.requires.held; i_bound = omega (arith, c.wide_word-i.ensures, c.requires.small.below _ c.loop-b-test.true) }
+linear_of-value-requires c = record { held = c.requires.held; i_bound = omega (arith, c.wide_word-i.ensures, c.requires.small.below _ c.loop-b-test.true) }
 
 pub bit-requires : goal.bit-requires
 bit-requires c = omega (arith, c.loop-b-test.true, c.requires.small.few)
 
 pub list_term-end-requires : goal.list_term-end-requires
-list_term-end-requires c =     record { room = room_after 1 c.loop-b.invariant.listed (linear_few _ _ _ _) c.requires.room (omega (arith, c.loop-b-test.true, c.requires.small.few)); bits_bound = bit_fits c.requires.small.few c.loop-b-test.true c.bit.ensures }
+list_term-end-requires c = record { room = room_after 1 c.loop-b.invariant.listed (linear_few _ _ _ _) c.requires.room (omega (arith, c.loop-b-test.true, c.requires.small.few)); bits_bound = bit_fits c.requires.small.few c.loop-b-test.true c.bit.ensures }
 
 pub loop-b-preserved : goal.loop-b-preserved
 loop-b-preserved c =

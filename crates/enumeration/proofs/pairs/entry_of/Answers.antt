@@ -29,8 +29,11 @@ pub bounds-u-n : goal.bounds-u-n
 bounds-u-n c = (walk_turn c.loop-p.invariant.along.walk c.loop-p-test.true).index
 
 pub stands_at-requires : goal.stands_at-requires
-stands_at-requires c =     record { k_in_bounds = omega (arith, c.entry_in-k.ensures, (walk_turn c.loop-p.invariant.along.walk c.loop-p-test.true).word.entry); k_in_bounds_2 = omega
-          (arith, c.entry_in-k.ensures, (walk_turn c.loop-p.invariant.along.walk c.loop-p-test.true).word.entry, c.requires.placed.shaped.rows_long, c.requires.placed.shaped.cols_long) }
+stands_at-requires c = record {
+  k_in_bounds = omega (arith, c.entry_in-k.ensures, (walk_turn c.loop-p.invariant.along.walk c.loop-p-test.true).word.entry);
+  k_in_bounds_2 = omega
+      (arith, c.entry_in-k.ensures, (walk_turn c.loop-p.invariant.along.walk c.loop-p-test.true).word.entry, c.requires.placed.shaped.rows_long, c.requires.placed.shaped.cols_long);
+}
 
 pub returns-then-stands_at : goal.returns-then-stands_at
 returns-then-stands_at c =

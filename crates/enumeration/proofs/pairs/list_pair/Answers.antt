@@ -23,7 +23,7 @@ pub bounds-u-at-2 : goal.bounds-u-at-2
 bounds-u-at-2 c = omega (arith, c.requires.small.room, c.requires.b_lt_count)
 
 pub entry_of-k-requires : goal.entry_of-k-requires
-entry_of-k-requires c =     record { placed = c.requires.placed; i_bound = omega (arith, c.wide_word-i.ensures, c.requires.small.below _ c.requires.a_lt_count) }
+entry_of-k-requires c = record { placed = c.requires.placed; i_bound = omega (arith, c.wide_word-i.ensures, c.requires.small.below _ c.requires.a_lt_count) }
 
 pub returns-then-k-q : goal.returns-then-k-q
 returns-then-k-q c =
@@ -36,7 +36,7 @@ pub bit-requires-2 : goal.bit-requires-2
 bit-requires-2 c = omega (arith, c.requires.small.few, c.requires.b_lt_count)
 
 pub list_term-requires : goal.list_term-requires
-list_term-requires c =     record { room = c.requires.room; bits_bound = pair_fits c.requires.small.few c.requires.a_lt_count c.requires.b_lt_count c.bit.ensures c.bit-2.ensures }
+list_term-requires c = record { room = c.requires.room; bits_bound = pair_fits c.requires.small.few c.requires.a_lt_count c.requires.b_lt_count c.bit.ensures c.bit-2.ensures }
 
 pub shape_of-terms : goal.shape_of-terms
 shape_of-terms c = c.list_term.ensures.values_long

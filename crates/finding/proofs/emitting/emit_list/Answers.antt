@@ -11,7 +11,7 @@ pub bounds-u-from : goal.bounds-u-from
 bounds-u-from c = emitting_read c.loop-p.invariant c.loop-p-test.true
 
 pub emit_from-last-requires : goal.emit_from-last-requires
-emit_from-last-requires c =     let both = emitting_asks c.loop-p.invariant c.loop-p-test.true c.wide_word-j.ensures in
+emit_from-last-requires c = let both = emitting_asks c.loop-p.invariant c.loop-p-test.true c.wide_word-j.ensures in
     record { emits = both.0; end_in_bounds = both.1 }
 
 pub loop-p-preserved : goal.loop-p-preserved

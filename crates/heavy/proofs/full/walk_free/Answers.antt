@@ -4,7 +4,7 @@ use borrow.Author.Rules.{rules}
 use Rattle.heavy.proofs.full.walk_free.Goals as goal
 
 pub walk_values-requires : goal.walk_values-requires
-walk_values-requires c =     record { walkable = all_walkable c.requires.remembers c.requires.q_in_bounds c.list_free-count.ensures c.set_none.ensures; values_value = c.requires.values_value }
+walk_values-requires c = record { walkable = all_walkable c.requires.remembers c.requires.q_in_bounds c.list_free-count.ensures c.set_none.ensures; values_value = c.requires.values_value }
 
 pub returns : goal.returns
 returns c =

@@ -9,7 +9,7 @@ pub loop-w-init : goal.loop-w-init
 loop-w-init c = going_start _ _ c.requires
 
 pub turn-w-requires : goal.turn-w-requires
-turn-w-requires c =     record { fit = c.loop-w.invariant.fit; w_value = sym c.is_going.ensures ∙ c.loop-w-test.true }
+turn-w-requires c = record { fit = c.loop-w.invariant.fit; w_value = sym c.is_going.ensures ∙ c.loop-w-test.true }
 
 pub loop-w-smaller : goal.loop-w-smaller
 loop-w-smaller c = going_falls _ _ (sym c.is_going.ensures ∙ c.loop-w-test.true) c.turn-w.ensures

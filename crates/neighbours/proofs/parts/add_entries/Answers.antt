@@ -9,7 +9,7 @@ pub loop-k-init : goal.loop-k-init
 loop-k-init c = passing c.requires.fillable c.requires.parted
 
 pub add_entry-requires : goal.add_entry-requires
-add_entry-requires c =     record { fillable = passing_ready c.loop-k.invariant; k_bound = search rules }
+add_entry-requires c = record { fillable = passing_ready c.loop-k.invariant; k_bound = search rules }
 
 pub loop-k-preserved : goal.loop-k-preserved
 loop-k-preserved c =

@@ -4,5 +4,5 @@ use borrow.Author.Rules.{rules}
 use Rattle.neighbours.proofs.parts.parts.Goals as goal
 
 pub add_entries-requires : goal.add_entries-requires
-add_entries-requires c =     let both = parted_start c.requires c.start_parts.auto.f c.start_parts.ensures in
+add_entries-requires c = let both = parted_start c.requires c.start_parts.auto.f c.start_parts.ensures in
     record { fillable = both.0; parted = both.1 }

@@ -24,7 +24,7 @@ pop-i-requires c =
     record { from_in_bounds = omega arith; to_in_bounds = omega arith }
 
 pub push_neighbours-last-requires : goal.push_neighbours-last-requires
-push_neighbours-last-requires c =     let both = pop_ready c.loop-last.invariant c.loop-last-test.true c.pop-i.ensures.value c.pop-i.ensures.u_value in
+push_neighbours-last-requires c = let both = pop_ready c.loop-last.invariant c.loop-last-test.true c.pop-i.ensures.value c.pop-i.ensures.u_value in
     record { placed = both.0; i_bound = both.1 }
 
 pub overflow_add-count : goal.overflow_add-count

@@ -5,7 +5,7 @@ use borrow.Author.Rules.{rules}
 use Rattle.parts.proofs.steps.visit_at.Goals as goal
 
 pub visit-requires : goal.visit-requires
-visit-requires c =     record { placed = c.requires.placed; j_bound = other_end_below c.requires.placed.shaped _ c.requires.k_bound c.requires.j_value }
+visit-requires c = record { placed = c.requires.placed; j_bound = other_end_below c.requires.placed.shaped _ c.requires.k_bound c.requires.j_value }
 
 pub returns-then-not-joins_by : goal.returns-then-not-joins_by
 returns-then-not-joins_by c =

@@ -11,7 +11,7 @@ pub loop-i-init : goal.loop-i-init
 loop-i-init c = fixes_start
 
 pub fix_at-requires : goal.fix_at-requires
-fix_at-requires c =     record { i_in_bounds = omega arith; i_in_bounds_2 = omega (arith, c.requires.adjacent.room); i_in_bounds_3 = omega (arith, c.requires.values_len) }
+fix_at-requires c = record { i_in_bounds = omega arith; i_in_bounds_2 = omega (arith, c.requires.adjacent.room); i_in_bounds_3 = omega (arith, c.requires.values_len) }
 
 pub loop-i-preserved : goal.loop-i-preserved
 loop-i-preserved c =

@@ -4,7 +4,7 @@ use borrow.Author.Rules.{rules}
 use Rattle.probes.proofs.settling.gather.Goals as goal
 
 pub walk-requires : goal.walk-requires
-walk-requires c =     record { walkable = standing_walkable c.requires.standing c.set_none.ensures; values_value = c.requires.values_value }
+walk-requires c = record { walkable = standing_walkable c.requires.standing c.set_none.ensures; values_value = c.requires.values_value }
 
 pub returns : goal.returns
 returns c =

@@ -31,7 +31,7 @@ pub bounds-u-n : goal.bounds-u-n
 bounds-u-n c = (walk_turn c.loop-p.invariant.walk c.loop-p-test.true).index
 
 pub add_place-row-requires : goal.add_place-row-requires
-add_place-row-requires c =     let both = row_reads c.requires.readable c.loop-p.invariant c.loop-p-test.true c.entry_in-k.ensures c.end_in-j.ensures in
+add_place-row-requires c = let both = row_reads c.requires.readable c.loop-p.invariant c.loop-p-test.true c.entry_in-k.ensures c.end_in-j.ensures in
     record { k_in_bounds = both.0; j_in_bounds = both.1.0; j_value = both.1.1 }
 
 pub loop-p-smaller : goal.loop-p-smaller

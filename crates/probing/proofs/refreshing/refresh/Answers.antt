@@ -28,7 +28,7 @@ pub bounds-u-n : goal.bounds-u-n
 bounds-u-n c = (refresh_reads c.loop-p.invariant c.loop-p-test.true).0
 
 pub refresh_once-x-requires : goal.refresh_once-x-requires
-refresh_once-x-requires c =     record { placed = c.loop-p.invariant.kept.placed; standard = c.requires.standard; k_bound = omega (arith, c.entry_in-k.ensures, (refresh_reads c.loop-p.invariant c.loop-p-test.true).1.1); within = c.loop-p.invariant.cursor }
+refresh_once-x-requires c = record { placed = c.loop-p.invariant.kept.placed; standard = c.requires.standard; k_bound = omega (arith, c.entry_in-k.ensures, (refresh_reads c.loop-p.invariant c.loop-p-test.true).1.1); within = c.loop-p.invariant.cursor }
 
 pub loop-p-smaller : goal.loop-p-smaller
 loop-p-smaller c = omega (arith, c.loop-p-test.true)

@@ -14,7 +14,7 @@ returns-then-values-t-ne2 c =
     refresh_fixed c.requires.placed _ c.requires.k_bound c.other_end-t.ensures c.if-values-t-ne2.true
 
 pub fresh_row-row-requires : goal.fresh_row-row-requires
-fresh_row-row-requires c =     record { readable = readable c.requires.placed c.requires.standard; t_bound = other_end_below c.requires.placed.shaped _ c.requires.k_bound c.other_end-t.ensures }
+fresh_row-row-requires c = record { readable = readable c.requires.placed c.requires.standard; t_bound = other_end_below c.requires.placed.shaped _ c.requires.k_bound c.other_end-t.ensures }
 
 pub put_row-requires : goal.put_row-requires
 put_row-requires c =

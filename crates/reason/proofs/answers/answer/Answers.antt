@@ -17,7 +17,7 @@ pub slice_bounds-answer_free-end : goal.slice_bounds-answer_free-end
 slice_bounds-answer_free-end c = front_long _ 4096 c.requires.ready.sound.shaped.few_variables
 
 pub answer_free-requires : goal.answer_free-requires
-answer_free-requires c =     record { ready = c.requires.ready; exact_in = c.requires.exact_in; i_bound = c.if-variable-c.false; values_len = sym (front_long _ 4096 c.requires.ready.sound.shaped.few_variables) }
+answer_free-requires c = record { ready = c.requires.ready; exact_in = c.requires.exact_in; i_bound = c.if-variable-c.false; values_len = sym (front_long _ 4096 c.requires.ready.sound.shaped.few_variables) }
 
 pub returns : goal.returns
 returns c = some_told _ _ _ _ _ c.if-variable-c.false c.if-start-variable-ne2.false c.answer_free.ensures

@@ -11,7 +11,7 @@ pub returns-then-count-list : goal.returns-then-count-list
 returns-then-count-list c = fit_full _ _ _ _ c.count_marked-count.ensures c.if-count-list.true c.clear_shorts.ensures
 
 pub list_marked-requires : goal.list_marked-requires
-list_marked-requires c =     record { values_len_bound = c.requires; values_in_bounds = omega (arith, c.count_marked-count.ensures, c.if-count-list.false) }
+list_marked-requires c = record { values_len_bound = c.requires; values_in_bounds = omega (arith, c.count_marked-count.ensures, c.if-count-list.false) }
 
 pub returns : goal.returns
 returns c = fit_done _ _ _ _ c.count_marked-count.ensures c.if-count-list.false c.list_marked.ensures

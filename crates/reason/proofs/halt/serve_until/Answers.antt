@@ -37,7 +37,7 @@ pub bounds-u-base : goal.bounds-u-base
 bounds-u-base c = halt_index c.loop-head.invariant c.loop-head-test.true
 
 pub serve-last-requires : goal.serve-last-requires
-serve-last-requires c =     record { placed = c.loop-head.invariant.kept.placed; i_bound = halt_below c.loop-head.invariant c.loop-head-test.true c.wide_word-t.ensures }
+serve-last-requires c = record { placed = c.loop-head.invariant.kept.placed; i_bound = halt_below c.loop-head.invariant c.loop-head-test.true c.wide_word-t.ensures }
 
 pub overflow_add-head : goal.overflow_add-head
 overflow_add-head c = omega (arith, c.loop-head-test.true)

@@ -10,7 +10,7 @@ pub loop-j-init : goal.loop-j-init
 loop-j-init c = list_start c.requires.values_in_bounds
 
 pub push-count-requires : goal.push-count-requires
-push-count-requires c =     record { count_in_bounds = list_room c.loop-j.invariant c.loop-j-test.true; j_bound = omega (arith, c.loop-j-test.true, c.requires.values_len_bound) }
+push-count-requires c = record { count_in_bounds = list_room c.loop-j.invariant c.loop-j-test.true; j_bound = omega (arith, c.loop-j-test.true, c.requires.values_len_bound) }
 
 pub loop-j-preserved : goal.loop-j-preserved
 loop-j-preserved c = list_turn c.loop-j.invariant c.loop-j-test.true c.push-count.ensures

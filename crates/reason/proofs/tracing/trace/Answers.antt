@@ -11,8 +11,8 @@ pub overflow_cast-i : goal.overflow_cast-i
 overflow_cast-i c = omega (arith, c.requires.i_bound, c.requires.ready.sound.shaped.few_variables)
 
 pub mark-requires : goal.mark-requires
-mark-requires c =     let both = mark_ready c.rest.ensures c.requires.ready.sound.shaped c.requires.ready.sound.start c.requires.i_bound in
+mark-requires c = let both = mark_ready c.rest.ensures c.requires.ready.sound.shaped c.requires.ready.sound.start c.requires.i_bound in
     record { ends_below = both.0; adjacent = both.1.0; i_in_bounds = both.1.1 }
 
 pub returns : goal.returns
-returns c =     record { value = ground_is c.rest.ensures c.requires.ready.sound.shaped c.requires.ready.sound.start c.requires.i_bound _ c.fill.ensures c.row_at.ensures c.conclude-found.ensures c.explain.ensures; values_value = marks_are c.rest.ensures c.requires.ready.sound.shaped c.requires.ready.sound.start c.requires.i_bound c.mark.ensures }
+returns c = record { value = ground_is c.rest.ensures c.requires.ready.sound.shaped c.requires.ready.sound.start c.requires.i_bound _ c.fill.ensures c.row_at.ensures c.conclude-found.ensures c.explain.ensures; values_value = marks_are c.rest.ensures c.requires.ready.sound.shaped c.requires.ready.sound.start c.requires.i_bound c.mark.ensures }

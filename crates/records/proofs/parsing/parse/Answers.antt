@@ -13,7 +13,7 @@ loop-next-init c =
     reads_start _ a.c.now a.rows.now a.cols.now a.q.now a.start.now c.requires
 
 pub note-turn-requires : goal.note-turn-requires
-note-turn-requires c =     record { room = reads_room c.loop-next.invariant; variables_bound = reads_few c.loop-next.invariant }
+note-turn-requires c = record { room = reads_room c.loop-next.invariant; variables_bound = reads_few c.loop-next.invariant }
 
 pub loop-next-smaller : goal.loop-next-smaller
 loop-next-smaller c =

@@ -10,4 +10,3 @@ returns-then-self-2 c = simp (c.if-self.false, c.if-self-2.true)
 
 pub returns-then-self-4 : goal.returns-then-self-4
 returns-then-self-4 c = simp (c.if-self.false, c.if-self-2.false, c.if-self-3.true, c.if-self-4.true)
-

@@ -26,7 +26,7 @@ loop-k-init c =
     hold_start c.requires.fillable c.requires.by_index (omega (arith, below, c.wide_short-j.ensures)) c.row_at-row.ensures
 
 pub hold_entry-row-requires : goal.hold_entry-row-requires
-hold_entry-row-requires c = let inv = c.loop-k.invariant in      record { fillable = hold_ready inv; j_in_bounds = (inv.here, c.loop-k-test.true) }
+hold_entry-row-requires c = let inv = c.loop-k.invariant in record { fillable = hold_ready inv; j_in_bounds = (inv.here, c.loop-k-test.true) }
 
 pub bounds-cols-k : goal.bounds-cols-k
 bounds-cols-k c =

@@ -10,7 +10,7 @@ pub loop-k-init : goal.loop-k-init
 loop-k-init c = pass_start c.requires.fillable c.requires.by_index
 
 pub add_entry-requires : goal.add_entry-requires
-add_entry-requires c = let inv = c.loop-k.invariant in      record { fillable = ready_after inv.ready inv.written; k_bound = search rules }
+add_entry-requires c = let inv = c.loop-k.invariant in record { fillable = ready_after inv.ready inv.written; k_bound = search rules }
 
 pub loop-k-preserved : goal.loop-k-preserved
 loop-k-preserved c = pass_turn c.loop-k.invariant c.loop-k-test.true c.add_entry.ensures

@@ -8,7 +8,7 @@ pub loop-i-init : goal.loop-i-init
 loop-i-init c = count_start _ _
 
 pub flat_at-flat-requires : goal.flat_at-flat-requires
-flat_at-flat-requires c =     record { i_in_bounds = c.loop-i-test.true; i_in_bounds_2 = omega (arith, c.requires) }
+flat_at-flat-requires c = record { i_in_bounds = c.loop-i-test.true; i_in_bounds_2 = omega (arith, c.requires) }
 
 pub overflow_add-flat : goal.overflow_add-flat
 overflow_add-flat c = omega (arith, count_few c.loop-i.invariant c.flat_at-flat.ensures)

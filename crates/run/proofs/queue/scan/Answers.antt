@@ -4,4 +4,4 @@ use borrow.Author.Rules.{rules}
 use Rattle.run.proofs.queue.scan.Goals as goal
 
 pub scan_from-requires : goal.scan_from-requires
-scan_from-requires c =     record { placed = c.requires; passing = all_start _ _ }
+scan_from-requires c = record { placed = c.requires; passing = all_start _ _ }

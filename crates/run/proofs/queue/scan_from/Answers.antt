@@ -12,7 +12,7 @@ pub loop-i-init : goal.loop-i-init
 loop-i-init c = scan_start_from c.requires.placed c.requires.passing
 
 pub scan_at-tail-requires : goal.scan_at-tail-requires
-scan_at-tail-requires c =     record { placed = c.loop-i.invariant.does.kept.placed; i_bound = c.loop-i-test.true }
+scan_at-tail-requires c = record { placed = c.loop-i.invariant.does.kept.placed; i_bound = c.loop-i-test.true }
 
 pub loop-i-preserved : goal.loop-i-preserved
 loop-i-preserved c =

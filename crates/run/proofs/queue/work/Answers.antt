@@ -22,7 +22,7 @@ pub bounds-u-base : goal.bounds-u-base
 bounds-u-base c = next_index c.loop-head.invariant c.loop-head-test.true
 
 pub serve-last-requires : goal.serve-last-requires
-serve-last-requires c =     record { placed = c.loop-head.invariant.kept.placed; i_bound = next_below c.loop-head.invariant c.loop-head-test.true c.wide_word-i.ensures }
+serve-last-requires c = record { placed = c.loop-head.invariant.kept.placed; i_bound = next_below c.loop-head.invariant c.loop-head-test.true c.wide_word-i.ensures }
 
 pub overflow_add-head : goal.overflow_add-head
 overflow_add-head c =

@@ -3,4 +3,4 @@ use borrow.Author.Rules.{rules}
 use Rattle.run.proofs.steps.move_row.Goals as goal
 
 pub returns : goal.returns
-returns c =     record { value = rw (c.remove_free.ensures, c.row_at.ensures) at c.add_fixed-row.ensures; f_value = c.put_row.ensures }
+returns c = record { value = rw (c.remove_free.ensures, c.row_at.ensures) at c.add_fixed-row.ensures; f_value = c.put_row.ensures }

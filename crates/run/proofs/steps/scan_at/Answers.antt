@@ -18,7 +18,7 @@ returns-in-Flat c =
     scan_unforced c.requires.placed c.requires.i_bound c.if-values-i-ne2.false c.row_at.ensures c.conclude-found.ensures (ap is_forced c.in-Flat.is)
 
 pub settle-requires : goal.settle-requires
-settle-requires c =     let both = settle_room c.requires.placed c.requires.i_bound c.if-values-i-ne2.false c.conclude-found.ensures in
+settle-requires c = let both = settle_room c.requires.placed c.requires.i_bound c.if-values-i-ne2.false c.conclude-found.ensures in
     record { variable_in_bounds = both.0; tail_in_bounds = both.1 }
 
 pub returns : goal.returns

@@ -34,7 +34,7 @@ returns-in-Flat c =
     c.move_row.ensures.f_value c.conclude-found.ensures (ap is_forced c.in-Flat.is)
 
 pub settle-requires : goal.settle-requires
-settle-requires c =     let both = settle_room c.requires.placed (other_end_below c.requires.placed.shaped _ c.requires.k_bound c.requires.t_value) c.if-values-t-ne2.false c.conclude-found.ensures in
+settle-requires c = let both = settle_room c.requires.placed (other_end_below c.requires.placed.shaped _ c.requires.k_bound c.requires.t_value) c.if-values-t-ne2.false c.conclude-found.ensures in
     record { variable_in_bounds = both.0; tail_in_bounds = both.1 }
 
 pub returns : goal.returns

@@ -21,7 +21,7 @@ loop-b-init c =
     merge_start refl c.requires c.wide_word-first.ensures c.wide_word-last.ensures
 
 pub next_candidate-listed-requires : goal.next_candidate-listed-requires
-next_candidate-listed-requires c =     let both = list_reads c.loop-b.invariant in
+next_candidate-listed-requires c = let both = list_reads c.loop-b.invariant in
     record { at_le_end = both.0; end_in_bounds = both.1 }
 
 pub next_place-above-requires : goal.next_place-above-requires
@@ -43,7 +43,7 @@ returns-then-t-n c =
     c.lesser.ensures c.lesser-t.ensures c.if-t-n.true
 
 pub scan_at-tail-requires : goal.scan_at-tail-requires
-scan_at-tail-requires c =     record { placed = c.loop-b.invariant.does.kept.placed; i_bound = c.if-t-n.false }
+scan_at-tail-requires c = record { placed = c.loop-b.invariant.does.kept.placed; i_bound = c.if-t-n.false }
 
 pub loop-b-smaller : goal.loop-b-smaller
 loop-b-smaller c =

@@ -12,7 +12,7 @@ pub loop-k-init : goal.loop-k-init
 loop-k-init c = pass_start (fillable_set _ _ c.requires.fillable) c.requires.by_index
 
 pub add_entry-requires : goal.add_entry-requires
-add_entry-requires c =     record { fillable = fillable_unset _ _ (ready_after c.loop-k.invariant.ready c.loop-k.invariant.written); k_bound = search rules }
+add_entry-requires c = record { fillable = fillable_unset _ _ (ready_after c.loop-k.invariant.ready c.loop-k.invariant.written); k_bound = search rules }
 
 pub loop-k-preserved : goal.loop-k-preserved
 loop-k-preserved c = pass_turn c.loop-k.invariant c.loop-k-test.true c.add_entry.ensures

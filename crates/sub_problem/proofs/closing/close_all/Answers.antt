@@ -5,7 +5,7 @@ use borrow.Author.Rules.{rules}
 use Rattle.sub_problem.proofs.closing.close_all.Goals as goal
 
 pub close_entries-kept-requires : goal.close_entries-kept-requires
-close_entries-kept-requires c =     record { usable = c.requires.usable; numbers = c.requires.numbers }
+close_entries-kept-requires c = record { usable = c.requires.usable; numbers = c.requires.numbers }
 
 pub clear_shorts_from-requires : goal.clear_shorts_from-requires
 clear_shorts_from-requires c =

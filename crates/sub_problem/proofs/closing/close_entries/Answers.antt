@@ -10,7 +10,7 @@ pub loop-k-init : goal.loop-k-init
 loop-k-init c = stands_start c.requires.usable
 
 pub close_at-kept-requires : goal.close_at-kept-requires
-close_at-kept-requires c =     record { closable = stands_ready c.requires.usable c.loop-k.invariant c.loop-k-test.true; numbers = c.requires.numbers }
+close_at-kept-requires c = record { closable = stands_ready c.requires.usable c.loop-k.invariant c.loop-k-test.true; numbers = c.requires.numbers }
 
 pub loop-k-preserved : goal.loop-k-preserved
 loop-k-preserved c =

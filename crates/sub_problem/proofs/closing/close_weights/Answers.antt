@@ -5,7 +5,7 @@ use borrow.Author.Rules.{rules}
 use Rattle.sub_problem.proofs.closing.close_weights.Goals as goal
 
 pub close_linear-requires : goal.close_linear-requires
-close_linear-requires c =     record { rising = c.requires.rising; c_in_bounds = c.requires.c_in_bounds }
+close_linear-requires c = record { rising = c.requires.rising; c_in_bounds = c.requires.c_in_bounds }
 
 pub clear_floats_from-requires : goal.clear_floats_from-requires
 clear_floats_from-requires c =

@@ -11,7 +11,7 @@ pub loop-k-init : goal.loop-k-init
 loop-k-init c = record { gathers = c.requires.gathers; same = refl }
 
 pub gather_at-sum-requires : goal.gather_at-sum-requires
-gather_at-sum-requires c =     record { usable = c.requires.usable; k_bound = c.loop-k-test.true; q_in_bounds = c.loop-k.invariant.gathers.long }
+gather_at-sum-requires c = record { usable = c.requires.usable; k_bound = c.loop-k-test.true; q_in_bounds = c.loop-k.invariant.gathers.long }
 
 pub loop-k-preserved : goal.loop-k-preserved
 loop-k-preserved c =

@@ -19,7 +19,7 @@ pub bounds-u-i : goal.bounds-u-i
 bounds-u-i c = omega (arith, c.loop-i.invariant.numbered.numbers.long)
 
 pub next_number-count-requires : goal.next_number-count-requires
-next_number-count-requires c =     record { i_in_bounds = omega arith; count_bound = count_small c.loop-i.invariant.numbered }
+next_number-count-requires c = record { i_in_bounds = omega arith; count_bound = count_small c.loop-i.invariant.numbered }
 
 pub loop-i-preserved : goal.loop-i-preserved
 loop-i-preserved c = numbering_turn c.loop-i.invariant c.loop-i-test.true c.next_number-count.ensures

@@ -5,4 +5,4 @@ use borrow.Author.Rules.{rules}
 use Rattle.tally.proofs.writing.put_four.Goals as goal
 
 pub returns : goal.returns
-returns c =     record { wrote = each_four _ _ _ _ c.put_total-first.ensures.wrote c.put_total-second.ensures.wrote c.put_total-third.ensures.wrote c.put_total.ensures.wrote; upper_bound = omega (arith, c.put_total-first.ensures.upper_bound, c.put_total-second.ensures.upper_bound, c.put_total-third.ensures.upper_bound, c.put_total.ensures.upper_bound) }
+returns c = record { wrote = each_four _ _ _ _ c.put_total-first.ensures.wrote c.put_total-second.ensures.wrote c.put_total-third.ensures.wrote c.put_total.ensures.wrote; upper_bound = omega (arith, c.put_total-first.ensures.upper_bound, c.put_total-second.ensures.upper_bound, c.put_total-third.ensures.upper_bound, c.put_total.ensures.upper_bound) }

@@ -5,7 +5,7 @@ use borrow.Author.Rules.{rules}
 use Rattle.tally.proofs.writing.put_rate.Goals as goal
 
 pub returns-then-rest-eq0 : goal.returns-then-rest-eq0
-returns-then-rest-eq0 c =     record { wrote = rate_none _ _ c.if-rest-eq0.true c.put_bytes.ensures; upper_bound = omega (arith, c.put_bytes.ensures.next) }
+returns-then-rest-eq0 c = record { wrote = rate_none _ _ c.if-rest-eq0.true c.put_bytes.ensures; upper_bound = omega (arith, c.put_bytes.ensures.next) }
 
 pub overflow_mul-forced : goal.overflow_mul-forced
 overflow_mul-forced c = omega (arith, c.requires.forced_bound)

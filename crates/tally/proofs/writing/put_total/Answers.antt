@@ -12,4 +12,4 @@ pub put_bytes-requires : goal.put_bytes-requires
 put_bytes-requires c = omega (arith, c.requires.at_in_bounds, c.put_decimal-next.ensures.next, c.put_decimal-next.auto.out, total_short c.args.n c.requires.n_bound)
 
 pub returns : goal.returns
-returns c =     record { wrote = wrote_then c.put_decimal-next.ensures c.put_bytes.ensures; upper_bound = omega (arith, c.put_decimal-next.ensures.next, c.put_bytes.ensures.next, total_short c.args.n c.requires.n_bound) }
+returns c = record { wrote = wrote_then c.put_decimal-next.ensures c.put_bytes.ensures; upper_bound = omega (arith, c.put_decimal-next.ensures.next, c.put_bytes.ensures.next, total_short c.args.n c.requires.n_bound) }

@@ -34,5 +34,8 @@ copy_words-requires c =
 pub returns : goal.returns
 returns c =
     let a = c.args in
-    record { values_value_2 = c.undo.ensures; remembers = begin_remembers a.f.now a.u.now c.requires.ready c.requires.values_value c.requires.adjacent c.fill.ensures
-          c.copy_floats.ensures c.scan-many.ensures c.copy_words.ensures refl c.requires.grade_value }
+    record {
+      values_value_2 = c.undo.ensures;
+      remembers = begin_remembers a.f.now a.u.now c.requires.ready c.requires.values_value c.requires.adjacent c.fill.ensures
+          c.copy_floats.ensures c.scan-many.ensures c.copy_words.ensures refl c.requires.grade_value;
+    }

@@ -30,7 +30,7 @@ pub bounds-u-n : goal.bounds-u-n
 bounds-u-n c = (walk_turn c.loop-p.invariant.along.walk c.loop-p-test.true).index
 
 pub back_at-requires : goal.back_at-requires
-back_at-requires c =     let both = back_asks c.loop-p.invariant c.loop-p-test.true c.end_in-t.ensures in
+back_at-requires c = let both = back_asks c.loop-p.invariant c.loop-p-test.true c.end_in-t.ensures in
     record { t_lt_n = both.0; n_in_bounds = both.1 }
 
 pub loop-p-smaller : goal.loop-p-smaller

@@ -9,7 +9,7 @@ pub loop-h-init : goal.loop-h-init
 loop-h-init c = backs_start c.requires
 
 pub back-requires : goal.back-requires
-back-requires c =     let both = backs_asks c.loop-h.invariant c.loop-h-test.true c.wide_word-x.ensures in
+back-requires c = let both = backs_asks c.loop-h.invariant c.loop-h-test.true c.wide_word-x.ensures in
     record { backable = both.0; x_lt_n = both.1 }
 
 pub loop-h-preserved : goal.loop-h-preserved

@@ -20,10 +20,10 @@ shape_of-values-then-n-count c =
     ap length c.undo.ensures ∙ c.requires.start_long ∙ sym c.requires.placed.values_long
 
 pub returns-then-n-count : goal.returns-then-n-count
-returns-then-n-count c =     record { values_value = c.undo.ensures; filled = touched_copied c.requires c.copy_floats.ensures }
+returns-then-n-count c = record { values_value = c.undo.ensures; filled = touched_copied c.requires c.copy_floats.ensures }
 
 pub back-requires : goal.back-requires
-back-requires c =     record { backable = touched_able c.requires; x_lt_n = c.requires.here }
+back-requires c = record { backable = touched_able c.requires; x_lt_n = c.requires.here }
 
 pub back_list-requires : goal.back_list-requires
 back_list-requires c =
@@ -34,4 +34,4 @@ shape_of-values c =
     ap length c.undo.ensures ∙ c.requires.start_long ∙ sym c.requires.placed.values_long
 
 pub returns : goal.returns
-returns c =     record { values_value = c.undo.ensures; filled = touched_filled c.requires c.back.ensures c.back_list.ensures }
+returns c = record { values_value = c.undo.ensures; filled = touched_filled c.requires c.back.ensures c.back_list.ensures }
