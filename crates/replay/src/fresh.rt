@@ -167,7 +167,37 @@ fn answer_in_parts(
     )
 }
 
-// Answers a case in the parts of the buffers that its head asks for. The f64 scratch is no buffer but made anew, so that it and the u64 scratch of `allow` do not stand on the stack at once.
+// Answers a case that takes f64 scratch, which is no buffer but made anew, in the parts of the buffers that its head asks for.
+fn answer_in_floats(
+    head: Head,
+    contents: &[u8],
+    list: &mut [u16],
+    u: &mut [u32],
+    stdout: Stdout,
+    out: &mut [u8],
+    used: usize,
+) -> usize
+    requires fits { Fits head (length contents.now) }
+    requires buffers { Buffers (length list.old) 163900 (length u.old) }
+    ensures { result ≤ length out.new }
+{
+    let mut f = [0.0f64; FLOATS];
+    let listed = stream::head::list(head);
+    let floats = head.floats;
+    let words = head.words;
+    answer_in_parts(
+        head,
+        contents,
+        &mut list[..listed],
+        &mut f[..floats],
+        &mut u[..words],
+        stdout,
+        out,
+        used,
+    )
+}
+
+// Answers a case in the parts of the buffers that its head asks for. The f64 scratch is made in a function of its own, so that it and the u64 scratch of `allow` do not stand on the stack at once.
 pub fn answer(
     head: Head,
     contents: &[u8],
@@ -187,18 +217,5 @@ pub fn answer(
     if head.code == ALLOW {
         return answer_allow(head, contents, list, u, stdout, out, used);
     }
-    let mut f = [0.0f64; FLOATS];
-    let listed = stream::head::list(head);
-    let floats = head.floats;
-    let words = head.words;
-    answer_in_parts(
-        head,
-        contents,
-        &mut list[..listed],
-        &mut f[..floats],
-        &mut u[..words],
-        stdout,
-        out,
-        used,
-    )
+    answer_in_floats(head, contents, list, u, stdout, out, used)
 }

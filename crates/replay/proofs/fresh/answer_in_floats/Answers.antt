@@ -1,9 +1,9 @@
--- `answer` lends the parts that the head asks for. Assumes nothing.
+-- `answer_in_floats` lends the parts that the head asks for. Assumes nothing.
 use mathlib.Core.Path.{sym}
 use lib.Seq.{length-take-le}
 use native.Mathlib.Omega.{arith}
 use Rattle.cases.proofs.Parts.{part_long}
-use Rattle.replay.proofs.fresh.answer.Goals as goal
+use Rattle.replay.proofs.fresh.answer_in_floats.Goals as goal
 
 pub slice_bounds-answer_in_parts-end-2 : goal.slice_bounds-answer_in_parts-end-2
 slice_bounds-answer_in_parts-end-2 c =
