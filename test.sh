@@ -69,7 +69,7 @@ prove() {
     line=$(tail -n 1 "$room/said")
     bad=$(sed -n '/^rt: ok/s/.*, \([0-9][0-9]*\) bad.*/\1/p' "$room/said" | tail -n 1)
     if [ -n "$bad" ]; then
-        echo "$bad must-fail edits are bad, as told above: each is to be mended."
+        echo "Bad must-fail edits, as told above: $bad; each is to be mended."
         line=$(echo "$line" | awk -v bad="$bad" '{ print $1 " passed, " $3 + bad " failed" }')
         [ "$(cat "$room/ci")" -ne 0 ] || echo 1 >"$room/ci"
     fi

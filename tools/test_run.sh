@@ -206,7 +206,7 @@ is 'a test of the library that fails' "$(MISSED=1 passes | tail -n 2)" '38 passe
 status 1'
 is 'leaves the moments of the run before' "$(cat target/times)" "$(cat last)"
 passing "$anew" ', 2 bad' >all
-is 'edits that are bad fail, though rt ci passes' "$(passes | tail -n 4)" '2 must-fail edits are bad, as told above: each is to be mended.
+is 'edits that are bad fail, though rt ci passes' "$(passes | tail -n 4)" 'Bad must-fail edits, as told above: 2; each is to be mended.
 What is wrong stands above, in the words of rt. The program presolve, ombradiec and the library for C and Rust are not tried, since not all is proved.
 8 passed, 2 failed
 status 1'

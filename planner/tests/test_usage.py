@@ -109,10 +109,11 @@ class NoProgram(Room):
             self.refused(2, ["the program gave 0 answers to 1 cases, and ended with status 1"], "presolve", PLAN)
 
     def test_a_program_older_than_a_source_is_built_again(self):
-        os.mkdir("crates")
-        for file in ("crates.txt", "crates/a", "program"):
+        os.makedirs("crates/b/out")
+        for file in ("crates.txt", "crates/a", "crates/b/out/made", "program"):
             self.put(file, "")
         os.chmod("program", 0o755)
+        os.utime("crates/b/out/made", (10 ** 10, 10 ** 10))
         with mock.patch.object(program, "PROGRAM", "program"), mock.patch.object(program, "ROOT", "."):
             for moment, wanted in ((1, True), (10 ** 10, False)):
                 os.utime("crates/a", (moment, moment))
