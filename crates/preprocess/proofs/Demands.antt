@@ -31,7 +31,8 @@ use Rattle.no_effect.specs.Effect.{has_no_effect, NoEntry}
 use Rattle.no_effect.proofs.Listed.{effect_means}
 use Rattle.preprocess.specs.Working.{with_no_effect, preprocess}
 use Rattle.preprocess.specs.Call.{preprocess_call}
-use Rattle.preprocess.proofs.Idle.{idle_start, idle_extends, idle_zero, idle_stands, closure_stays}
+use Rattle.preprocess.proofs.Idle.{idle_start, idle_extends, idle_stands, closure_stays}
+use Rattle.preprocess.proofs.Zeroed.{idle_zero}
 
 -- ---- the model
 

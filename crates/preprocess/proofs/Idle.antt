@@ -48,21 +48,8 @@ pub fix_passes : (p : ℕ → Bool) (k : ℕ) (s : List ℕ) (i : ℕ) → p i �
 fix_passes p k s i n = fix_ind p (λ t. get_or t i 0 ≡ get_or s i 0) k s refl (λ j t l e f h. get_or-set_other t j i 0 0 (λ q. true≢false (sym e ∙ ap p (sym q) ∙ n)) ∙ h)
 
 -- so does one that is not reached yet
-fix_later : (p : ℕ → Bool) (k : ℕ) (s : List ℕ) (i : ℕ) → k ≤ i → get_or (fix_to p k s) i 0 ≡ get_or s i 0
+pub fix_later : (p : ℕ → Bool) (k : ℕ) (s : List ℕ) (i : ℕ) → k ≤ i → get_or (fix_to p k s) i 0 ≡ get_or s i 0
 fix_later p k s i n = fix_ind p (λ t. get_or t i 0 ≡ get_or s i 0) k s refl (λ j t l e f h. get_or-set_other t j i 0 0 (λ q. omega arith) ∙ h)
-
--- a free one that is meant takes 0
-pub fix_zeros : (p : ℕ → Bool) (k : ℕ) (s : List ℕ) (i : ℕ) → i < k → p i ≡ true → get_or s i 0 ≡ 2 → get_or (fix_to p k s) i 0 ≡ 0
-unfolding fix_to fix_at
-fix_zeros p zero s i h e f = absurd (omega arith)
-fix_zeros p (suc k) s i h e f = elim (ℕ_discrete i k) [
-  | yes q ↦ rw (← q, e, fix_later p i s i (omega arith), f) (get_or-set_same (fix_to p i s) i 0 0 (omega (arith, fixes_long p i s, inside s i f)))
-  | no n ↦ by (p k && is_free (fix_to p k s) k) n (fix_zeros p k s i (omega arith) e f)
-]
-  where
-    by : (b : Bool) → i ≢ k → get_or (fix_to p k s) i 0 ≡ 0 → get_or (cond b (set (fix_to p k s) k 0) (fix_to p k s)) i 0 ≡ 0
-    by true n z = get_or-set_other (fix_to p k s) k i 0 0 n ∙ z
-    by false n z = z
 
 zero_small : (t : List ℕ) (j : ℕ) → get_or t j 0 ≡ 2 → Valid t → Valid (set t j 0)
 zero_small t j f h i = elim (ℕ_discrete i j) [
@@ -91,10 +78,6 @@ module _ (F : Field) {s : List ℕ} (start : StartFor (variables F) s) where
 pub idle_passes : (F : Field) (s : List ℕ) (i : ℕ) → has_no_effect F i ≡ false → get_or (with_no_effect F s) i 0 ≡ get_or s i 0
 unfolding with_no_effect
 idle_passes F s i e = fix_passes (has_no_effect F) (variables F) s i e
-
-pub idle_zero : (F : Field) (s : List ℕ) (i : ℕ) → i < variables F → has_no_effect F i ≡ true → get_or s i 0 ≡ 2 → get_or (with_no_effect F s) i 0 ≡ 0
-unfolding with_no_effect
-idle_zero F s i h e f = fix_zeros (has_no_effect F) (variables F) s i h e f
 
 -- ---- the closure does not see them, on any field
 

@@ -2,6 +2,7 @@ pub mod Offsets
 pub mod Zeros
 pub mod Blind
 pub mod Idle
+pub mod Zeroed
 pub mod Laws
 pub mod Demands
 pub mod Unseen

@@ -8,7 +8,7 @@ use native.Mathlib.Decide.{ℕ_discrete}
 use native.Mathlib.Omega.{arith}
 use borrow.Author.Tests.{ne_eqb}
 use lib.Dec.{eqb}
-use lib.ListN.{length, get_or}
+use lib.ListN.{get_or}
 use lib.Ieee.{Float}
 use Rattle.meaning.proofs.Values.{inside}
 use Rattle.field.specs.declared.Answer.TheVariants.{Done}
@@ -24,7 +24,8 @@ use Rattle.preprocess.specs.Working.{with_no_effect, preprocess}
 use Rattle.preprocess.specs.Elsewhere.{SameElsewhere}
 use Rattle.preprocess.specs.Call.{preprocess_call}
 use Rattle.preprocess.proofs.Blind.{ends_touch, closure_blind, closure_leaves}
-use Rattle.preprocess.proofs.Idle.{idle_start, idle_extends, idle_passes, idle_zero}
+use Rattle.preprocess.proofs.Idle.{idle_start, idle_extends, idle_passes}
+use Rattle.preprocess.proofs.Zeroed.{idle_zero}
 use Rattle.preprocess.proofs.Demands.{values_are}
 
 -- none of them is free where the work begins

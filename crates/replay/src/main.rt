@@ -1,6 +1,6 @@
 // Answers a stream of cases for the runs side by side with the Rust, a line a case (docs/CASES.md).
 //
-// `side_by_side/record crates/replay/stdin crates/replay/stdout CALLS` writes the recorded cases, and the Rust's answers to them.
+// `side-by-side/record crates/replay/stdin crates/replay/stdout CALLS` writes the recorded cases, and the Rust's answers to them.
 #![tactic(auto)]
 
 mod fresh;

@@ -1,5 +1,6 @@
 pub mod Choice
 pub mod Obeying
 pub mod Demands
+pub mod Unjoined
 pub mod Answers
 pub mod Worked

@@ -1,6 +1,6 @@
 -- Every best completion obeys what the calls find on an exact field, and what they list are records. Assumes nothing.
 use Prim.Native.Nat.{ℕ, ◌<◌}
-use mathlib.Core.Path.{◌≡◌, sym, ap, ◌∙◌}
+use mathlib.Core.Path.{◌≡◌, ap, ◌∙◌}
 use mathlib.Core.List.{List}
 use native.Mathlib.Omega.{arith}
 use lib.ListN.{get_or}
@@ -9,7 +9,6 @@ use Rattle.meaning.specs.Records.{Record, MeetsRecord}
 use Rattle.meaning.proofs.Values.{fixed}
 use Rattle.constraints.specs.Record.{Fit}
 use Rattle.field.specs.declared.Counted.TheVariants.{Counts}
-use Rattle.field.specs.declared.Grade.{Grade}
 use Rattle.field.specs.declared.Grade.TheVariants.{Exact}
 use Rattle.field.specs.Field.{Field, variables}
 use Rattle.field.specs.Grade.{grade_of, Serves}

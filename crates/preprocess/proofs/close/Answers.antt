@@ -2,7 +2,6 @@
 use native.Mathlib.Omega.{arith}
 use Rattle.run.proofs.Cells.{placed_start}
 use Rattle.run.proofs.Turns.{closed_values}
-use borrow.Author.Rules.{rules}
 use Rattle.preprocess.proofs.close.Goals as goal
 
 pub fill-requires : goal.fill-requires

@@ -2,7 +2,6 @@
 use mathlib.Core.Path.{◌∙◌}
 use Rattle.calls.proofs.Values.{tests_ready, ready_loose, refused_call, done_call}
 use Rattle.preprocess.proofs.Laws.{places_asked, ready_built}
-use borrow.Author.Rules.{rules}
 use Rattle.preprocess.proofs.preprocess.Goals as goal
 
 pub returns-in-Failed : goal.returns-in-Failed

@@ -1,6 +1,5 @@
 -- `fix_at` passes over a variable with a place, a weight or a value, and sets any other to 0. Assumes nothing.
 use Rattle.preprocess.proofs.Zeros.{placed_not, weighs_not, is_idle, not_meant, not_free, takes_zero}
-use borrow.Author.Rules.{rules}
 use Rattle.preprocess.proofs.fixing.fix_at.Goals as goal
 
 pub returns-then-u-i : goal.returns-then-u-i

@@ -1,10 +1,7 @@
 -- `fix_idle` fixes one variable a turn. Assumes nothing.
-use Prim.Native.Nat.{◌-◌}
-use mathlib.Core.Path.{sym, ◌∙◌}
-use native.Mathlib.Omega.{arith}
 use lib.ListN.{length}
 use Rattle.preprocess.specs.Working.{idle}
-use Rattle.preprocess.proofs.Zeros.{Fixes, fixes_start, fixes_turn, fixes_done, idle_fixed}
+use Rattle.preprocess.proofs.Zeros.{Fixes}
 use Rattle.preprocess.proofs.fixing.fix_idle.Given as goal
 
 abbrev pub invariant-loop-i : goal.invariant-loop-i
