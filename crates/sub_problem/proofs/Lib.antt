@@ -2,6 +2,7 @@ pub mod Numbering
 pub mod Shape
 pub mod Corresponds
 pub mod Worths
+pub mod Adjusted
 pub mod Objective
 pub mod Bests
 pub mod Demands

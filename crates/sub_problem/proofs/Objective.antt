@@ -24,7 +24,8 @@ use Rattle.shift.proofs.Picked.{picked_sum}
 use Rattle.sub_problem.proofs.Numbering.{back_below}
 use Rattle.sub_problem.proofs.Shape.{new_variables, new_entries, new_linear, new_row, new_column, new_quad, stood, row_free, column_free}
 use Rattle.sub_problem.proofs.Corresponds.{restrict_at, restrict_new, has_given}
-use Rattle.sub_problem.proofs.Worths.{weight_in, part, given_part, given_linear, constant_in, free_end_below, adjusted_worth, constant_worth}
+use Rattle.sub_problem.proofs.Worths.{weight_in, part, given_part, given_linear, constant_in, free_end_below, constant_worth}
+use Rattle.sub_problem.proofs.Adjusted.{adjusted_worth}
 
 -- what is worth a ledger is worth what is read of it
 all_read : {u : ℕ} {x : Float} {a : Whole} → Worth u x a → Worth u x (read u x)

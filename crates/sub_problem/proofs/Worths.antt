@@ -20,7 +20,7 @@ use Rattle.field.specs.Field.{Field, variables, entries, linear_of, row_end, col
 use Rattle.field.specs.Grade.{Weighs}
 use Rattle.field.proofs.Exact.{weighs_read, weighs_under}
 use Rattle.shift.specs.Shifted.{WholeIn}
-use Rattle.sub_problem.specs.Reduced.{value_of, lone, lone_at, given_at, free_end, given_end, half_of, into_gathered, gathered_to, adjusted, given_to, with_given, constant_to, constant}
+use Rattle.sub_problem.specs.Reduced.{value_of, lone, lone_at, given_at, free_end, given_end, half_of, into_gathered, gathered_to, given_to, with_given, constant_to, constant}
 
 -- ---- products with a value
 
@@ -83,7 +83,7 @@ module _ {u : ℕ} {F : Field} {s : List ℕ} (S : Shaped F) (w : WholeIn u F) (
       let o = once k h j in
       times_worth (get_or s j 0) (omega (arith, start.small j)) (half_worth (weighs_read (w.quad k h)) (omega arith)) (omega arith)
 
-  part_under : (i k : ℕ) → k < entries F → Under (2 ^ 32) (part u F s i k)
+  pub part_under : (i k : ℕ) → k < entries F → Under (2 ^ 32) (part u F s i k)
   part_under i k h = only_under (2 ^ 32) (lone_at F s k) _ (only_under (2 ^ 32) (eqb (free_end F s k) i) _ (once k h (given_end F s k)))
 
   pub gathered_worth : (k : ℕ) → k ≤ entries F → (i : ℕ) → i < variables F → Worth u (get_or (gathered_to F s k) i nan) (sum k (part u F s i))
@@ -103,14 +103,6 @@ module _ {u : ℕ} {F : Field} {s : List ℕ} (S : Shaped F) (w : WholeIn u F) (
             (add_worth (rest (free_end F s k) (free_end_below S s k (omega arith))) (half_value k (omega arith) (given_end F s k)) (omega (arith, rw z at under, S.few_entries)))
         | no n ↦ rw (ne_eqb (free_end F s k) i (λ z. n (sym z)), get_or-set_other (gathered_to F s k) (free_end F s k) i (add binary64 (get_or (gathered_to F s k) (free_end F s k) nan) (mul binary64 (half_of F k) (value_of s (given_end F s k)))) nan n) (as_worth (rest i l) (omega arith))
       ]
-
-  -- THE NEW WEIGHTS: what the entries put in, and c
-  pub adjusted_worth : (i : ℕ) → i < variables F → Worth u (adjusted F s i) (sum (entries F) (part u F s i) ⊕ read u (linear_of F i))
-  unfolding adjusted
-  adjusted_worth i l =
-      let under = sum_under (2 ^ 32) (entries F) (part u F s i) (λ j b. part_under i j b) in
-      let c = weighs_under (w.linear i l) in
-      add_worth (gathered_worth (entries F) (omega arith) i l) (weighs_read (w.linear i l)) (omega (arith, S.few_entries))
 
   -- ---- the constant
 
