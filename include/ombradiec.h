@@ -81,7 +81,7 @@ typedef uint64_t ombradiec_answer;
 #define OMBRADIEC_WEIGHTS 5   /* a weight is not finite */
 #define OMBRADIEC_SUM 18      /* the weights at one place have a sum that is not finite */
 #define OMBRADIEC_START 6     /* the start values are not n long, or a byte is above 2; a record's bounds are not 2n long */
-#define OMBRADIEC_ARGUMENT 7  /* a probed, pinned or released variable, its value, or the constraints are not as the call asks */
+#define OMBRADIEC_ARGUMENT 7  /* a variable, a value or a constraint is not as the call asks */
 #define OMBRADIEC_SCRATCH 8   /* a scratch is too short */
 #define OMBRADIEC_INEXACT 12  /* the field is inexact */
 #define OMBRADIEC_UNFORCED 13 /* the variable is not below n, or is free at the end */
@@ -95,7 +95,7 @@ static inline const char *ombradiec_refusal_text(int number)
     case OMBRADIEC_DONE:
         return "done";
     case OMBRADIEC_VARIABLES:
-        return "there are more than 4,096 variables, in allow more than 1,024";
+        return "there are more than 4,096 variables";
     case OMBRADIEC_LISTS:
         return "the entry lists differ in length, or have more than 32,768 entries";
     case OMBRADIEC_DIAGONAL:
@@ -103,9 +103,9 @@ static inline const char *ombradiec_refusal_text(int number)
     case OMBRADIEC_WEIGHTS:
         return "a weight is not finite";
     case OMBRADIEC_START:
-        return "the start values are not one 0, 1 or 2 for each variable, or a record's bounds are not two for each";
+        return "the start values are not one 0, 1 or 2 for each variable";
     case OMBRADIEC_ARGUMENT:
-        return "a probed, pinned or released variable, its value, or a list of constraints is not as the call asks";
+        return "a probed variable, a probed value or a constraint is not as the call asks";
     case OMBRADIEC_SCRATCH:
         return "a scratch is too short";
     case OMBRADIEC_ROOM:

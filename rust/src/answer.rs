@@ -254,21 +254,17 @@ impl fmt::Display for Refusal {
             write!(f, "entry {}, from 0: ", at)?;
         }
         f.write_str(match self {
-            Refusal::Variables => "there are more than 4,096 variables, in allow more than 1,024",
+            Refusal::Variables => "there are more than 4,096 variables, or for allow more than 1,024",
             Refusal::Lists => "the entry lists differ in length, or have more than 32,768 entries",
             Refusal::Row { .. } => "its row is not a variable",
             Refusal::Column { .. } => "its column is not a variable",
             Refusal::Repeat { .. } => "it has the same place as the entry before",
             Refusal::Order { .. } => "it is out of order: entries rise by column, then row",
-            Refusal::Diagonal => "an entry is on the diagonal: its row is its column",
+            Refusal::Diagonal => "an entry is on the diagonal",
             Refusal::Weights => "a weight is not finite",
             Refusal::Sum => "the weights at one place have a sum that is not finite",
-            Refusal::Start => {
-                "the start values are not one 0, 1 or 2 for each variable, or a record's bounds are not two for each"
-            }
-            Refusal::Argument => {
-                "a probed, pinned or released variable, its value, or a list of constraints is not as the call asks"
-            }
+            Refusal::Start => "the start values are not one 0, 1 or 2 for each variable",
+            Refusal::Argument => "a variable, a value or a constraint is not as the call asks",
             Refusal::Scratch => "a scratch is too short",
             Refusal::Inexact => "the field is inexact",
             Refusal::Unforced => "the variable is none of the field, or is free at the end",

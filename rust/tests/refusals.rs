@@ -194,24 +194,6 @@ fn allowing_takes_its_own_limits() {
 fn a_refusal_says_why() {
     assert_eq!(Refusal::Clash.to_string(), "the constraints clash");
     assert_eq!(Refusal::Room { enough: 12 }.to_string(), "an answer list does not fit: 12 items are enough");
-    // The words are those of the one list, but where a position stands before them or the room behind.
-    let list = include_str!("../../tools/refusals");
-    for refusal in [
-        Refusal::Variables,
-        Refusal::Lists,
-        Refusal::Diagonal,
-        Refusal::Weights,
-        Refusal::Sum,
-        Refusal::Start,
-        Refusal::Argument,
-        Refusal::Scratch,
-        Refusal::Inexact,
-        Refusal::Unforced,
-        Refusal::Clash,
-    ] {
-        let line = format!("{} {}", refusal.number(), refusal);
-        assert!(list.lines().any(|known| known == line), "{}", line);
-    }
 }
 
 #[cfg(feature = "std")]
