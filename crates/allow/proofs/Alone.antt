@@ -6,7 +6,6 @@ use mathlib.Core.List.{List}
 use native.Mathlib.Decide.{dec_lt, ℕ_discrete}
 use native.Mathlib.Omega.{arith}
 use lib.ListN.{length, get_or, get_or-eq_default}
-use Rattle.field.specs.declared.Checked.TheVariants.{Passed, Failed}
 use Rattle.field.specs.declared.Refusal.{Refusal}
 use Rattle.field.specs.declared.Refusal.TheVariants.{Clash}
 use Rattle.meaning.specs.Free.{frees}
@@ -21,11 +20,12 @@ use Rattle.propagation.proofs.Demands as propagation
 use Rattle.reaching.specs.Reach.{Reach, Alone}
 use Rattle.reaching.proofs.Reach.{rules_turn}
 use Rattle.reaching.proofs.Alone.{holds_reach, reach_holds, clash_exactly, settled_count}
-use Rattle.allow.specs.declared.Allowed.TheVariants.{Refuses}
+use Rattle.std.specs.Prelude.{Err}
 use Rattle.allow.specs.Call.{allow_call, count_at}
 use Rattle.allow.proofs.Demands.{done_when, ends, count_is}
+use Rattle.field.specs.Answers.{passed}
 
-module _ (n : ℕ) (list a c w u : List ℕ) (done : (r : Refusal) → (allow_call n list a c w u).answer ≡ Refuses r → ⊥)
+module _ (n : ℕ) (list a c w u : List ℕ) (done : (r : Refusal) → (allow_call n list a c w u).answer ≡ Err r → ⊥)
     {i v : ℕ} {s : List ℕ} (alone : Alone n i v s) (u' : List ℕ) (words_room : 16 * n + 8 * room list + 16 ≤ length u') where
   small : (j : ℕ) → get_or s j 0 ≤ 2
   small j = elim (dec_lt j n) [ yes h ↦ among h | no h ↦ omega (arith, get_or-eq_default s 0 {n = j} (omega (arith, alone.as_long))) ]
@@ -43,7 +43,7 @@ module _ (n : ℕ) (list a c w u : List ℕ) (done : (r : Refusal) → (allow_ca
   fits = rules_fit (records list) (ends n list a c w u done)
 
   -- Theorem. Propagation from the literal alone answers 10 exactly if the literal reaches its other value.
-  pub alone_clash : ((propagate_call s list u').answer ≡ Failed Clash) ↔ Reach (rules list) i v i (1 - v)
+  pub alone_clash : ((propagate_call s list u').answer ≡ Err Clash) ↔ Reach (rules list) i v i (1 - v)
   alone_clash =
       let t = propagation.clash_when s list u' in
       let z = clash_exactly fits alone (rules_turn (records list)) in
@@ -51,7 +51,7 @@ module _ (n : ℕ) (list a c w u : List ℕ) (done : (r : Refusal) → (allow_ca
 
   module _ (free : Reach (rules list) i v i (1 - v) → ⊥) where
     -- Theorem. Otherwise propagation from the literal alone is done.
-    pub alone_done : (propagate_call s list u').answer ≡ Passed
+    pub alone_done : (propagate_call s list u').answer ≡ passed
     alone_done = (propagation.done_when s list u').1 (ready, λ b. free ((clash_exactly fits alone (rules_turn (records list))).0 b))
 
     settled : Settled (rules list) s (propagate_call s list u').lent.values

@@ -1,12 +1,13 @@
 -- The choices, the lowest contradictory variable and the counts, turn by turn. Assumes nothing.
 use mathlib.Core.Path.{◌≡◌, refl, sym, ap, ◌∙◌}
 use mathlib.Core.Bool.{Bool, true, false, cond, ◌||◌}
-use mathlib.Core.List.{List, [], ◌∷◌, ◌++◌}
+use mathlib.Core.List.{List, [], ◌∷◌}
 use Prim.Native.Nat.{ℕ, zero, suc, ◌+◌, ◌*◌, ◌<◌, ◌≤◌}
 use native.Mathlib.Numerals.{add-one}
 use native.Mathlib.Omega.{arith}
-use lib.ListN.{length, get_or, set, replicate, length-set, length-append, length-replicate}
+use lib.ListN.{length, get_or, set, length-set, length-append}
 use borrow.Author.Tests.{eq-eqb, ne_eqb}
+use Rattle.std.specs.Int.{from_bool}
 use Rattle.scratch.specs.Over.{over}
 use Rattle.scratch.proofs.Over.{over_push}
 use Rattle.reaching.specs.Via.{literal, bit, count_below, any_below, choices_lead, must, picked, contradicts, first_contradictory}
@@ -14,7 +15,7 @@ use Rattle.reaching.proofs.Truth.{any_same}
 use Rattle.reaching.proofs.Picked.{picked_length, picked_at, picked_kept, first_stays, first_here, first_not}
 use Rattle.bit_rows.specs.Rows.{bit_in, Holding, joined}
 use Rattle.allow.specs.Answer.{counts_to}
-use Rattle.allow.specs.Choice.{Blank, wants, Choosing, Seeking, Numbering, Twos}
+use Rattle.allow.specs.Choice.{Blank, wants, Choosing, Seeking, Numbering}
 
 pub choosing_start : {n : ℕ} {w : List ℕ} (a : List ℕ) → Blank n w → Choosing n w a 0 w a
 unfolding choices_lead any_below picked over
@@ -60,9 +61,6 @@ choosing_turn {n} {w₀} {a₀} {w} {a} {w₁} {i} {v} few room hi s e h =
     list : set a i v ≡ over (picked r (i + 1)) a₀
     list = rw (add-one, s.list, is) (over_push (picked r i) a₀ i (bit (must r (picked r i) i)) (picked_length r i) (omega arith))
 
-pub choosing_done : {n : ℕ} {w₀ a₀ w a : List ℕ} {i : ℕ} → n ≤ i → Choosing n w₀ a₀ i w a → a ≡ over (picked (bit_in w₀) n) a₀
-choosing_done {n} {i = i} h s = let e : i ≡ n = omega (arith, s.within) in rw e at s.list
-
 -- ---- both ways
 
 pub seeking_start : (r : ℕ → ℕ → Bool) (n : ℕ) → Seeking r n 0
@@ -74,9 +72,6 @@ seeking_turn {r} {n} {i} h s b = record { within = omega arith; none = rw add-on
 
 pub seeking_found : {r : ℕ → ℕ → Bool} {n i : ℕ} → i < n → Seeking r n i → contradicts r i ≡ true → i ≡ first_contradictory r n
 seeking_found {r} {n} {i} h s b = let e = first_here r i s.none b in sym (first_stays r (suc i) n (omega arith) (omega arith) ∙ e)
-
-pub seeking_done : {r : ℕ → ℕ → Bool} {n i : ℕ} → n ≤ i → Seeking r n i → n ≡ first_contradictory r n
-seeking_done {r} {n} {i} h s = let e : i ≡ n = omega (arith, s.within) in sym (rw e at s.none)
 
 -- ---- counts
 
@@ -97,34 +92,16 @@ numbering_turn {r} {m} {a} {x} {c₀} {c} h room s e = record {
   list = rw (add-one, s.list, e) (over_push (counts_to r 2048 a) c₀ a (count_below (r a) 2048) (counts_length r 2048 a) (omega arith));
 }
 
-pub numbering_done : {r : ℕ → ℕ → Bool} {m a : ℕ} {c₀ c : List ℕ} → m ≤ a → Numbering r m c₀ a c → c ≡ over (counts_to r 2048 m) c₀
-numbering_done {r} {m} {a} h s = let e : a ≡ m = omega (arith, s.within) in rw e at s.list
-
--- ---- 2 everywhere
-
-more_twos : (i : ℕ) → ◌≡◌ {A = List ℕ} (replicate i 2 ++ (2 ∷ [])) (replicate (suc i) 2)
-more_twos zero = refl
-more_twos (suc i) = ap (λ (x : List ℕ). 2 ∷ x) (more_twos i)
-
-pub twos_start : (n : ℕ) (a : List ℕ) → Twos n a 0 a
-unfolding over
-twos_start n a = record { within = omega arith; as_long = refl; list = refl }
-
-pub twos_turn : {n : ℕ} {a₀ a : List ℕ} {i : ℕ} → i < n → n ≤ length a₀ → Twos n a₀ i a → Twos n a₀ (i + 1) (set a i 2)
-twos_turn {n} {a₀} {a} {i} h room t = record {
-  within = omega arith;
-  as_long = length-set a i 2 ∙ t.as_long;
-  list = rw (add-one, t.list) (over_push (replicate i 2) a₀ i 2 (length-replicate i 2) (omega arith) ∙ ap (λ (x : List ℕ). over x a₀) (more_twos i));
-}
-
-pub twos_done : {n : ℕ} {a₀ a : List ℕ} {i : ℕ} → n ≤ i → Twos n a₀ i a → a ≡ over (replicate n 2) a₀
-twos_done {n} {i = i} h t = let e : i ≡ n = omega (arith, t.within) in rw e at t.list
-
 -- ---- tests, as the code has them
 
-pub wants_two : (w : List ℕ) (n i : ℕ) {v : ℕ} → v ≡ bit (wants w n i) → v < 2
-wants_two w n i e = rw e (two (wants w n i))
+-- the choice as a number
+pub wants_number : (w : List ℕ) (n i : ℕ) {v : Bool} {k : ℕ} → v ≡ wants w n i → k ≡ from_bool v → (k ≡ bit (wants w n i)) × (k < 2)
+wants_number w n i e q = let z = q ∙ ap from_bool e ∙ told (wants w n i) in (z, omega (arith, z, two (wants w n i)))
   where
+    told : (b : Bool) → from_bool b ≡ bit b
+    told true = refl
+    told false = refl
+
     two : (b : Bool) → bit b < 2
     two true = omega arith
     two false = omega arith
@@ -137,14 +114,10 @@ pub both_not : (r : ℕ → ℕ → Bool) (i : ℕ) {h : Bool} → h ≡ r (lite
 unfolding contradicts
 both_not r i p q = let e : r (literal i 0) (literal i 1) ≡ false = sym p ∙ q in rw e refl
 
-pub wants_own : (w : List ℕ) (n i : ℕ) {h : Bool} → h ≡ bit_in w (literal i 0) (literal i 1) → h ≡ true → 1 ≡ bit (wants w n i)
+pub wants_own : (w : List ℕ) (n i : ℕ) {h : Bool} → h ≡ bit_in w (literal i 0) (literal i 1) → h ≡ true → h ≡ wants w n i
 unfolding wants
-wants_own w n i p q = let e : bit_in w (literal i 0) (literal i 1) ≡ true = sym p ∙ q in rw e refl
+wants_own w n i p q = let e : bit_in w (literal i 0) (literal i 1) ≡ true = sym p ∙ q in rw e q
 
-pub wants_last : (w : List ℕ) (n i : ℕ) {h k : Bool} → h ≡ bit_in w (literal i 0) (literal i 1) → h ≡ false → k ≡ bit_in w (2 * n) (literal i 1) → k ≡ true → 1 ≡ bit (wants w n i)
+pub wants_last : (w : List ℕ) (n i : ℕ) {h k : Bool} → h ≡ bit_in w (literal i 0) (literal i 1) → h ≡ false → k ≡ bit_in w (2 * n) (literal i 1) → k ≡ wants w n i
 unfolding wants
-wants_last w n i p q s t = let e : bit_in w (literal i 0) (literal i 1) ≡ false = sym p ∙ q in let f : bit_in w (2 * n) (literal i 1) ≡ true = sym s ∙ t in rw (e, f) refl
-
-pub wants_none : (w : List ℕ) (n i : ℕ) {h k : Bool} → h ≡ bit_in w (literal i 0) (literal i 1) → h ≡ false → k ≡ bit_in w (2 * n) (literal i 1) → k ≡ false → 0 ≡ bit (wants w n i)
-unfolding wants
-wants_none w n i p q s t = let e : bit_in w (literal i 0) (literal i 1) ≡ false = sym p ∙ q in let f : bit_in w (2 * n) (literal i 1) ≡ false = sym s ∙ t in rw (e, f) refl
+wants_last w n i p q s = let e : bit_in w (literal i 0) (literal i 1) ≡ false = sym p ∙ q in rw e s

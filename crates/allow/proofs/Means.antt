@@ -7,8 +7,6 @@ use mathlib.Core.List.{List}
 use native.Mathlib.Decide.{dec_lt}
 use native.Mathlib.Omega.{arith}
 use Rattle.scratch.proofs.Means.{le_is, both_is}
-use Rattle.field.specs.declared.Checked.{Checked}
-use Rattle.field.specs.declared.Checked.TheVariants.{Passed}
 use Rattle.field.specs.declared.Refusal.TheVariants.{Variables, Argument, Scratch, Room}
 use Rattle.field.specs.Table.{tested}
 use Rattle.field.specs.Tests.{words_fit}
@@ -17,9 +15,10 @@ use Rattle.calls.specs.Call.{without}
 use Rattle.constraints.specs.Record.{room}
 use Rattle.propagation.proofs.Means.{listed_is}
 use Rattle.allow.specs.Call.{allow_tests, Ready, fits}
+use Rattle.field.specs.Answers.{Answer, passed}
 
 -- Theorem. 1, 7 and 8 pass exactly if the variables are few, the records fit and both scratches are long enough.
-pub ready_is : (n : ℕ) (list : List ℕ) (longs words : ℕ) → (tested (allow_tests n list longs words) ≡ Passed) ↔ Ready n list longs words
+pub ready_is : (n : ℕ) (list : List ℕ) (longs words : ℕ) → (tested (allow_tests n list longs words) ≡ passed) ↔ Ready n list longs words
 unfolding allow_tests words_fit
 ready_is n list longs words =
     let eight = pass_is Scratch _ _ (le_is (128 * n) longs) (last_is Scratch _ (le_is (16 * n + 8 * room list + 16) words)) in
@@ -28,7 +27,7 @@ ready_is n list longs words =
       λ r. t.1 (r.few, (r.listed, (r.longs_room, r.words_room))),
     )
 
-pub passed_ready : (n : ℕ) (list : List ℕ) (longs words : ℕ) {k : Checked} → k ≡ tested (allow_tests n list longs words) → k ≡ Passed → Ready n list longs words
+pub passed_ready : (n : ℕ) (list : List ℕ) (longs words : ℕ) {k : Answer Unit} → k ≡ tested (allow_tests n list longs words) → k ≡ passed → Ready n list longs words
 passed_ready n list longs words tests e = (ready_is n list longs words).0 (sym tests ∙ e)
 
 -- 9

@@ -1,9 +1,9 @@
 -- What the call `allow` answers and leaves, as one function of what it is given, for every input. Assumes nothing.
-use Rattle.std.specs.Prelude.{ℕ, ◌+◌, ◌*◌, ◌≤◌, Bool, ◌&&◌, List, [], ◌∷◌, ◌++◌, leb, length, get_or, take}
+use Rattle.std.specs.Prelude.{ℕ, ◌+◌, ◌*◌, ◌≤◌, Bool, ◌&&◌, List, [], ◌∷◌, ◌++◌, leb, length, get_or, take, Ok, Err}
 use Rattle.scratch.specs.Cleared.{cleared}
 use Rattle.scratch.specs.Over.{over}
 use Rattle.field.specs.declared.Refusal.TheVariants.{Variables, Argument, Scratch, Room}
-use Rattle.field.specs.Answers.{number_of}
+use Rattle.field.specs.Answers.{Answer}
 use Rattle.field.specs.Table.{Test, test}
 use Rattle.field.specs.Tests.{words_fit}
 use Rattle.calls.specs.Call as any
@@ -13,14 +13,7 @@ use Rattle.literals.specs.Ends.{rules}
 use Rattle.literals.specs.Listed.{Listed}
 use Rattle.propagation.specs.Tests.{constraints_fit}
 use Rattle.allow.specs.declared.Allowed.{Allowed}
-use Rattle.allow.specs.declared.Allowed.TheVariants.{Yes, No, Refuses}
 use Rattle.allow.specs.Answer.{allowed_of, assignment_of, counts_of}
-
--- the table's number of an answer; a no is done too
-abbrev pub allowed_number : Allowed → ℕ
-allowed_number Yes = 0
-allowed_number (No i) = 0
-allowed_number (Refuses r) = number_of r
 
 -- What is lent to `allow`: the assignment, the counts, the u64 words and the u32 words.
 pub record Lent : Type 0 where
@@ -35,10 +28,10 @@ lent a c w u = record { assignment = a; counts = c; longs = w; words = u }
 
 -- The answer of `allow`, and its four lent lists afterwards.
 abbrev pub Left : Type 0
-Left = any.Left Allowed Lent
+Left = any.Left (Answer Allowed) Lent
 
 -- What the call `allow` leaves, made of its answer and its four lent lists.
-abbrev pub left : Allowed → List ℕ → List ℕ → List ℕ → List ℕ → Left
+abbrev pub left : Answer Allowed → List ℕ → List ℕ → List ℕ → List ℕ → Left
 left r a c w u = any.left r (lent a c w u)
 
 -- 1 above 1,024 variables, 7 as in propagation, 8 with 128 words of 64 bits for each variable and the u32 scratch of propagation (rules 3.5 and 3.6)
@@ -70,9 +63,9 @@ allow_table n list places numbers longs words = allow_tests n list longs words +
 unfoldable pub allow_call : ℕ → List ℕ → List ℕ → List ℕ → List ℕ → List ℕ → Left
 allow_call n list a c w u =
     called
-    (usual Refuses (lent a c w u) (allow_tests n list (length w) (length u))
+    (usual Err (lent a c w u) (allow_tests n list (length w) (length u))
     (stage Room (fits n (length a) (length c)) (lent (cleared 0 a) (cleared 0 c) (cleared 0 w) (cleared 0 u)) ∷ [])
-    (left (allowed_of (rules list) n) (over (assignment_of (rules list) n) a) (over (counts_of (rules list) n) c) (cleared 0 w) (cleared 0 u)))
+    (left (Ok (allowed_of (rules list) n)) (over (assignment_of (rules list) n) a) (over (counts_of (rules list) n) c) (cleared 0 w) (cleared 0 u)))
 
 -- The assignment of n variables that the call leaves at the front of its list.
 abbrev pub assigned : ℕ → List ℕ → List ℕ → List ℕ → List ℕ → List ℕ → List ℕ

@@ -1,5 +1,5 @@
 -- What is read off closed rows, and where the loops that read them stand. Assumes nothing.
-use Rattle.std.specs.Prelude.{◌≡◌, Bool, false, ◌||◌, List, ℕ, ◌*◌, ◌<◌, ◌≤◌, length, replicate}
+use Rattle.std.specs.Prelude.{◌≡◌, Bool, false, ◌||◌, List, ℕ, ◌*◌, ◌<◌, ◌≤◌, length}
 use Rattle.meaning.specs.Literal.{Implication}
 use Rattle.scratch.specs.Over.{over}
 use Rattle.reaching.specs.Via.{literal, choices_lead, picked, first_contradictory}
@@ -34,12 +34,6 @@ pub record Numbering (r : ℕ → ℕ → Bool) (m : ℕ) (c₀ : List ℕ) (a :
   pub within : a ≤ m
   pub as_long : length c ≡ length c₀
   pub list : c ≡ over (counts_to r 2048 a) c₀
-
--- Where the loop that writes 2 stands: the first i places of the list are 2.
-pub record Twos (n : ℕ) (a₀ : List ℕ) (i : ℕ) (a : List ℕ) : Type 0 where
-  pub within : i ≤ n
-  pub as_long : length a ≡ length a₀
-  pub list : a ≡ over (replicate i 2) a₀
 
 -- the answer, and what the lists a₀ and c₀ hold after it
 pub record Answered (E : List Implication) (n : ℕ) (a₀ c₀ : List ℕ) (r : Allowed) (a c : List ℕ) : Type 0 where

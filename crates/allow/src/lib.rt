@@ -3,8 +3,7 @@
 
 mod reading;
 
-ghost use Rattle.std.specs.Prelude.{◌≡◌, ◌*◌, ◌≤◌, length, replicate};
-ghost use Rattle.scratch.specs.Over.{over};
+ghost use Rattle.std.specs.Prelude.{◌≡◌, ◌*◌, ◌≤◌, length};
 ghost use Rattle.field.specs.Table.{tested};
 ghost use Rattle.literals.specs.Listed.{Listed};
 ghost use Rattle.literals.specs.Ends.{rules};
@@ -12,33 +11,32 @@ ghost use Rattle.arrows.specs.Marks.{Wide};
 ghost use Rattle.allow.specs.Choice.{Answered};
 ghost use Rattle.allow.specs.Call.{left, fits as fits_in, allow_tests, allow_call};
 
-use field::{Checked, Refusal};
+use field::{Answer, Refusal};
 
-// An assignment meets every record; none does, by this variable; or the refusal.
+// An assignment meets every record; or none does, by this variable. It is no Option, whose None would say yes.
 #[derive(Clone, Copy)]
 pub enum Allowed {
     Yes,
     No(usize),
-    Refuses(Refusal),
 }
 
 // 1, 7 and 8
-fn tests(n: usize, list: &[u16], longs: usize, words: usize) -> Checked
+fn tests(n: usize, list: &[u16], longs: usize, words: usize) -> Answer<()>
     ensures { result ≡ tested (allow_tests n list.now longs words) }
 {
     if n > 1024 {
-        return Checked::Failed(Refusal::Variables);
+        return Err(Refusal::Variables);
     }
     if !propagation::tests::constraints_fit(n, list) {
-        return Checked::Failed(Refusal::Argument);
+        return Err(Refusal::Argument);
     }
     if 128 * n > longs {
-        return Checked::Failed(Refusal::Scratch);
+        return Err(Refusal::Scratch);
     }
     if !field::tests::words_fit(n, list.len() / 3, words) {
-        return Checked::Failed(Refusal::Scratch);
+        return Err(Refusal::Scratch);
     }
-    Checked::Passed
+    Ok(())
 }
 
 // 9
@@ -46,20 +44,7 @@ fn fits(n: usize, places: usize, numbers: usize) -> bool
     requires { n ≤ 1024 }
     ensures { result ≡ fits_in n places numbers }
 {
-    if n > places {
-        return false;
-    }
-    2 * n <= numbers
-}
-
-// Writes 2 for each of n variables.
-fn twos(assignment: &mut [u8], n: usize)
-    requires { n ≤ length assignment.old }
-    ensures { assignment.new ≡ over (replicate n 2) assignment.old }
-{
-    for i in 0..n {
-        assignment[i] = 2;
-    }
+    n <= places && 2 * n <= numbers
 }
 
 // The answer for records that fit, with the assignment and the counts at the front of their lists.
@@ -78,9 +63,8 @@ fn decide(
 {
     arrows::fill(list, n, w);
     reading::count_all(w, 2 * n, counts);
-    let i = reading::first_contradictory(w, n);
-    if i < n {
-        twos(assignment, n);
+    if let Some(i) = reading::first_contradictory(w, n) {
+        assignment[..n].fill(2);
         return Allowed::No(i);
     }
     reading::choose(w, n, assignment);
@@ -95,22 +79,19 @@ pub fn allow(
     counts: &mut [u16],
     w: &mut [u64],
     u: &mut [u32],
-) -> Allowed
+) -> Answer<Allowed>
     ensures { left result assignment.new counts.new w.new u.new ≡ allow_call variables constraints.now assignment.old counts.old w.old u.old }
 {
-    let checked = tests(variables, constraints, w.len(), u.len());
-    if let Checked::Failed(refusal) = checked {
-        return Allowed::Refuses(refusal);
-    }
+    tests(variables, constraints, w.len(), u.len())?;
     if !fits(variables, assignment.len(), counts.len()) {
-        scratch::clear_bytes(assignment);
-        scratch::clear_shorts(counts);
-        bit_rows::clear(w);
-        scratch::clear_words(u);
-        return Allowed::Refuses(Refusal::Room);
+        assignment.fill(0);
+        counts.fill(0);
+        w.fill(0);
+        u.fill(0);
+        return Err(Refusal::Room);
     }
     let answer = decide(constraints, variables, assignment, counts, w);
-    bit_rows::clear(w);
-    scratch::clear_words(u);
-    answer
+    w.fill(0);
+    u.fill(0);
+    Ok(answer)
 }

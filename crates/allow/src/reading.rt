@@ -1,7 +1,7 @@
 // What is read off the rows of what each literal reaches.
-ghost use Rattle.std.specs.Prelude.{◌≡◌, ◌+◌, ◌*◌, ◌<◌, ◌≤◌, length};
+ghost use Rattle.std.specs.Prelude.{◌≡◌, ◌+◌, ◌*◌, ◌<◌, ◌≤◌, length, MatchOption};
 ghost use Rattle.scratch.specs.Over.{over};
-ghost use Rattle.reaching.specs.Via.{bit, picked, contradicts as contradicts_by, first_contradictory as first_contradictory_of};
+ghost use Rattle.reaching.specs.Via.{picked, contradicts as contradicts_by, first_contradictory as first_contradictory_of};
 ghost use Rattle.bit_rows.specs.Rows.{bit_in};
 ghost use Rattle.arrows.specs.Marks.{Wide};
 ghost use Rattle.allow.specs.Answer.{counts_to};
@@ -13,38 +13,29 @@ fn contradicts(w: &[u64], i: usize) -> bool
     requires i_in_bounds { i * 64 + 64 ≤ length w.now }
     ensures { result ≡ contradicts_by (bit_in w.now) i }
 {
-    if bit_rows::has(w, 2 * i + 0, 2 * i + 1) {
-        return bit_rows::has(w, 2 * i + 1, 2 * i + 0);
-    }
-    false
+    bit_rows::has(w, 2 * i + 0, 2 * i + 1) && bit_rows::has(w, 2 * i + 1, 2 * i + 0)
 }
 
-// The lowest variable each of whose literals leads to the other, or n.
-pub fn first_contradictory(w: &[u64], n: usize) -> usize
+// The lowest of n variables each of whose literals leads to the other.
+pub fn first_contradictory(w: &[u64], n: usize) -> Option<usize>
     requires { Wide n w.now }
-    ensures { result ≡ first_contradictory_of (bit_in w.now) n }
+    ensures { MatchOption result (first_contradictory_of (bit_in w.now) n ≡ n) (λ i. (i < n) × (i ≡ first_contradictory_of (bit_in w.now) n)) }
 {
     for i in 0..n {
         if contradicts(w, i) {
-            return i;
+            return Some(i);
         }
     }
-    n
+    None
 }
 
 // The choice for variable i: 1 only if it must be.
-fn choice(w: &[u64], n: usize, i: usize) -> usize
+fn choice(w: &[u64], n: usize, i: usize) -> bool
     requires wide { Wide n w.now }
     requires i_lt_n { i < n }
-    ensures { result ≡ bit (wants w.now n i) }
+    ensures { result ≡ wants w.now n i }
 {
-    if bit_rows::has(w, 2 * i + 0, 2 * i + 1) {
-        return 1;
-    }
-    if bit_rows::has(w, 2 * n, 2 * i + 1) {
-        return 1;
-    }
-    0
+    bit_rows::has(w, 2 * i + 0, 2 * i + 1) || bit_rows::has(w, 2 * n, 2 * i + 1)
 }
 
 // The choices, in rising order; row 2n gathers what they lead to.
@@ -56,8 +47,8 @@ pub fn choose(w: &mut [u64], n: usize, assignment: &mut [u8])
 {
     for i in 0..n {
         let v = choice(w, n, i);
-        assignment[i] = v as u8;
-        bit_rows::join(w, 2 * n, 2 * i + v);
+        assignment[i] = u8::from(v);
+        bit_rows::join(w, 2 * n, 2 * i + usize::from(v));
     }
 }
 

@@ -3,7 +3,7 @@ use Prim.Native.Nat.{ℕ, suc, ◌+◌, ◌<◌, ◌≤◌}
 use mathlib.Core.Path.{◌≡◌, ap, ◌∙◌}
 use mathlib.Core.Logic.{◌↔◌}
 use mathlib.Core.Bool.{true, false}
-use mathlib.Core.List.{List, [], ◌∷◌}
+use mathlib.Core.List.{List, []}
 use native.Mathlib.Omega.{arith}
 use lib.ListN.{length, get_or, take}
 use lib.Ieee.{Float, binary64, mul}
@@ -12,7 +12,6 @@ use Rattle.weights.specs.Worth.{Worth, four64}
 use Rattle.expansion.specs.Sum.{parts, invalid, plus}
 use Rattle.expansion.specs.Exact.{Totals}
 use Rattle.expansion.specs.Overflow.{Valid, Overflows}
-use Rattle.field.specs.declared.Counted.TheVariants.{Counts}
 use Rattle.field.specs.declared.Grade.{Grade}
 use Rattle.field.specs.Field.{Field, variables, entries, linear_of, Shaped}
 use Rattle.field.specs.Tests.{Finite, Admitted}
@@ -20,7 +19,7 @@ use Rattle.field.specs.Grade.{ExactIn}
 use Rattle.field.specs.Reading.{whole_of}
 use Rattle.places.specs.Places.{places}
 use Rattle.parts.specs.Walk.{opened, components}
-use Rattle.parts.specs.Part.{has, Partition}
+use Rattle.parts.specs.Part.{has}
 use Rattle.parts.proofs.Component.{reached_open}
 use Rattle.parts.proofs.Going.{open_below}
 use Rattle.parts.proofs.Marks.{opened_long}
@@ -32,6 +31,7 @@ use Rattle.anchors.specs.Number.{sum_of, TurnsByNumber, HeldField, gather}
 use Rattle.anchors.proofs.Balance as balance
 use Rattle.anchors.proofs.Number as number
 use Rattle.anchors.proofs.Demands.{done_when, done_leaves, anchors_by_rule}
+use Rattle.field.specs.Answers.{counted_answer}
 
 -- ---- one variable
 
@@ -82,7 +82,7 @@ module _ {F : Field} (S : Shaped F) (fine : Finite F) (h : HeldField F) {s : Lis
 
 -- DEMAND 2, over numbers. Of the components, in the order of their lowest variables, each that is large enough, has no start value, at no variable an overflow and at every
 -- variable the number 0 has one anchor, the variable that leads; and no other has one.
-module _ (F : Field) (s : List ℕ) (least : ℕ) (list : List ℕ) (f : List Float) (u : List ℕ) (g : Grade) (k : ℕ) (e : (anchors_call F s least list f u).answer ≡ Counts g k)
+module _ (F : Field) (s : List ℕ) (least : ℕ) (list : List ℕ) (f : List Float) (u : List ℕ) (g : Grade) (k : ℕ) (e : (anchors_call F s least list f u).answer ≡ counted_answer g k)
     (h : HeldField F) where
   admitted : Admitted F s (length f) (length u)
   admitted = ((done_when F s least list f u).0 (ap (λ (x : Left). x.answer) (done_leaves F s least list f u g k e))).0

@@ -19,7 +19,6 @@ use Rattle.meaning.specs.Part.{Safe}
 use Rattle.meaning.specs.Symmetry.{balance}
 use Rattle.expansion.specs.Sum.{parts}
 use Rattle.expansion.specs.Exact.{total}
-use Rattle.field.specs.declared.Counted.TheVariants.{Counts, Refuses}
 use Rattle.field.specs.declared.Grade.{Grade}
 use Rattle.field.specs.declared.Grade.TheVariants.{Exact}
 use Rattle.field.specs.declared.Refusal.{Refusal}
@@ -32,7 +31,7 @@ use Rattle.field.specs.Reading.{whole_of}
 use Rattle.field.proofs.Table.{group_is, last_is}
 use Rattle.field.proofs.Means.{admitted_passes}
 use Rattle.calls.specs.Call.{table, no_stage}
-use Rattle.calls.proofs.Answers.{same_refuses, counts_apart}
+use Rattle.calls.proofs.Answers.{same_refused, done_apart, same_counted}
 use Rattle.calls.proofs.Open.{never_room}
 use Rattle.calls.proofs.Call as any
 use Rattle.calls.proofs.Usual as usual
@@ -46,6 +45,8 @@ use Rattle.anchors.proofs.Ruling.{anchors_ruled, rule_one}
 use Rattle.anchors.proofs.Turning.{either_stands}
 use Rattle.anchors.proofs.Balance.{balanced_is, plain_sum_tells}
 use Rattle.anchors.proofs.Certain.{balance_certain, balance_exactly}
+use Rattle.field.specs.Answers.{counted_answer}
+use Rattle.std.specs.Prelude.{Err}
 
 -- Theorem. Any two results that the promise permits are equal.
 pub one_result : (F : Field) (s : List ℕ) (least : ℕ) (list : List ℕ) (f : List Float) (u : List ℕ) (x y : Left) → x ≡ anchors_call F s least list f u → y ≡ anchors_call F s least list f u → x ≡ y
@@ -53,47 +54,44 @@ one_result F s least list f u = any.one_result (anchors_call F s least list f u)
 
 -- ---- what an answer says
 
-same_count : {g h : Grade} {k l : ℕ} → Counts g k ≡ Counts h l → (g ≡ h) × (k ≡ l)
-same_count {g} {h} {k} {l} e = let a : g ≡ h = cc in let b : k ≡ l = cc in (a, b)
-
 module _ (F : Field) (s : List ℕ) (least : ℕ) (list : List ℕ) (f : List Float) (u : List ℕ) where
   -- Theorem. DEMAND 1. The call is refused with r exactly if the tests before r's own pass, and its own fails: 9 is the last, for more anchors than the list has places.
-  pub refused_when : (r : Refusal) → ((anchors_call F s least list f u).answer ≡ Refuses r) ↔ FirstToFail (anchor_table F s least list (length f) (length u)) r
+  pub refused_when : (r : Refusal) → ((anchors_call F s least list f u).answer ≡ Err r) ↔ FirstToFail (anchor_table F s least list (length f) (length u)) r
   unfolding anchors_call table
-  refused_when = usual.refused_when Refuses _ _ _ _ same_refuses counts_apart refl
+  refused_when = usual.refused_when Err _ _ _ _ same_refused done_apart refl
 
   -- Theorem. A refusal by another test changes nothing lent.
-  pub refused_leaves : (r : Refusal) → r ≢ Room → (anchors_call F s least list f u).answer ≡ Refuses r → anchors_call F s least list f u ≡ left (Refuses r) list f u
+  pub refused_leaves : (r : Refusal) → r ≢ Room → (anchors_call F s least list f u).answer ≡ Err r → anchors_call F s least list f u ≡ left (Err r) list f u
   unfolding anchors_call
-  refused_leaves r n e = usual.refused_leaves Refuses _ _ _ _ same_refuses counts_apart r (other_stage n no_stage) e
+  refused_leaves r n e = usual.refused_leaves Err _ _ _ _ same_refused done_apart r (other_stage n no_stage) e
 
   -- Theorem. It is 9 exactly if all other tests pass and there are more anchors than places.
-  pub room_when : ((anchors_call F s least list f u).answer ≡ Refuses Room) ↔ (Admitted F s (length f) (length u) × (length list < length (anchors_of F s least)))
+  pub room_when : ((anchors_call F s least list f u).answer ≡ Err Room) ↔ (Admitted F s (length f) (length u) × (length list < length (anchors_of F s least)))
   unfolding anchors_call
   room_when =
-      let t = usual.last_when Refuses _ _ Room _ _ same_refuses counts_apart (never_room F s (length f) (length u)) (fits F s least list) in
+      let t = usual.last_when Err _ _ Room _ _ same_refused done_apart (never_room F s (length f) (length u)) (fits F s least list) in
       let p = admitted_passes F s (length f) (length u) in
       ((λ e. (p.0 (t.0 e).0, leb-false _ _ (t.0 e).1)), λ h. t.1 (p.1 h.0, lt-leb _ _ h.1))
 
   -- Theorem. On 9 the list and both scratches are all zeros.
-  pub room_leaves : (anchors_call F s least list f u).answer ≡ Refuses Room → anchors_call F s least list f u ≡ left (Refuses Room) (cleared 0 list) (cleared zero64 f) (cleared 0 u)
+  pub room_leaves : (anchors_call F s least list f u).answer ≡ Err Room → anchors_call F s least list f u ≡ left (Err Room) (cleared 0 list) (cleared zero64 f) (cleared 0 u)
   unfolding anchors_call
-  room_leaves e = usual.later_leaves Refuses _ _ _ _ same_refuses counts_apart Room _ (never_room F s (length f) (length u)) (this_stage no_stage) e
+  room_leaves e = usual.later_leaves Err _ _ _ _ same_refused done_apart Room _ (never_room F s (length f) (length u)) (this_stage no_stage) e
 
   -- Theorem. It is done exactly if the field, the start values and both scratches are as the table asks, and the list has room; it then gives the grade and the count.
-  pub done_when : ((anchors_call F s least list f u).answer ≡ Counts (grade_of F) (length (anchors_of F s least))) ↔ (Admitted F s (length f) (length u) × (length (anchors_of F s least) ≤ length list))
+  pub done_when : ((anchors_call F s least list f u).answer ≡ counted_answer (grade_of F) (length (anchors_of F s least))) ↔ (Admitted F s (length f) (length u) × (length (anchors_of F s least) ≤ length list))
   unfolding anchors_call table
   done_when =
-      usual.done_when Refuses _ _ _ _ same_refuses counts_apart
+      usual.done_when Err _ _ _ _ same_refused done_apart
       (group_is (open_tests F s (length f) (length u)) _ (admitted_passes F s (length f) (length u)) (last_is Room _ (le_is (length (anchors_of F s least)) (length list))))
 
-  module _ (g : Grade) (k : ℕ) (e : (anchors_call F s least list f u).answer ≡ Counts g k) where
+  module _ (g : Grade) (k : ℕ) (e : (anchors_call F s least list f u).answer ≡ counted_answer g k) where
     -- Theorem. Then the anchors stand at the front of the list, what is past the last is unchanged, and both scratches are all zeros.
-    pub done_leaves : anchors_call F s least list f u ≡ left (Counts (grade_of F) (length (anchors_of F s least))) (over (anchors_of F s least) list) (cleared zero64 f) (cleared 0 u)
+    pub done_leaves : anchors_call F s least list f u ≡ left (counted_answer (grade_of F) (length (anchors_of F s least))) (over (anchors_of F s least) list) (cleared zero64 f) (cleared 0 u)
     unfolding anchors_call
-    done_leaves = usual.done_leaves Refuses _ _ _ _ same_refuses counts_apart (λ r z. counts_apart r (sym e ∙ z))
+    done_leaves = usual.done_leaves Err _ _ _ _ same_refused done_apart (λ r z. done_apart r (sym e ∙ z))
 
-    answered : Counts (grade_of F) (length (anchors_of F s least)) ≡ (anchors_call F s least list f u).answer
+    answered : counted_answer (grade_of F) (length (anchors_of F s least)) ≡ (anchors_call F s least list f u).answer
     answered = ap (λ (x : Left). x.answer) (sym done_leaves)
 
     -- The arguments are as the tests ask, the grade and the count are told, and the first k of the list are the anchors.
@@ -101,7 +99,7 @@ module _ (F : Field) (s : List ℕ) (least : ℕ) (list : List ℕ) (f : List Fl
     fit = (done_when.0 (sym answered)).0
 
     pub told : (grade_of F ≡ g) × (length (anchors_of F s least) ≡ k)
-    told = same_count (answered ∙ e)
+    told = same_counted (answered ∙ e)
 
     pub items : take k (anchors_call F s least list f u).lent.list ≡ anchors_of F s least
     items = ap (λ (x : Left). take k x.lent.list) done_leaves ∙ over_front (anchors_of F s least) list told.1
@@ -116,7 +114,7 @@ pub one_list : {F : Field} → Shaped F → Finite F → {s : List ℕ} {least :
 one_list S fine = rule_one S fine
 
 -- Theorem. DEMAND 3. On an exact field each anchor alone is 0 in some best completion and 1 in another.
-pub anchor_stands : (F : Field) (s : List ℕ) (least : ℕ) (list : List ℕ) (f : List Float) (u : List ℕ) (k : ℕ) → (anchors_call F s least list f u).answer ≡ Counts Exact k
+pub anchor_stands : (F : Field) (s : List ℕ) (least : ℕ) (list : List ℕ) (f : List Float) (u : List ℕ) (k : ℕ) → (anchors_call F s least list f u).answer ≡ counted_answer Exact k
     → {unit : ℕ} → Serves unit F → (j : ℕ) → j < k → (v : ℕ) → v < 2 → Safe (whole_of unit F) s (set s (get_or (anchors_call F s least list f u).lent.list j 0) v)
 anchor_stands F s least list f u k e serving j h v small =
     let d = fit F s least list f u Exact k e in

@@ -44,9 +44,6 @@ module _ {F : Field} {count : ℕ} {u : List ℕ} (M : Members F count u) where
   members_long : length (members_in F count u) ≡ count
   members_long = length_region (members_base F) count u M.room
 
-  pub member_index : (h : ℕ) → h < count → members_base F + h < length u
-  member_index h l = omega (arith, M.room)
-
   member_cons : (h : ℕ) → h < count → drop h (members_in F count u) ≡ get_or u (members_base F + h) 0 ∷ drop (h + 1) (members_in F count u)
   member_cons h l =
       rw (add-one h) (drop-cons (members_in F count u) h 0 (omega (arith, members_long))
@@ -55,18 +52,12 @@ module _ {F : Field} {count : ℕ} {u : List ℕ} (M : Members F count u) where
   members_end : (h : ℕ) → count ≤ h → drop h (members_in F count u) ≡ []
   members_end h l = drop_of_length-le (members_in F count u) {i = h} (omega (arith, members_long))
 
-  pub member_walkable : {i : ℕ} (h : ℕ) → h < count → i ≡ get_or u (members_base F + h) 0 → Walkable F i u
-  member_walkable h l e = record { shaped = M.shaped; adjacent = M.adjacent; below = rw e (M.below h l) }
-
 -- ---- whether all may turn
 
 pub record Turning (F : Field) (s : List ℕ) (count : ℕ) (u : List ℕ) (h : ℕ) : Type 0 where
   pub members : Members F count u
   pub within : h ≤ count
   pub left : all_turnable F s (drop h (members_in F count u)) ≡ all_turnable F s (members_in F count u)
-
-pub turning_start : {F : Field} {count : ℕ} {u : List ℕ} (s : List ℕ) → Members F count u → Turning F s count u 0
-turning_start s M = record { members = M; within = omega arith; left = refl }
 
 module _ {F : Field} {s : List ℕ} {count : ℕ} {u : List ℕ} {h : ℕ} (now : Turning F s count u h) where
   turned : {i : ℕ} → h < count → i ≡ get_or u (members_base F + h) 0
@@ -97,9 +88,6 @@ pub record Leading (F : Field) (count : ℕ) (u : List ℕ) (first : Leader) (h 
   pub members : Members F count u
   pub within : h ≤ count
   pub left : lead_over F now (drop h (members_in F count u)) ≡ lead_over F first (members_in F count u)
-
-pub leading_start : {F : Field} {count : ℕ} {u : List ℕ} (first : Leader) → Members F count u → Leading F count u first 0 first
-leading_start first M = record { members = M; within = omega arith; left = refl }
 
 module _ {F : Field} {count : ℕ} {u : List ℕ} {first now : Leader} {h : ℕ} (L : Leading F count u first h now) where
   pub leading_next : {i : ℕ} {w : Float} {next : Leader} → h < count → i ≡ get_or u (members_base F + h) 0 → w ≡ weight_of F i → next ≡ against now i w → Leading F count u first (h + 1) next

@@ -1,6 +1,6 @@
 -- THE SUM AS A NUMBER: where no f64 sum on the way overflows, what is added at a variable comes to 4c and q of each entry, 2q on the diagonal. Assumes nothing.
 use Prim.Native.Nat.{ℕ, suc, ◌+◌, ◌<◌, ◌≤◌}
-use mathlib.Core.Path.{◌≡◌, refl, sym, ap, ◌∙◌}
+use mathlib.Core.Path.{◌≡◌, refl, sym, ◌∙◌}
 use mathlib.Core.Logic.{◌↔◌}
 use mathlib.Core.Bool.{Bool, true, false, cond, false≢true}
 use mathlib.Core.List.{List, [], ◌∷◌, ◌++◌}
@@ -9,10 +9,10 @@ use lib.Dec.{T}
 use lib.ListN.{length, get_or, take, length-append}
 use lib.Ieee.{Float, binary64, mul, ne}
 use lib.Ieee.Scale.{finite}
-use Rattle.whole.specs.Whole.{Whole, ◌⊕◌, ◌⊙◌, ◌≈◌, Zero}
+use Rattle.whole.specs.Whole.{◌⊕◌, ◌⊙◌, ◌≈◌, Zero}
 use Rattle.weights.specs.Worth.{read, zero64, four64}
 use Rattle.scratch.proofs.All.{both}
-use Rattle.expansion.specs.Sum.{Expansion, parts, invalid, plus, comes_to_zero}
+use Rattle.expansion.specs.Sum.{parts, invalid, plus, comes_to_zero}
 use Rattle.expansion.specs.Exact.{Number, total, add_all, Totals, overflown}
 use Rattle.expansion.specs.Overflow.{sums_from, all_finite, Valid, Overflows}
 use Rattle.expansion.proofs.Exact.{zero_test, number_worth, totals_as}

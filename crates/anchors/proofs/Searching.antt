@@ -30,9 +30,6 @@ module _ {F : Field} {u : List ℕ} (P : Placed F (cells u 0)) where
   mark_is : (i : ℕ) → i < variables F → get_or (marks_in F u) i 0 ≡ get_or u (base F + i) 0
   mark_is i h = region_at (base F) (variables F) u i 0 h
 
-  pub mark_index : (i : ℕ) → i < variables F → base F + i < length u
-  mark_index i h = omega (arith, P.words_room)
-
 module _ {F : Field} {i : ℕ} {u : List ℕ} (P : Placed F (cells u 0)) (h : i < variables F) where
   pub visit_seen : {s list : List ℕ} {before : ℕ} (least : ℕ) → (get_or u (base F + i) 0 ≡ 2 → ⊥) → Visits F s least i u list before u list before
   unfolding marks_at new_at

@@ -8,8 +8,6 @@ use borrow.Author.Tests.{eq-eqb, ne_eqb}
 use lib.ListN.{length, get_or}
 use lib.Ieee.{Float, binary64, add, mul, ne}
 use Rattle.weights.specs.Worth.{magnitude, zero64, four64}
-use Rattle.expansion.specs.declared.ExactSum.{ExactSum}
-use Rattle.expansion.specs.declared.ExactSum.TheVariants.{Parts}
 use Rattle.expansion.specs.Sum.{Expansion, parts, plus, comes_to_zero, sum_in, count_of, is_zero, Adds}
 use Rattle.expansion.proofs.Carrying.{zero_is}
 use Rattle.field.specs.Field.{Field, variables, entries, linear_of, row_end, column_end, quad_of}
@@ -17,11 +15,12 @@ use Rattle.places.specs.Places.{entry_in}
 use Rattle.places.proofs.Places.{places_le}
 use Rattle.places.proofs.Walk.{walk_turn, Along, along_start, along_turn, along_end, part_long}
 use Rattle.anchors.specs.Sums.{doubled, balance_at, balance_over, balance_of, balanced, plain_over, plain_sum, weight_at, weight_over, weight_of, AddsAt, Walkable}
+use Rattle.std.specs.Prelude.{Option, Some}
 
 -- ---- one entry
 
 module _ (F : Field) (k : ℕ) where
-  module _ {s r : ExactSum} {f f' : List Float} where
+  module _ {s r : Option ℕ} {f f' : List Float} where
     pub adds_twice : row_end F k ≡ column_end F k → Adds (doubled F k) s f f' r → AddsAt F k s f f' r
     unfolding balance_at
     adds_twice d a = record { sum = rw (eq-eqb (row_end F k) (column_end F k) d) a.sum; grows = a.grows }
@@ -30,7 +29,7 @@ module _ (F : Field) (k : ℕ) where
     unfolding balance_at
     adds_once d n a = record { sum = rw (ne_eqb (row_end F k) (column_end F k) d, n) a.sum; grows = a.grows }
 
-  pub adds_none : {s : ExactSum} {f : List Float} → (row_end F k ≡ column_end F k → ⊥) → ne (quad_of F k) zero64 ≡ false → AddsAt F k s f f s
+  pub adds_none : {s : Option ℕ} {f : List Float} → (row_end F k ≡ column_end F k → ⊥) → ne (quad_of F k) zero64 ≡ false → AddsAt F k s f f s
   unfolding balance_at
   adds_none d n = record { sum = rw (ne_eqb (row_end F k) (column_end F k) d, n); grows = omega arith }
 
@@ -53,7 +52,7 @@ abbrev pub first_sum : Field → ℕ → Expansion
 first_sum F i = plus (mul binary64 four64 (linear_of F i)) (parts [])
 
 -- where the loop stands that goes from `start` to `end` along the places of i: the sum so far, and at most one part more a place
-pub record Balancing (F : Field) (i start end : ℕ) (u : List ℕ) (f₀ : List Float) (p : ℕ) (f : List Float) (sum : ExactSum) : Type 0 where
+pub record Balancing (F : Field) (i start end : ℕ) (u : List ℕ) (f₀ : List Float) (p : ℕ) (f : List Float) (sum : Option ℕ) : Type 0 where
   pub walkable : Walkable F i u
   pub along : Along (balance_over F) (variables F) F.rows F.cols u u i end p (first_sum F i) (sum_in sum f)
   pub begins : start ≡ get_or u i 0
@@ -62,8 +61,8 @@ pub record Balancing (F : Field) (i start end : ℕ) (u : List ℕ) (f₀ : List
   pub room : entries F < length f₀
 
 module _ {F : Field} {i start end : ℕ} {u : List ℕ} where
-  pub balance_start : {f₋ f : List Float} {sum : ExactSum} → Walkable F i u → entries F < length f → start ≡ get_or u i 0 → end ≡ get_or u (i + 1) 0
-      → Adds (mul binary64 four64 (linear_of F i)) (Parts 0) f₋ f sum → Balancing F i start end u f start f sum
+  pub balance_start : {f₋ f : List Float} {sum : Option ℕ} → Walkable F i u → entries F < length f → start ≡ get_or u i 0 → end ≡ get_or u (i + 1) 0
+      → Adds (mul binary64 four64 (linear_of F i)) (Some 0) f₋ f sum → Balancing F i start end u f start f sum
   unfolding sum_in
   balance_start W h ea eb a = record {
     walkable = W;
@@ -74,7 +73,7 @@ module _ {F : Field} {i start end : ℕ} {u : List ℕ} where
     room = h;
   }
 
-  module _ {p : ℕ} {f₀ f : List Float} {sum : ExactSum} (B : Balancing F i start end u f₀ p f sum) where
+  module _ {p : ℕ} {f₀ f : List Float} {sum : Option ℕ} (B : Balancing F i start end u f₀ p f sum) where
     -- there are m + 1 parts at most
     most : count_of sum ≤ entries F + 1
     most =
@@ -103,7 +102,7 @@ module _ {F : Field} {i start end : ℕ} {u : List ℕ} where
           B.walkable.shaped.rows_long,
         )
 
-    pub balance_turn : {k : ℕ} {f' : List Float} {r : ExactSum} → p < end → k ≡ entry_in (get_or u (variables F + 1 + p) 0) → length f' ≡ length f → AddsAt F k sum f f' r
+    pub balance_turn : {k : ℕ} {f' : List Float} {r : Option ℕ} → p < end → k ≡ entry_in (get_or u (variables F + 1 + p) 0) → length f' ≡ length f → AddsAt F k sum f f' r
         → Balancing F i start end u f₀ (p + 1) f' r
     unfolding balance_over
     balance_turn l e long a = record {

@@ -1,9 +1,8 @@
 -- What one variable comes to: its error-free sum (rule 9.2), and the weight of its entries (rule 9.6). Assumes nothing.
-use Rattle.std.specs.Prelude.{ℕ, ◌+◌, ◌<◌, ◌≤◌, ◌≡◌, Bool, cond, List, [], ◌∷◌, eqb, Float}
+use Rattle.std.specs.Prelude.{ℕ, ◌+◌, ◌<◌, ◌≤◌, ◌≡◌, Bool, cond, List, [], ◌∷◌, eqb, Float, Option}
 use Rattle.std.specs.Float.{binary64}
 use Rattle.std.specs.Float.Ieee.{add, mul, ne}
 use Rattle.weights.specs.Worth.{magnitude, zero64, two64, four64}
-use Rattle.expansion.specs.declared.ExactSum.{ExactSum}
 use Rattle.expansion.specs.Sum.{Expansion, parts, plus, comes_to_zero, sum_in, count_of}
 use Rattle.field.specs.Field.{Field, variables, linear_of, row_end, column_end, quad_of, Shaped}
 use Rattle.places.specs.Places.{places, Adjacent}
@@ -58,7 +57,7 @@ weight_of F i = weight_over F zero64 (places F.rows F.cols i)
 -- ---- the code's view of it
 
 -- Adding entry k at a variable does to the code's sum what it does to the model's.
-pub record AddsAt (F : Field) (k : ℕ) (s : ExactSum) (f f' : List Float) (r : ExactSum) : Type 0 where
+pub record AddsAt (F : Field) (k : ℕ) (s : Option ℕ) (f f' : List Float) (r : Option ℕ) : Type 0 where
   pub sum : sum_in r f' ≡ balance_at F (sum_in s f) k
   pub grows : count_of r ≤ count_of s + 1
 

@@ -14,7 +14,7 @@ ghost use Rattle.anchors.specs.Cells.{Lists};
 ghost use Rattle.anchors.specs.Call.{left, anchors_call};
 
 use field::tests::admitted;
-use field::{Checked, Counted, Grade, Refusal};
+use field::{Answer, Counted, FieldRef, Grade, Refusal};
 
 // The variable that leads so far, and its weight.
 #[derive(Clone, Copy)]
@@ -28,24 +28,17 @@ impl Leader {
     fn against(self, variable: usize, weight: f64) -> Leader
         ensures { result ≡ model.against self variable weight }
     {
-        if self.weight < weight {
-            return Leader { variable, weight };
+        if self.weight < weight || (weight == self.weight && variable < self.variable) {
+            Leader { variable, weight }
+        } else {
+            self
         }
-        if weight == self.weight {
-            if variable < self.variable {
-                return Leader { variable, weight };
-            }
-        }
-        self
     }
 }
 
 // The places, the marks, and the search from each start.
 fn work(
-    c: &[f64],
-    rows: &[u16],
-    cols: &[u16],
-    q: &[f64],
+    field: FieldRef,
     grade: Grade,
     start: &[u8],
     least: usize,
@@ -53,40 +46,37 @@ fn work(
     f: &mut [f64],
     u: &mut [u32],
 ) -> usize
-    requires admitted { Admitted (lent c rows cols q) start.now (length f.old) (length u.old) }
-    requires grade_value { grade ≡ grade_of (lent c rows cols q) }
-    ensures { Lists (given c rows cols q) start.now least list.old list.new result }
+    requires admitted { Admitted (lent field) start.now (length f.old) (length u.old) }
+    requires grade_value { grade ≡ grade_of (lent field) }
+    ensures { Lists (given field) start.now least list.old list.new result }
 {
-    places::build(u, rows, cols, c.len());
-    parts::begin(c, rows, cols, q, start, true, u);
-    search::search(c, rows, cols, q, grade, start, least, list, f, u)
+    places::build(u, field.rows, field.cols, field.c.len());
+    parts::begin(field, start, true, u);
+    search::search(field, grade, start, least, list, f, u)
 }
 
 // The anchors go into the list, in the order of their components' lowest variables; how many there are.
 pub fn anchors(
-    c: &[f64],
-    rows: &[u16],
-    cols: &[u16],
-    q: &[f64],
+    field: FieldRef,
     start: &[u8],
     least: usize,
     list: &mut [u16],
     f: &mut [f64],
     u: &mut [u32],
-) -> Counted
-    ensures { left result list.new f.new u.new ≡ anchors_call (given c rows cols q) start.now least list.old f.old u.old }
+) -> Answer<Counted>
+    ensures { left result list.new f.new u.new ≡ anchors_call (given field) start.now least list.old f.old u.old }
 {
-    let checked = admitted(c, rows, cols, q, start, f.len(), u.len());
-    if let Checked::Failed(refusal) = checked {
-        return Counted::Refuses(refusal);
-    }
-    let grade = field::grading::graded(c, rows, cols, q);
-    let found = work(c, rows, cols, q, grade, start, least, list, f, u);
-    scratch::clear_floats(f);
-    scratch::clear_words(u);
+    admitted(field, start, f.len(), u.len())?;
+    let grade = field::grading::graded(field);
+    let found = work(field, grade, start, least, list, f, u);
+    f.fill(0.0);
+    u.fill(0);
     if list.len() < found {
-        scratch::clear_shorts(list);
-        return Counted::Refuses(Refusal::Room);
+        list.fill(0);
+        return Err(Refusal::Room);
     }
-    Counted::Counts(grade, found)
+    Ok(Counted {
+        grade,
+        count: found,
+    })
 }

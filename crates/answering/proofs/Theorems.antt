@@ -9,13 +9,11 @@ use borrow.Author.Tests.{ltb-true, ltb-false, lt-ltb, eq-eqb, eqb-true}
 use lib.Dec.{eqb, ltb}
 use lib.ListN.{length, get_or, set, take}
 use lib.Seq.{take_all, length-take-le}
-use Rattle.field.specs.declared.Checked.{Checked}
-use Rattle.field.specs.declared.Checked.TheVariants.{Passed, Failed}
 use Rattle.field.specs.declared.Grade.{Grade}
 use Rattle.field.specs.declared.Grade.TheVariants.{Exact, Inexact}
 use Rattle.field.specs.declared.Refusal.{Refusal}
 use Rattle.field.specs.declared.Refusal.TheVariants.{Diagonal, Weights}
-use Rattle.field.specs.Answers.{number_of}
+use Rattle.field.specs.Answers.{number_of, Answer, passed}
 use Rattle.field.specs.Field.{Field}
 use Rattle.field.specs.Faults.{Fault}
 use Rattle.field.specs.Grade.{grade_of}
@@ -35,6 +33,7 @@ use Rattle.answering.specs.Answer.{checked_text, field_text, told_text, outcome_
 use Rattle.records.proofs.Laid.{Within}
 use Rattle.records.proofs.Means.{whole_means}
 use Rattle.records.proofs.Longest.{told_within, longest_field}
+use Rattle.std.specs.Prelude.{Err, Ok}
 
 -- ---- the answer
 
@@ -70,7 +69,7 @@ module _ (s : List ℕ) (bytes : (i : ℕ) → get_or s i 0 < 256) where
 
 module _ (F : Field) (s : List ℕ) where
   -- the first letter tells a refusal from a grade, and the seventh one grade from the other
-  says_exact : take 12 (field_text F s) ≡ grade_line Exact → (tested (standard_tests F s) ≡ Passed) × (grade_of F ≡ Exact)
+  says_exact : take 12 (field_text F s) ≡ grade_line Exact → (tested (standard_tests F s) ≡ passed) × (grade_of F ≡ Exact)
   unfolding field_text checked_text answer_text grade_line refused_text
   says_exact = by (tested (standard_tests F s))
     where
@@ -78,9 +77,9 @@ module _ (F : Field) (s : List ℕ) where
       told Exact e = refl
       told Inexact e = absurd (omega (arith, ap (λ (l : List ℕ). get_or l 6 0) e))
 
-      by : (k : Checked) → take 12 (checked_text k F s) ≡ grade_line Exact → (k ≡ Passed) × (grade_of F ≡ Exact)
-      by Passed e = (refl, told (grade_of F) e)
-      by (Failed r) e = absurd (omega (arith, ap (λ (l : List ℕ). get_or l 0 0) e))
+      by : (k : Answer Unit) → take 12 (checked_text k F s) ≡ grade_line Exact → (k ≡ passed) × (grade_of F ≡ Exact)
+      by (Ok x) e = (refl, told (grade_of F) e)
+      by (Err r) e = absurd (omega (arith, ap (λ (l : List ℕ). get_or l 0 0) e))
 
 module _ (s : List ℕ) (bytes : (i : ℕ) → get_or s i 0 < 256) (u : Told) (w : WellFormed s u) where
   -- Theorem. DEMAND 2. Where the answer is `grade exact`, its x lines are the gradient closure over whole numbers, no more and no fewer.
@@ -171,14 +170,14 @@ only_six s bytes u w first = by first
     by (passes _ (passes _ (passes _ (passes _ (passes _ (passes _ x48)))))) = elim x48 [ ]
 
 -- the second byte after `refused ` tells 11 from any number of the table
-not_eleven : (k : Checked) (F : Field) (s : List ℕ) → checked_text k F s ≢ refused_text 11
+not_eleven : (k : Answer Unit) (F : Field) (s : List ℕ) → checked_text k F s ≢ refused_text 11
 unfolding checked_text answer_text grade_line refused_text decimal digits
-not_eleven Passed F s e = by (grade_of F) (ap (λ (l : List ℕ). get_or l 0 0) e)
+not_eleven (Ok x) F s e = by (grade_of F) (ap (λ (l : List ℕ). get_or l 0 0) e)
   where
     by : (g : Grade) → get_or (answer_text g s (closure F s)) 0 0 ≡ 114 → ⊥
     by Exact q = omega arith
     by Inexact q = omega arith
-not_eleven (Failed r) F s e = by (number_of r) (number_most r) (number_other r).1 (ap (λ (l : List ℕ). get_or l 9 0) e)
+not_eleven (Err r) F s e = by (number_of r) (number_most r) (number_other r).1 (ap (λ (l : List ℕ). get_or l 9 0) e)
   where
     by : (n : ℕ) → n ≤ 18 → n ≢ 11 → get_or (refused_text n) 9 0 ≡ 49 → ⊥
     by n few other q = go (ltb n 10) refl

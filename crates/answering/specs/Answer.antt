@@ -1,10 +1,8 @@
 -- What the program answers to each input (rules 13.4 to 13.6), as one function of its bytes. Assumes nothing.
-use Rattle.std.specs.Prelude.{ℕ, ◌≤◌, ◌≡◌, cond, ◌&&◌, List, eqb, length}
-use Rattle.field.specs.declared.Checked.{Checked}
-use Rattle.field.specs.declared.Checked.TheVariants.{Passed, Failed}
+use Rattle.std.specs.Prelude.{ℕ, ◌≤◌, ◌≡◌, cond, ◌&&◌, List, eqb, length, take, Err, Ok}
 use Rattle.field.specs.declared.Grade.TheVariants.{Exact}
-use Rattle.field.specs.Answers.{number_of}
-use Rattle.field.specs.Field.{Field, variables, entries}
+use Rattle.field.specs.Answers.{number_of, Answer, passed}
+use Rattle.field.specs.Field.{Field, field_of, variables, entries}
 use Rattle.field.specs.Grade.{grade_of, unit_of, Serves}
 use Rattle.field.specs.Reading.{whole_of}
 use Rattle.field.specs.Table.{tested}
@@ -17,9 +15,9 @@ use Rattle.records.specs.Told.{Told, field_told, Outcome, parsed}
 use Rattle.records.specs.WellFormed.{WellFormed}
 
 -- a refusal is `refused` and its number; otherwise the closure is run, and the grade and what was forced are shown
-unfoldable pub checked_text : Checked → Field → List ℕ → List ℕ
-checked_text Passed F s = answer_text (grade_of F) s (closure F s)
-checked_text (Failed r) F s = refused_text (number_of r)
+unfoldable pub checked_text : Answer Unit → Field → List ℕ → List ℕ
+checked_text (Ok x) F s = answer_text (grade_of F) s (closure F s)
+checked_text (Err r) F s = refused_text (number_of r)
 
 -- the first of the tests 1 to 6 that fails decides
 unfoldable pub field_text : Field → List ℕ → List ℕ
@@ -66,3 +64,19 @@ pub record Fits (F : Field) (s : List ℕ) (values : ℕ) : Type 0 where
   pub few_entries : entries F ≤ 1024
   pub start_long : length s ≡ variables F
   pub values_long : values ≡ variables F
+
+-- ---- the field at the front of the lists
+
+-- The first n places of two lists and the first m of three are there, within the limits: each part is as long as its count.
+pub record Fronted (n m : ℕ) (p : Told) : Type 0 where
+  pub few_variables : n ≤ 256
+  pub few_entries : m ≤ 1024
+  pub linear : n ≡ length (take n p.linear)
+  pub rows : m ≡ length (take m p.rows)
+  pub cols : m ≡ length (take m p.cols)
+  pub quad : m ≡ length (take m p.quad)
+  pub start : n ≡ length (take n p.start)
+
+-- The field at the front of the lists.
+abbrev pub front_field : ℕ → ℕ → Told → Field
+front_field n m p = field_of (take n p.linear) (take m p.rows) (take m p.cols) (take m p.quad)

@@ -53,10 +53,6 @@ pub bar_done : {w₀ w₁ w₂ : List ℕ} (i j a b : ℕ)
     → Marked (bars i j (pair a b ∷ [])) w₀ w₂
 bar_done i j a b p q = more_then (forth i j (pair a b) ∷ []) (back i j (pair a b) ∷ []) (more_one (forth i j (pair a b)) p) (more_one (back i j (pair a b)) q)
 
--- those of a pair that is in a set, and of one that is not
-pub bar_in : {w₀ w : List ℕ} (i j : ℕ) (p : Pair) {b : ℕ} → b ≡ 1 → Marked (bars i j (p ∷ [])) w₀ w → Marked (bars i j (chosen b p)) w₀ w
-bar_in i j p e h = rw e h
-
 pub bar_out : (w : List ℕ) (i j : ℕ) (p : Pair) {b : ℕ} → b ≡ 0 → Marked (bars i j (chosen b p)) w w
 bar_out w i j p e = rw e (more_none w)
 
@@ -135,6 +131,3 @@ selving_turn {m} {w₀} {w} {w₁} {a} h s k = record { within = omega arith; he
     bits c d l =
         k.bits c d l ∙ ap (λ (t : Bool). t || (eqb a c && eqb a d)) (s.held.bits c d l)
         ∙ or_assoc (bit_in w₀ c d) (ltb c a && eqb c d) (eqb a c && eqb a d) ∙ ap (λ (t : Bool). bit_in w₀ c d || t) (same c d)
-
-pub selving_done : {m : ℕ} {w₀ w : List ℕ} {a : ℕ} → m ≤ a → Selving m w₀ a w → Holding (selves m (bit_in w₀)) w₀ w
-selving_done {m} {a = a} h s = let e : a ≡ m = omega (arith, s.within) in rw e at s.held

@@ -10,8 +10,6 @@ ghost use Rattle.literals.specs.Ends.{rules};
 ghost use Rattle.bit_rows.specs.Rows.{bit_in, Holding};
 ghost use Rattle.arrows.specs.Marks.{Marked, Between, Wide, selves as selves_of, Filled};
 
-use scratch::wide_short;
-
 // Marks both arrows of the forbidden values a of i and b of j.
 fn bar(w: &mut [u64], i: usize, j: usize, a: usize, b: usize)
     requires between { Between i j w.old }
@@ -53,11 +51,11 @@ fn bar_all(list: &[u16], n: usize, w: &mut [u64])
     requires wide { Wide n w.old }
     ensures { Marked (rules list.now) w.old w.new }
 {
-    let count = list.len() / 3;
-    for t in 0..count {
-        let i = wide_short(list[3 * t]);
-        let j = wide_short(list[3 * t + 1]);
-        let set = wide_short(list[3 * t + 2]);
+    let (records, _) = list.as_chunks::<3>();
+    for record in records {
+        let i = usize::from(record[0]);
+        let j = usize::from(record[1]);
+        let set = usize::from(record[2]);
         bar_set(w, i, j, set);
     }
 }
@@ -79,7 +77,7 @@ pub fn fill(list: &[u16], n: usize, w: &mut [u64])
     requires wide { Wide n w.old }
     ensures { Filled (rules list.now) n w.old w.new }
 {
-    bit_rows::clear(w);
+    w.fill(0);
     selves(w, 2 * n);
     bar_all(list, n, w);
     bit_rows::close(w, 2 * n);

@@ -1,12 +1,13 @@
 -- The number of bits of a row: word by word. Assumes nothing.
 use mathlib.Core.Path.{◌≡◌, refl, sym, ap, ◌∙◌}
 use mathlib.Core.List.{List}
-use Prim.Native.Nat.{ℕ, zero, suc, ◌+◌, ◌*◌, ◌/◌, ◌%◌, ◌^◌, ◌<◌, ◌≤◌}
+use Prim.Native.Nat.{ℕ, zero, suc, ◌+◌, ◌-◌, ◌*◌, ◌/◌, ◌%◌, ◌^◌, ◌<◌, ◌≤◌}
 use native.Mathlib.Omega.{arith}
 use native.Mathlib.Nat.{mod-lt, mod-eq_of_lt, mod-one}
 use lib.Count.{ones, ones_cat}
 use lib.Pow.{mod-pow-add, pow_pos}
-use lib.ListN.{get_or}
+use lib.ListN.{get_or, take, drop}
+use lib.Seq.{get_or-take, get_or-drop}
 use lib.Dec.{eqb}
 use Rattle.reaching.specs.Via.{bit, count_below}
 use Rattle.reaching.proofs.Counts.{count_same, count_add, count_most}
@@ -33,6 +34,10 @@ word_count x h = ap ones (sym (mod-eq_of_lt h)) ∙ low_count x 64
 
 -- ---- a row
 
+-- word i of row a, read from the row alone
+pub row_word : (w : List ℕ) (a i : ℕ) → i < 32 → get_or (take (a * 32 + 32 - a * 32) (drop (a * 32) w)) i 0 ≡ get_or w (a * 32 + i) 0
+row_word w a i h = get_or-take (a * 32 + 32 - a * 32) (drop (a * 32) w) i 0 (omega arith) ∙ get_or-drop (a * 32) w i 0
+
 pub count_start : (w : List ℕ) (a : ℕ) → Counting w a 0 0
 unfolding count_below
 count_start w a = record { within = omega arith; so_far = refl }
@@ -54,9 +59,6 @@ count_turn {w} {a} {i} {sum} h l c =
         let p : (i * 64 + t) / 64 ≡ i = omega arith in
         let q : (i * 64 + t) % 64 ≡ t = omega arith in
         rw (p, q) refl
-
-pub count_done : {w : List ℕ} {a i sum : ℕ} → 32 ≤ i → Counting w a i sum → sum ≡ count_below (bit_in w a) 2048
-count_done {i = i} h c = let e : i ≡ 32 = omega (arith, c.within) in rw e at c.so_far
 
 pub count_fits : {w : List ℕ} {a i sum : ℕ} → Counting w a i sum → sum ≤ i * 64
 count_fits {w} {a} {i} c = omega (arith, c.so_far, count_most (bit_in w a) (i * 64))

@@ -49,9 +49,6 @@ mark_bits w a b hb h = record { long = length-set w (word_of a b) _; bits = bits
 
 -- ---- one row joined to another
 
-pub join_start : (a k : ℕ) (w : List ℕ) → Joining a k w 0 w
-join_start a k w = record { within = omega arith; long = refl; done = λ t h. absurd (omega arith); rest = λ p h. refl }
-
 module _ {a k : ℕ} {w₀ : List ℕ} {i : ℕ} {w : List ℕ} (j : Joining a k w₀ i w) where
   -- the words that a turn reads are still those of the start
   own : get_or w (a * 32 + i) 0 ≡ get_or w₀ (a * 32 + i) 0

@@ -72,9 +72,6 @@ stage_turn {w₀} {w} {w₁} {k} {n} {i} hk hi s h = record { within = omega ari
                 (λ z. lt-ltb c (i + 1) (omega (arith, ltb-true c i z)))
                 (λ z. lt-ltb c i (less z (eqb-false c i p)))
 
-pub stage_done : {w₀ w : List ℕ} {k n i : ℕ} → n ≤ i → Staging (bit_in w₀) k n w₀ i w → Holding (stage (bit_in w₀) k n) w₀ w
-stage_done {n = n} {i = i} h s = let e : i ≡ n = omega (arith, s.within) in rw e at s.held
-
 -- ---- all stages
 
 pub close_start : (n : ℕ) (w : List ℕ) → Closing (bit_in w) n w 0 w
@@ -101,6 +98,3 @@ close_turn {w₀} {w} {w₁} {n} {k} few hk s h = record { within = omega arith;
         go : (t : Bool) → ltb c n ≡ t → cond t (bit_in w c d || (bit_in w c k && bit_in w k d)) (bit_in w c d) ≡ cond t (via r (k + 1) c d) (r c d)
         go true p = let q = ltb-true c n p in rw (add-one, at c d q l, at c k q (omega arith), at k d hk l) refl
         go false p = s.held.bits c d l ∙ rw p refl
-
-pub close_done : {w₀ w : List ℕ} {n k : ℕ} → n ≤ k → Closing (bit_in w₀) n w₀ k w → Holding (closed (bit_in w₀) n n) w₀ w
-close_done {n = n} {k = k} h s = let e : k ≡ n = omega (arith, s.within) in rw e at s.held

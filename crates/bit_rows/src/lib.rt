@@ -2,19 +2,8 @@
 #![tactic(auto)]
 
 ghost use Rattle.std.specs.Prelude.{◌≡◌, ◌+◌, ◌*◌, ◌<◌, ◌≤◌, length};
-ghost use Rattle.std.specs.Int.Count.{ones as ones_of};
-ghost use Rattle.scratch.specs.Cleared.{cleared};
 ghost use Rattle.reaching.specs.Via.{count_below};
 ghost use Rattle.bit_rows.specs.Rows.{bit_in, Rows, Holding, marked, joined, stepped, stage, closed};
-
-// Sets every word of the rows to 0, so that no number leads to another.
-pub fn clear(w: &mut [u64])
-    ensures { w.new ≡ cleared 0 w.old }
-{
-    for i in 0..w.len() {
-        w[i] = 0;
-    }
-}
 
 // Sets bit b of row a.
 pub fn mark(w: &mut [u64], a: usize, b: usize)
@@ -23,7 +12,7 @@ pub fn mark(w: &mut [u64], a: usize, b: usize)
     ensures { Holding (marked (bit_in w.old) a b) w.old w.new }
 {
     let at = a * 32 + b / 64;
-    w[at] = w[at] | (1u64 << (b % 64));
+    w[at] |= 1 << (b % 64);
 }
 
 // Whether bit b of row a is set.
@@ -44,7 +33,7 @@ pub fn join(w: &mut [u64], a: usize, k: usize)
     let own = a * 32;
     let its = k * 32;
     for t in 0..32 {
-        w[own + t] = w[own + t] | w[its + t];
+        w[own + t] |= w[its + t];
     }
 }
 
@@ -81,13 +70,6 @@ pub fn close(w: &mut [u64], n: usize)
     }
 }
 
-// The number of bits of a word.
-fn in_word(x: u64) -> usize
-    ensures { result ≡ ones_of x }
-{
-    u64::count_ones(x) as usize
-}
-
 // How many bits of row a are set, over all of its 32 words.
 pub fn ones(w: &[u64], a: usize) -> usize
     requires { a * 32 + 32 ≤ length w.now }
@@ -95,8 +77,8 @@ pub fn ones(w: &[u64], a: usize) -> usize
 {
     let own = a * 32;
     let mut sum = 0;
-    for t in 0..32 {
-        sum = sum + in_word(w[own + t]);
+    for x in &w[own..own + 32] {
+        sum += x.count_ones() as usize;
     }
     sum
 }

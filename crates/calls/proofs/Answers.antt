@@ -1,27 +1,21 @@
--- Refusals of each kind of answer differ, and none is another answer. Assumes nothing.
+-- Refusals differ, and none is what a call answers where it is done. Assumes nothing.
 use Prim.Native.Nat.{ℕ}
-use mathlib.Core.Path.{◌≡◌}
+use mathlib.Core.Path.{◌≡◌, ap}
 use native.Mathlib.Omega.{arith}
+use Rattle.std.specs.Prelude.{Ok, Err}
 use Rattle.field.specs.declared.Refusal.{Refusal}
 use Rattle.field.specs.declared.Grade.{Grade}
-use Rattle.field.specs.declared.Checked.TheVariants.{Passed, Failed}
-use Rattle.field.specs.declared.Answer.TheVariants.{Done, Refused}
-use Rattle.field.specs.declared.Counted.TheVariants.{Counts, Refuses}
+use Rattle.field.specs.declared.Counted.{Counted}
+use Rattle.field.specs.Answers.{Answer, counted_answer}
 
-pub same_failed : (r t : Refusal) → Failed r ≡ Failed t → r ≡ t
-same_failed r t e = cc
-
-pub passed_apart : {A : Type 0} (r : Refusal) → Passed ≡ Failed r → A
-passed_apart r e = let z : ◌≡◌ {A = ℕ} 0 1 = cc in absurd (omega arith)
-
-pub same_refused : (r t : Refusal) → Refused r ≡ Refused t → r ≡ t
+pub same_refused : {A : Type 0} (r t : Refusal) → ◌≡◌ {A = Answer A} (Err r) (Err t) → r ≡ t
 same_refused r t e = cc
 
-pub done_apart : {A : Type 0} {g : Grade} (r : Refusal) → Done g ≡ Refused r → A
+pub done_apart : {A B : Type 0} {x : B} (r : Refusal) → ◌≡◌ {A = Answer B} (Ok x) (Err r) → A
 done_apart r e = let z : ◌≡◌ {A = ℕ} 0 1 = cc in absurd (omega arith)
 
-pub same_refuses : (r t : Refusal) → Refuses r ≡ Refuses t → r ≡ t
-same_refuses r t e = cc
+pub same_done : {B : Type 0} {x y : B} → ◌≡◌ {A = Answer B} (Ok x) (Ok y) → x ≡ y
+same_done e = cc
 
-pub counts_apart : {A : Type 0} {g : Grade} {k : ℕ} (r : Refusal) → Counts g k ≡ Refuses r → A
-counts_apart r e = let z : ◌≡◌ {A = ℕ} 0 1 = cc in absurd (omega arith)
+pub same_counted : {g h : Grade} {k j : ℕ} → counted_answer g k ≡ counted_answer h j → (g ≡ h) × (k ≡ j)
+same_counted e = let z = same_done e in (ap (λ (c : Counted). c.grade) z, ap (λ (c : Counted). c.count) z)

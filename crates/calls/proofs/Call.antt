@@ -9,15 +9,14 @@ use lib.Dec.{eqb}
 use Rattle.scratch.proofs.All.{both}
 use Rattle.scratch.proofs.Means.{ne_is}
 use Rattle.field.specs.declared.Refusal.{Refusal}
-use Rattle.field.specs.declared.Checked.{Checked}
-use Rattle.field.specs.declared.Checked.TheVariants.{Passed, Failed}
-use Rattle.field.specs.Answers.{number_of}
+use Rattle.field.specs.Answers.{number_of, Answer, passed}
 use Rattle.field.specs.Table as tests
 use Rattle.field.specs.Table.{Test, test, unless, tested, FirstToFail, AllPass, more}
 use Rattle.field.proofs.Table.{refused_exactly, passed_exactly, group_no, group_ok}
 use Rattle.calls.specs.Call.{Left, left, Stage, stage, Call, run, called, table, keeping, Stops, fails, passes, Leave, no_stage, and_stage, Each, without}
+use Rattle.std.specs.Prelude.{Ok, Err}
 
-not_failed : {r : Refusal} → Passed ≡ Failed r → ⊥
+not_failed : {r : Refusal} → passed ≡ Err r → ⊥
 not_failed e = let z : ◌≡◌ {A = ℕ} 0 1 = cc in omega arith
 
 -- a refusal that no test gives is never the first to fail
@@ -28,15 +27,15 @@ never_first (t ∷ ts) r e (tests.passes p h) = never_first ts r (both (not (eqb
 never_first [] r e x'' = elim x'' [ ]
 
 -- and is given after the tests exactly if all of them pass
-pub first_later : (ts us : List Test) (r : Refusal) → without r ts ≡ true → FirstToFail (ts ++ us) r ↔ ((tested ts ≡ Passed) × FirstToFail us r)
+pub first_later : (ts us : List Test) (r : Refusal) → without r ts ≡ true → FirstToFail (ts ++ us) r ↔ ((tested ts ≡ passed) × FirstToFail us r)
 first_later ts us r w = (
   λ h. go (tested ts) refl ((refused_exactly (ts ++ us) r).1 h),
   λ h. (refused_exactly (ts ++ us) r).0 (sym (group_ok ts us h.0 (sym ((refused_exactly us r).1 h.1)))),
 )
   where
-    go : (k : Checked) → tested ts ≡ k → tested (ts ++ us) ≡ Failed r → (tested ts ≡ Passed) × FirstToFail us r
-    go Passed e f = (e, (refused_exactly us r).0 (group_ok ts us e refl ∙ f))
-    go (Failed t) e f = absurd (never_first ts r w ((refused_exactly ts r).0 (e ∙ group_no ts us e ∙ f)))
+    go : (k : Answer Unit) → tested ts ≡ k → tested (ts ++ us) ≡ Err r → (tested ts ≡ passed) × FirstToFail us r
+    go (Ok _) e f = (e, (refused_exactly us r).0 (group_ok ts us e refl ∙ f))
+    go (Err t) e f = absurd (never_first ts r w ((refused_exactly ts r).0 (e ∙ group_no ts us e ∙ f)))
 
 -- ---- stages
 
@@ -103,22 +102,22 @@ module _ {A L : Type 0} (refuse : Refusal → A) (done : Left A L) where
       by false rest = each.0
 
   -- how code that tests in order meets the promise: a test fails, or all pass and leave the later stages
-  pub tests_refuse : (given : L) (ts : List Test) (us : List (Stage L)) {r : Refusal} → tested ts ≡ Failed r → left (refuse r) given ≡ run refuse (keeping given ts ++ us) done
+  pub tests_refuse : (given : L) (ts : List Test) (us : List (Stage L)) {r : Refusal} → tested ts ≡ Err r → left (refuse r) given ≡ run refuse (keeping given ts ++ us) done
   unfolding run keeping tested
   tests_refuse given [] us e = absurd (not_failed e)
   tests_refuse given (t ∷ ts) us {r} e = by t.passes e (tests_refuse given ts us)
     where
-      by : (b : Bool) → unless b t.refusal (tested ts) ≡ Failed r → (tested ts ≡ Failed r → left (refuse r) given ≡ run refuse (keeping given ts ++ us) done)
+      by : (b : Bool) → unless b t.refusal (tested ts) ≡ Err r → (tested ts ≡ Err r → left (refuse r) given ≡ run refuse (keeping given ts ++ us) done)
           → left (refuse r) given ≡ cond b (run refuse (keeping given ts ++ us) done) (left (refuse t.refusal) given)
       by true e rest = rest e
       by false e rest = let z : r ≡ t.refusal = cc in ap (λ (x : Refusal). left (refuse x) given) z
 
-  pub tests_pass : (given : L) (ts : List Test) (us : List (Stage L)) → tested ts ≡ Passed → run refuse us done ≡ run refuse (keeping given ts ++ us) done
+  pub tests_pass : (given : L) (ts : List Test) (us : List (Stage L)) → tested ts ≡ passed → run refuse us done ≡ run refuse (keeping given ts ++ us) done
   unfolding run keeping tested
   tests_pass given [] us e = refl
   tests_pass given (t ∷ ts) us e = by t.passes e (tests_pass given ts us)
     where
-      by : (b : Bool) → unless b t.refusal (tested ts) ≡ Passed → (tested ts ≡ Passed → run refuse us done ≡ run refuse (keeping given ts ++ us) done)
+      by : (b : Bool) → unless b t.refusal (tested ts) ≡ passed → (tested ts ≡ passed → run refuse us done ≡ run refuse (keeping given ts ++ us) done)
           → run refuse us done ≡ cond b (run refuse (keeping given ts ++ us) done) (left (refuse t.refusal) given)
       by true e rest = rest e
       by false e rest = absurd (not_failed (sym e))
@@ -138,9 +137,9 @@ module _ {A L : Type 0} (c : Call A L) (same : (r t : Refusal) → c.refuse r �
   unfolding called
   way = go (tested (table c.stages)) refl
     where
-      go : (k : Checked) → tested (table c.stages) ≡ k → Way
-      go Passed e = let a = (passed_exactly (table c.stages)).0 e in ended a (run_passes c.refuse c.done c.stages a)
-      go (Failed r) e = let z = first_stops c.stages ((refused_exactly (table c.stages) r).0 e) in stopped z.1 (run_stops c.refuse c.done z.1)
+      go : (k : Answer Unit) → tested (table c.stages) ≡ k → Way
+      go (Ok _) e = let a = (passed_exactly (table c.stages)).0 e in ended a (run_passes c.refuse c.done c.stages a)
+      go (Err r) e = let z = first_stops c.stages ((refused_exactly (table c.stages) r).0 e) in stopped z.1 (run_stops c.refuse c.done z.1)
 
   answers : {x : Left A L} → called c ≡ x → x.answer ≡ (called c).answer
   answers e = ap (λ (x : Left A L). x.answer) (sym e)
@@ -178,11 +177,11 @@ module _ {A L : Type 0} (c : Call A L) (same : (r t : Refusal) → c.refuse r �
       go (ended a w) = absurd (apart r (answers w ∙ e))
 
   -- it is done exactly if every stage passes
-  pub done_when : ((called c).answer ≡ c.done.answer) ↔ (tested (table c.stages) ≡ Passed)
+  pub done_when : ((called c).answer ≡ c.done.answer) ↔ (tested (table c.stages) ≡ passed)
   unfolding called
   done_when = (to way, λ e. sym (answers (run_passes c.refuse c.done c.stages ((passed_exactly (table c.stages)).0 e))))
     where
-      to : Way → (called c).answer ≡ c.done.answer → tested (table c.stages) ≡ Passed
+      to : Way → (called c).answer ≡ c.done.answer → tested (table c.stages) ≡ passed
       to (stopped {r = t} h w) e = absurd (apart t (sym (answers w ∙ e)))
       to (ended a w) e = (passed_exactly (table c.stages)).1 a
 

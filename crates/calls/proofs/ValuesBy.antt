@@ -7,8 +7,6 @@ use lib.ListN.{length, replicate}
 use lib.Ieee.{Float}
 use Rattle.weights.specs.Worth.{zero64}
 use Rattle.scratch.specs.Cleared.{cleared}
-use Rattle.field.specs.declared.Checked.{Checked}
-use Rattle.field.specs.declared.Checked.TheVariants.{Passed, Failed}
 use Rattle.field.specs.declared.Refusal.{Refusal}
 use Rattle.field.specs.Field.{Field}
 use Rattle.field.specs.Table.{tested, FirstToFail}
@@ -17,14 +15,16 @@ use Rattle.field.proofs.Means.{ready_passes}
 use Rattle.calls.specs.Call as any
 use Rattle.calls.specs.Call.{run, table, no_stage}
 use Rattle.calls.specs.Values.{Lent, lent, Values, Says, Tells, grades, counts, values_by}
-use Rattle.calls.proofs.Answers.{same_refused, done_apart, same_refuses, counts_apart}
+use Rattle.calls.proofs.Answers.{same_refused, done_apart}
 use Rattle.calls.proofs.Usual as usual
+use Rattle.field.specs.Answers.{Answer, passed}
+use Rattle.std.specs.Prelude.{Err}
 
 pub grades_tell : Tells grades
 grades_tell = record { same = same_refused; apart = λ F s. done_apart }
 
 pub counts_tell : (count : Field → List ℕ → ℕ) → Tells (counts count)
-counts_tell count = record { same = same_refuses; apart = λ F s. counts_apart }
+counts_tell count = record { same = same_refused; apart = λ F s. done_apart }
 
 module _ {A : Type 0} {says : Says A} (tells : Tells says) (values : Values) (F : Field) (s : List ℕ) (f : List Float) (u : List ℕ) where
   -- Theorem. The call is refused with r exactly if the tests before r's own pass, and its own fails.
@@ -63,12 +63,12 @@ module _ {A : Type 0} {says : Says A} (tells : Tells says) (values : Values) (F 
 
 -- ---- how code meets the promise: its tests give k
 
-module _ {A : Type 0} (says : Says A) (values : Values) (F : Field) (s : List ℕ) (f : List Float) (u : List ℕ) {k : Checked} (e : k ≡ tested (ready_tests F s (length f) (length u))) where
-  pub refused_call : {r : Refusal} → k ≡ Failed r → any.left (says.refuse r) (lent s f u) ≡ values_by says values F s f u
+module _ {A : Type 0} (says : Says A) (values : Values) (F : Field) (s : List ℕ) (f : List Float) (u : List ℕ) {k : Answer Unit} (e : k ≡ tested (ready_tests F s (length f) (length u))) where
+  pub refused_call : {r : Refusal} → k ≡ Err r → any.left (says.refuse r) (lent s f u) ≡ values_by says values F s f u
   unfolding values_by
   refused_call failed = usual.refused_call says.refuse _ _ [] _ (sym e ∙ failed)
 
-  pub done_call : k ≡ Passed → {a : A} → a ≡ says.done F s → {s' : List ℕ} → s' ≡ values F s
+  pub done_call : k ≡ passed → {a : A} → a ≡ says.done F s → {s' : List ℕ} → s' ≡ values F s
       → {f' : List Float} {fs : ℕ} → f' ≡ replicate fs zero64 → fs ≡ length f → {u' : List ℕ} {us : ℕ} → u' ≡ replicate us 0 → us ≡ length u
       → any.left a (lent s' f' u') ≡ values_by says values F s f u
   unfolding values_by run

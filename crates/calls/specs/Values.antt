@@ -1,17 +1,16 @@
 -- A call that answers in the start values: what it answers and leaves, as one function of what it is given, for every input. Assumes nothing.
-use Rattle.std.specs.Prelude.{ℕ, ◌≡◌, List, [], length, Float}
+use Rattle.std.specs.Prelude.{ℕ, ◌≡◌, List, [], length, Float, Ok, Err}
 use Rattle.weights.specs.Worth.{zero64}
 use Rattle.scratch.specs.Cleared.{cleared}
-use Rattle.field.specs.declared.Answer.{Answer}
-use Rattle.field.specs.declared.Answer.TheVariants.{Done, Refused}
 use Rattle.field.specs.declared.Counted.{Counted}
-use Rattle.field.specs.declared.Counted.TheVariants.{Counts, Refuses}
 use Rattle.field.specs.declared.Refusal.{Refusal}
 use Rattle.field.specs.Field.{Field}
 use Rattle.field.specs.Tests.{ready_tests}
 use Rattle.field.specs.Grade.{grade_of}
 use Rattle.calls.specs.Call as any
 use Rattle.calls.specs.Call.{called, usual}
+use Rattle.field.specs.Answers.{Answer, counted_answer}
+use Rattle.field.specs.declared.Grade.{Grade}
 
 -- The three lent lists of a call that answers in the start values: these, the floats and the words.
 pub record Lent : Type 0 where
@@ -25,10 +24,10 @@ lent s f u = record { values = s; floats = f; words = u }
 
 -- The answer of a call on start values, and its three lent lists afterwards.
 abbrev pub Left : Type 0
-Left = any.Left Answer Lent
+Left = any.Left (Answer Grade) Lent
 
 -- What a call on start values leaves, made of its answer and the three lent lists.
-abbrev pub left : Answer → List ℕ → List Float → List ℕ → Left
+abbrev pub left : Answer Grade → List ℕ → List Float → List ℕ → Left
 left r s f u = any.left r (lent s f u)
 
 -- which values go into the start values, for a field and its start values
@@ -46,12 +45,12 @@ pub record Tells {A : Type 0} (says : Says A) : Type 0 where
   pub apart : (F : Field) (s : List ℕ) (r : Refusal) → says.done F s ≡ says.refuse r → ⊥
 
 -- on 0 the grade is answered (rule 2.8)
-abbrev pub grades : Says Answer
-grades = record { refuse = Refused; done = λ F s. Done (grade_of F) }
+abbrev pub grades : Says (Answer Grade)
+grades = record { refuse = Err; done = λ F s. Ok (grade_of F) }
 
 -- The call says the grade and a count beside it when it is done.
-abbrev pub counts : (Field → List ℕ → ℕ) → Says Counted
-counts count = record { refuse = Refuses; done = λ F s. Counts (grade_of F) (count F s) }
+abbrev pub counts : (Field → List ℕ → ℕ) → Says (Answer Counted)
+counts count = record { refuse = Err; done = λ F s. counted_answer (grade_of F) (count F s) }
 
 -- tests 1 to 6 and 8, then the values, which go into the start values (rule 3.12);
 -- past test 8 scratch ends as all zeros (rule 3.9)

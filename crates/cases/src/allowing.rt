@@ -1,42 +1,27 @@
 // A case of the call that asks what constraints allow.
 ghost use Rattle.std.specs.Prelude.{◌≤◌, length};
-ghost use Rattle.stream.specs.Heads.{Fits};
 
+use crate::case::Case;
 use allow::Allowed;
+use field::Answer;
 use lines::allowed::put_allowed;
-use lines::{BYTE, LONG, SHORT, WORD};
-use std::io::Stdout;
-use stream::head::{Head, VARIABLES, constraints_at};
-use stream::lists::{fill_words, take_shorts};
-use stream::output::least;
+use lines::left::{BYTE, LONG, SHORT, WORD};
+use lines::outcomes::Undone;
+use stream::head::VARIABLES;
+use stream::lists::take;
+use stream::output::Output;
 
 // The longest list of counts and the longest u64 scratch.
 const COUNTS: usize = 4_110;
 
 const LONGS: usize = 131_100;
 
-fn number_of(answer: Allowed) -> u32 {
+// No variable where some assignment meets every constraint, or the one by which none does; or the refusal.
+fn failing(answer: Answer<Allowed>) -> Result<Option<usize>, Undone> {
     match answer {
-        Allowed::Yes => 0,
-        Allowed::No(_) => 0,
-        Allowed::Refuses(refusal) => refusal.number(),
-    }
-}
-
-fn is_yes(answer: Allowed) -> bool {
-    match answer {
-        Allowed::Yes => true,
-        Allowed::No(_) => false,
-        Allowed::Refuses(_) => false,
-    }
-}
-
-// The variable that a no names, and 0 where there is none.
-fn variable_of(answer: Allowed) -> usize {
-    match answer {
-        Allowed::Yes => 0,
-        Allowed::No(variable) => variable,
-        Allowed::Refuses(_) => 0,
+        Ok(Allowed::Yes) => Ok(None),
+        Ok(Allowed::No(variable)) => Ok(Some(variable)),
+        Err(refusal) => Err(Undone::Refusing(refusal)),
     }
 }
 
@@ -48,80 +33,41 @@ fn allow_in(
     counts: &mut [u16],
     w: &mut [u64],
     u: &mut [u32],
-    stdout: Stdout,
-    out: &mut [u8],
-    used: usize,
-) -> usize
-    ensures { result ≤ length out.new }
-{
-    let answer = allow::allow(variables, constraints, assignment, counts, w, u);
-    let number = number_of(answer);
-    let yes = is_yes(answer);
-    let variable = variable_of(answer);
-    put_allowed(
-        stdout, out, used, number, yes, variable, variables, assignment, counts, w, u,
-    )
+    out: &mut Output<'_>,
+) {
+    let answer = failing(allow::allow(variables, constraints, assignment, counts, w, u));
+    put_allowed(out, answer, variables, assignment, counts, w, u);
 }
 
 // With constraints and u32 scratch as long as the head says, and answer lists and u64 scratch of its own.
-fn answer_taken(
-    head: Head,
-    contents: &[u8],
-    constraints: &mut [u16],
-    u: &mut [u32],
-    stdout: Stdout,
-    out: &mut [u8],
-    used: usize,
-) -> usize
-    requires fits { Fits head (length contents.now) }
-    requires constraints_len_bound { length constraints.old ≤ head.constraints }
-    ensures { result ≤ length out.new }
+fn answer_taken(case: Case<'_>, constraints: &mut [u16], u: &mut [u32], out: &mut Output<'_>)
+    requires { length constraints.old ≤ case.head.constraints }
 {
-    take_shorts(contents, constraints_at(head), constraints);
-    fill_words(u, WORD);
+    take(case.contents, case.head.constraints_at(), constraints);
+    u.fill(WORD);
     let mut assignment = [BYTE; VARIABLES];
     let mut counts = [SHORT; COUNTS];
     let mut w = [LONG; LONGS];
-    let values = head.found;
-    let numbers = least(head.variables, COUNTS);
-    let longs = least(head.floats, LONGS);
+    let values = case.head.found;
+    let numbers = case.head.variables.min(COUNTS);
+    let longs = case.head.floats.min(LONGS);
     allow_in(
-        head.variable,
+        case.head.variable,
         constraints,
         &mut assignment[..values],
         &mut counts[..numbers],
         &mut w[..longs],
         u,
-        stdout,
         out,
-        used,
-    )
+    );
 }
 
 // A list and u32 scratch are lent, of which it takes the parts that the head asks for.
-pub fn answer_allow(
-    head: Head,
-    contents: &[u8],
-    list: &mut [u16],
-    u: &mut [u32],
-    stdout: Stdout,
-    out: &mut [u8],
-    used: usize,
-) -> usize
-    requires fits { Fits head (length contents.now) }
-    requires constraints_in_bounds { head.constraints ≤ length list.old }
-    requires words_in_bounds { head.words ≤ length u.old }
-    ensures { result ≤ length out.new }
+pub fn answer_allow(case: Case<'_>, list: &mut [u16], u: &mut [u32], out: &mut Output<'_>)
+    requires constraints_in_bounds { case.head.constraints ≤ length list.old }
+    requires words_in_bounds { case.head.words ≤ length u.old }
 {
-    let count = head.constraints;
-    let words = head.words;
-    answer_taken(
-        head,
-        contents,
-        &mut list[..count],
-        &mut u[..words],
-        stdout,
-        out,
-        used,
-    )
+    let count = case.head.constraints;
+    let words = case.head.words;
+    answer_taken(case, &mut list[..count], &mut u[..words], out);
 }

@@ -2,6 +2,7 @@
 #![tactic(auto)]
 
 pub mod allowing;
+pub mod case;
 pub mod contents;
 pub mod mended;
 pub mod reading;

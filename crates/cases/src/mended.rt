@@ -2,27 +2,23 @@
 ghost use Rattle.std.specs.Prelude.{◌≤◌, length};
 ghost use Rattle.stream.specs.Heads.{standing};
 
-use lines::Outcome;
-use lines::outcomes::{is_exact, refusing};
+use field::{Answer, FieldRef};
+use lines::outcomes::{Ended, done, refusing};
 use lines::reduced::put_mended;
 use mend::Mended;
-use std::io::Stdout;
+use stream::output::Output;
 
 // Done with a grade, as many changes and as many entries, or a refusal.
-fn outcome_of(answer: Mended) -> Outcome {
+fn outcome_of(answer: Answer<Mended>) -> Ended {
     match answer {
-        Mended::Done(grade, entries, changes) => {
-            Outcome {
-                number: 0,
-                is_exact: is_exact(grade),
-                count: changes,
-                pairs: entries,
-                ground_number: 0,
-                unit: 0,
-                bound: 0.0,
-            }
-        }
-        Mended::Refused(refusal) => refusing(refusal),
+        Ok(
+            Mended {
+                grade,
+                entries,
+                changes,
+            },
+        ) => done(Some(grade), changes, entries),
+        Err(refusal) => refusing(refusal),
     }
 }
 
@@ -36,15 +32,18 @@ pub fn mend_field(
     list: &mut [u16],
     f: &mut [f64],
     u: &mut [u32],
-    stdout: Stdout,
-    out: &mut [u8],
-    used: usize,
-) -> usize
+    out: &mut Output<'_>,
+)
     requires { standing (length c.now) (length rows.old) (length cols.old) (length q.old) ≤ length contents.now }
-    ensures { result ≤ length out.new }
 {
-    let outcome = outcome_of(mend::mend(c, rows, cols, q, list, f, u));
+    let ended = outcome_of(mend::mend(c, rows, cols, q, list, f, u));
     put_mended(
-        stdout, out, used, outcome, contents, c, rows, cols, q, list, f, u,
-    )
+        out,
+        ended,
+        contents,
+        FieldRef { c, rows, cols, q },
+        list,
+        f,
+        u,
+    );
 }

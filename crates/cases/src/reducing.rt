@@ -2,35 +2,32 @@
 ghost use Rattle.std.specs.Prelude.{◌≤◌, length};
 ghost use Rattle.stream.specs.Heads.{standing};
 
-use lines::Outcome;
-use lines::outcomes::{is_exact, refusing};
+use field::{Answer, FieldRef};
+use lines::outcomes::{Ended, done, refusing};
 use lines::reduced::put_reduced;
-use std::io::Stdout;
+use stream::output::Output;
 use sub_problem::Reduced;
 
 // Done with a grade, as many variables and as many entries, or a refusal.
-fn reduced(answer: Reduced) -> Outcome {
+fn reduced(answer: Answer<Reduced>) -> Ended {
     match answer {
-        Reduced::Done(grade, variables, entries, _) => {
-            Outcome {
-                number: 0,
-                is_exact: is_exact(grade),
-                count: variables,
-                pairs: entries,
-                ground_number: 0,
-                unit: 0,
-                bound: 0.0,
-            }
-        }
-        Reduced::Refused(refusal) => refusing(refusal),
+        Ok(
+            Reduced {
+                grade,
+                variables,
+                entries,
+                ..
+            },
+        ) => done(Some(grade), variables, entries),
+        Err(refusal) => refusing(refusal),
     }
 }
 
 // The constant, and 0.0 where there is none.
-fn constant_of(answer: Reduced) -> f64 {
+fn constant_of(answer: Answer<Reduced>) -> f64 {
     match answer {
-        Reduced::Done(_, _, _, constant) => constant,
-        Reduced::Refused(_) => 0.0,
+        Ok(Reduced { constant, .. }) => constant,
+        Err(_) => 0.0,
     }
 }
 
@@ -45,17 +42,21 @@ pub fn reduce_field(
     list: &mut [u16],
     f: &mut [f64],
     u: &mut [u32],
-    stdout: Stdout,
-    out: &mut [u8],
-    used: usize,
-) -> usize
+    out: &mut Output<'_>,
+)
     requires { standing (length c.old) (length rows.old) (length cols.old) (length q.old) ≤ length contents.now }
-    ensures { result ≤ length out.new }
 {
     let answer = sub_problem::sub_problem(c, rows, cols, q, start, list, f, u);
-    let outcome = reduced(answer);
+    let ended = reduced(answer);
     let constant = constant_of(answer);
     put_reduced(
-        stdout, out, used, outcome, constant, contents, c, rows, cols, q, list, f, u,
-    )
+        out,
+        ended,
+        constant,
+        contents,
+        FieldRef { c, rows, cols, q },
+        list,
+        f,
+        u,
+    );
 }

@@ -5,13 +5,14 @@ use Rattle.field.specs.Field.{Field}
 use Rattle.calls.specs.Call as any
 use Rattle.calls.specs.Values.{Lent, lent, counts, values_by}
 use Rattle.run.specs.Run.{closure_run, closure, flat_rows}
+use Rattle.field.specs.Answers.{Answer}
 
 -- the answer, and the three lent lists afterwards
 abbrev pub Left : Type 0
-Left = any.Left Counted Lent
+Left = any.Left (Answer Counted) Lent
 
 -- What the call `closure` leaves, made of its answer, the start values and both scratches.
-abbrev pub left : Counted → List ℕ → List Float → List ℕ → Left
+abbrev pub left : Answer Counted → List ℕ → List Float → List ℕ → Left
 left r s f u = any.left r (lent s f u)
 
 -- how many free variables have a flat row at the end of the run, as the run holds it (rule 4.11)

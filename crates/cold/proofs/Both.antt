@@ -18,7 +18,7 @@ use Rattle.finding.proofs.Entering.{enters_as, enters_values, enters_gathers}
 use Rattle.finding.proofs.Copied.{front_by}
 use Rattle.finding.proofs.Given.{finding_from}
 use Rattle.twin.specs.Twin.{first_at, values_at, EndFor}
-use Rattle.walking.specs.Walk.{candidates_at, gather_at, Adds}
+use Rattle.walking.specs.Walk.{candidates_at, Adds}
 use Rattle.cold.specs.Afresh.{Places, Afresh, Behind, Laid, pass_to, Passable}
 use Rattle.cold.proofs.Passed.{pass_enters}
 

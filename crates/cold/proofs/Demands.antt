@@ -8,8 +8,6 @@ use lib.ListN.{length, get_or, take}
 use Rattle.meaning.specs.Field as meaning
 use Rattle.meaning.specs.Kinds.{Pair}
 use Rattle.meaning.specs.Records.{Record, Bans, MeetsRecord}
-use Rattle.field.specs.declared.Answer.TheVariants.{Done}
-use Rattle.field.specs.declared.Counted.TheVariants.{Counts}
 use Rattle.field.specs.declared.Grade.TheVariants.{Exact}
 use Rattle.field.specs.Field.{Field, variables}
 use Rattle.field.specs.Grade.{Serves}
@@ -24,6 +22,8 @@ use Rattle.probes.specs.Says.{listed, value_at}
 use Rattle.probes.proofs.Routes.{one_by, probe_by_lem, limited_by}
 use Rattle.probes.proofs.FullCall as full
 use Rattle.probes.proofs.LimitedCall as limited
+use Rattle.std.specs.Prelude.{Ok}
+use Rattle.field.specs.Answers.{counted_answer}
 
 -- Theorem. The cold route agrees with itself, and the fast one agrees by `routes-agree`.
 pub cold_agrees : Agrees cold
@@ -32,7 +32,7 @@ cold_agrees F S s start i v free small = refl
 module _ {R : Route} (agrees : Agrees R) (F : Field) (s : List ℕ) where
   -- ---- the single probe
 
-  module _ (i v : ℕ) (t : List ℕ) (f : List Float) (u : List ℕ) (e : (probe_one_by R F s i v t f u).answer ≡ Done Exact) {unit : ℕ} (serving : Serves unit F) where
+  module _ (i v : ℕ) (t : List ℕ) (f : List Float) (u : List ℕ) (e : (probe_one_by R F s i v t f u).answer ≡ Ok Exact) {unit : ℕ} (serving : Serves unit F) where
     same_one : probe_one_by R F s i v t f u ≡ probe_one_by cold F s i v t f u
     same_one = one_by agrees F s i v t f u
 
@@ -47,7 +47,7 @@ module _ {R : Route} (agrees : Agrees R) (F : Field) (s : List ℕ) where
 
   -- ---- the full probe
 
-  module _ (t k : List ℕ) (f : List Float) (u : List ℕ) {count : ℕ} (e : (probe_by R F s t k f u).answer ≡ Counts Exact count) {unit : ℕ} (serving : Serves unit F) where
+  module _ (t k : List ℕ) (f : List Float) (u : List ℕ) {count : ℕ} (e : (probe_by R F s t k f u).answer ≡ counted_answer Exact count) {unit : ℕ} (serving : Serves unit F) where
     same_full : probe_by R F s t k f u ≡ probe_by cold F s t k f u
     same_full = probe_by_lem agrees F s t k f u
 
@@ -76,7 +76,7 @@ module _ {R : Route} (agrees : Agrees R) (F : Field) (s : List ℕ) where
 
   -- ---- the limited probe
 
-  module _ (limit : ℕ) (t k : List ℕ) (f : List Float) (u : List ℕ) {count : ℕ} (e : (probe_limited_by R F s limit t k f u).answer ≡ Counts Exact count)
+  module _ (limit : ℕ) (t k : List ℕ) (f : List Float) (u : List ℕ) {count : ℕ} (e : (probe_limited_by R F s limit t k f u).answer ≡ counted_answer Exact count)
       {unit : ℕ} (serving : Serves unit F) where
     same_limited : probe_limited_by R F s limit t k f u ≡ probe_limited_by cold F s limit t k f u
     same_limited = limited_by agrees F s limit t k f u

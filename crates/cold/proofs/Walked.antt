@@ -8,22 +8,20 @@ use lib.ListN.{length, get_or, take}
 use lib.Seq.{take-take}
 use Rattle.scratch.specs.Region.{region}
 use Rattle.meaning.proofs.Values.{inside}
-use Rattle.found.specs.declared.Merged.{Merged}
-use Rattle.found.specs.declared.Merged.TheVariants.{Holds, Full}
 use Rattle.found.specs.Flush.{left, flushed}
 use Rattle.field.specs.Field.{Field, variables}
 use Rattle.field.specs.Tests.{Ready}
 use Rattle.places.proofs.Walk.{adjacent_front}
-use Rattle.places.proofs.Slices.{front_get_d}
 use Rattle.run.specs.Cells.{base}
 use Rattle.ranking.proofs.Ordered.{Every}
 use Rattle.twin.specs.Twin.{values_at, EndFor}
-use Rattle.walking.specs.Walk.{candidates_at, gather_at, roomed, end_after, held_of, Stays, Begins, Adds, Walked}
+use Rattle.walking.specs.Walk.{candidates_at, gather_at, roomed, end_after, Stays, Begins, Adds, Walked}
 use Rattle.walking.proofs.Going.{Going, going_start, going_done, going_full, roomed_here, going_room, going_free, going_turn}
 use Rattle.probes.specs.Standing.{Noned}
 use Rattle.probes.proofs.Standing.{region_same}
 use Rattle.probes.proofs.Chosen.{Free, space_enough, candidates_free}
 use Rattle.cold.specs.Afresh.{Places, Afresh, Lined}
+use Rattle.std.specs.Prelude.{Option, Some, None}
 
 -- ---- the loop
 
@@ -44,19 +42,19 @@ walking_start B list values f = record { going = going_start B list; values_long
 
 module _ {F : Field} {s : List ℕ} {count : ℕ} {list₀ values₀ : List ℕ} {f₀ : List Float} {u₀ list values : List ℕ} {f : List Float} {u : List ℕ} {held end h : ℕ}
     (W : Walking F s count list₀ values₀ f₀ u₀ list values f u held end h) where
-  pub walking_done : count ≤ h → {r : Merged} {list' u' : List ℕ} → left r list' u' ≡ flushed list held u (gather_at F) end
+  pub walking_done : count ≤ h → {r : Option ℕ} {list' u' : List ℕ} → left r list' u' ≡ flushed list held u (gather_at F) end
       → Walked F s (region (candidates_at F) count u₀) list₀ r list' u'
   walking_done l e = going_done W.going (places_stay F) l e
 
-  module _ {r : Merged} {list' u' : List ℕ} (e : left r list' u' ≡ roomed list held u (gather_at F) end (variables F)) where
-    pub walking_full : r ≡ Full → Walked F s (region (candidates_at F) count u₀) list₀ Full list' u'
+  module _ {r : Option ℕ} {list' u' : List ℕ} (e : left r list' u' ≡ roomed list held u (gather_at F) end (variables F)) where
+    pub walking_full : r ≡ None → Walked F s (region (candidates_at F) count u₀) list₀ None list' u'
     walking_full a = going_full W.going (places_stay F) e a
 
-    module _ (more : h < count) {m : ℕ} (a : r ≡ Holds m) {held' next : ℕ} (b : held' ≡ held_of r) (d : next ≡ end_after (length u) (gather_at F) end (variables F))
+    module _ (more : h < count) {held' next : ℕ} (a : r ≡ Some held') (d : next ≡ end_after (length u) (gather_at F) end (variables F))
         {i : ℕ} (q : i ≡ get_or u' (candidates_at F + h) 0) where
       pub walking_both : Afresh F s (length values₀) (length f₀) u₀ → Afresh F s (length values) (length f) u' × ((i < variables F) × EndFor F u' next)
       walking_both A =
-          let S = (roomed_here W.going (places_stay F) e more a b d).stands in (
+          let S = (roomed_here W.going (places_stay F) e more a d).stands in (
             record {
               shaped = A.shaped;
               start = A.start;
@@ -65,13 +63,13 @@ module _ {F : Field} {s : List ℕ} {count : ℕ} {list₀ values₀ : List ℕ}
               places = S.stand;
               words_room = omega (arith, S.space);
             },
-            (omega (arith, inside s i (going_free W.going (places_stay F) e more a b d q), A.start.long), going_room W.going (places_stay F) e more a b d),
+            (omega (arith, inside s i (going_free W.going (places_stay F) e more a d q), A.start.long), going_room W.going (places_stay F) e more a d),
           )
 
       pub walking_turn : {values'' u'' : List ℕ} {f'' : List Float} {r'' : ℕ} → length values'' ≡ length values → length f'' ≡ length f → length u'' ≡ length u
           → Adds F s i u' next u'' r'' → Places F u'' → Walking F s count list₀ values₀ f₀ u₀ list' values'' f'' u'' held' r'' (h + 1)
       walking_turn ev ef eu added stand = record {
-        going = going_turn W.going (places_stay F) e more a b d q eu added stand;
+        going = going_turn W.going (places_stay F) e more a d q eu added stand;
         values_long = ev ∙ W.values_long;
         floats_long = ef ∙ W.floats_long;
       }

@@ -8,16 +8,13 @@ ghost use Rattle.walking.specs.Walk.{Adds};
 ghost use Rattle.places.specs.Places.{Adjacent};
 ghost use Rattle.cold.specs.Afresh.{Afresh, Behind, Laid, Passable, pass_to};
 
+use field::FieldRef;
 use finding::emitting::emit;
-use finding::rule::word;
 use probe::values::assume;
 
 // The probe of a variable at a value: the start values with the one value added, every row at them, the whole scan, and the queue.
 fn probe_afresh(
-    c: &[f64],
-    rows: &[u16],
-    cols: &[u16],
-    q: &[f64],
+    field: FieldRef,
     start: &[u8],
     values: &mut [u8],
     f: &mut [f64],
@@ -25,14 +22,14 @@ fn probe_afresh(
     variable: usize,
     value: u8,
 )
-    requires afresh { Afresh (lent c rows cols q) start.now (length values.old) (length f.old) u.old }
-    requires variable_bound { variable < variables (lent c rows cols q) }
-    ensures values_value { values.new ≡ cold (given c rows cols q) start.now variable value }
-    ensures behind { Behind (given c rows cols q) u.old u.new }
+    requires afresh { Afresh (lent field) start.now (length values.old) (length f.old) u.old }
+    requires variable_bound { variable < variables (lent field) }
+    ensures values_value { values.new ≡ cold (given field) start.now variable value }
+    ensures behind { Behind (given field) u.old u.new }
 {
     assume(start, variable, value, values);
-    rows::fill::fill(c, rows, cols, q, values, f);
-    run::propagate(c, rows, cols, q, values, f, u);
+    rows::fill::fill(field, values, f);
+    run::propagate(field, values, f, u);
 }
 
 // The values go into the words from `first` on.
@@ -40,8 +37,8 @@ fn lay(values: &[u8], u: &mut [u32], first: usize)
     requires { first + length values.now ≤ length u.old }
     ensures { Laid first (length values.now) values.now u.old u.new }
 {
-    for j in 0..values.len() {
-        u[first + j] = word(values[j]);
+    for (j, value) in values.iter().enumerate() {
+        u[first + j] = u32::from(*value);
     }
 }
 
@@ -67,10 +64,7 @@ fn pass(
 
 // The probes of a variable at 0 and at 1, with rows made afresh, and what they find; where the gathered numbers end now.
 pub fn both(
-    c: &[f64],
-    rows: &[u16],
-    cols: &[u16],
-    q: &[f64],
+    field: FieldRef,
     start: &[u8],
     values: &mut [u8],
     f: &mut [f64],
@@ -78,17 +72,17 @@ pub fn both(
     variable: usize,
     end: usize,
 ) -> usize
-    requires afresh { Afresh (lent c rows cols q) start.now (length values.old) (length f.old) u.old }
-    requires variable_bound { variable < variables (lent c rows cols q) }
-    requires end_for { EndFor (lent c rows cols q) u.old end }
-    ensures adds { Adds (given c rows cols q) start.now variable u.old end u.new result }
-    ensures adjacent { Adjacent (variables (given c rows cols q)) rows.now cols.now u.new }
+    requires afresh { Afresh (lent field) start.now (length values.old) (length f.old) u.old }
+    requires variable_bound { variable < variables (lent field) }
+    requires end_for { EndFor (lent field) u.old end }
+    ensures adds { Adds (given field) start.now variable u.old end u.new result }
+    ensures adjacent { Adjacent (variables (given field)) (given field).rows (given field).cols u.new }
 {
-    let n = c.len();
-    let first = n + 1 + 2 * rows.len() + n + n;
+    let n = field.c.len();
+    let first = n + 1 + 2 * field.rows.len() + n + n;
     let at = first + n;
-    probe_afresh(c, rows, cols, q, start, values, f, u, variable, 0);
+    probe_afresh(field, start, values, f, u, variable, 0);
     lay(values, u, first);
-    probe_afresh(c, rows, cols, q, start, values, f, u, variable, 1);
+    probe_afresh(field, start, values, f, u, variable, 1);
     pass(start, values, u, variable, first, at, end)
 }

@@ -12,7 +12,6 @@ use Rattle.scratch.specs.Cleared.{cleared}
 use Rattle.meaning.specs.Steps.{Extends}
 use Rattle.meaning.specs.Field.{twice_f, Completion}
 use Rattle.meaning.specs.Part.{Safe}
-use Rattle.field.specs.declared.Answer.TheVariants.{Done, Refused}
 use Rattle.field.specs.declared.Grade.{Grade}
 use Rattle.field.specs.declared.Grade.TheVariants.{Exact}
 use Rattle.field.specs.declared.Refusal.{Refusal}
@@ -31,6 +30,7 @@ use Rattle.components.specs.Small.{small_parts}
 use Rattle.components.specs.Call.{components_call}
 use Rattle.components.proofs.Bridge.{parts_extend, parts_safe}
 use Rattle.components.proofs.Small as small
+use Rattle.std.specs.Prelude.{Ok, Err}
 
 module _ (F : Field) (s : List ℕ) (f : List Float) (u : List ℕ) where
   -- Theorem. Any two results that the promise permits are equal.
@@ -38,20 +38,20 @@ module _ (F : Field) (s : List ℕ) (f : List Float) (u : List ℕ) where
   one_result = values.one_result _ F s f u
 
   -- Theorem. DEMAND 1. The call is refused with r exactly if the tests before r's own pass, and its own fails.
-  pub refused_when : (r : Refusal) → ((components_call F s f u).answer ≡ Refused r) ↔ FirstToFail (ready_tests F s (length f) (length u)) r
+  pub refused_when : (r : Refusal) → ((components_call F s f u).answer ≡ Err r) ↔ FirstToFail (ready_tests F s (length f) (length u)) r
   refused_when = values.refused_when _ F s f u
 
   -- Theorem. A refusal changes nothing lent.
-  pub refused_leaves : (r : Refusal) → (components_call F s f u).answer ≡ Refused r → components_call F s f u ≡ left (Refused r) s f u
+  pub refused_leaves : (r : Refusal) → (components_call F s f u).answer ≡ Err r → components_call F s f u ≡ left (Err r) s f u
   refused_leaves = values.refused_leaves _ F s f u
 
   -- Theorem. It is done exactly if the field, the start values and both scratches are as the table asks, and then gives the grade.
-  pub done_when : ((components_call F s f u).answer ≡ Done (grade_of F)) ↔ Ready F s (length f) (length u)
+  pub done_when : ((components_call F s f u).answer ≡ Ok (grade_of F)) ↔ Ready F s (length f) (length u)
   done_when = values.done_when _ F s f u
 
-  module _ (g : Grade) (e : (components_call F s f u).answer ≡ Done g) where
+  module _ (g : Grade) (e : (components_call F s f u).answer ≡ Ok g) where
     -- Theorem. Then the values of the small components are in the start values, and both scratches are all zeros.
-    pub done_leaves : components_call F s f u ≡ left (Done (grade_of F)) (small_parts F s) (cleared zero64 f) (cleared 0 u)
+    pub done_leaves : components_call F s f u ≡ left (Ok (grade_of F)) (small_parts F s) (cleared zero64 f) (cleared 0 u)
     done_leaves = values.done_leaves _ F s f u g e
 
     pub values_are : (components_call F s f u).lent.values ≡ small_parts F s
@@ -75,14 +75,14 @@ module _ (F : Field) (s : List ℕ) (f : List Float) (u : List ℕ) where
     lowest_first p h few = let S = (values.ready _ F s f u g e).sound in rw values_are (small.lowest_first S.shaped s S.start.long p h few)
 
 -- Theorem. DEMAND 3, for values that hold in one best completion. On an exact field some best completion of the start values agrees with all of them.
-pub some_best_agrees : (F : Field) (s : List ℕ) (f : List Float) (u : List ℕ) → (components_call F s f u).answer ≡ Done Exact
+pub some_best_agrees : (F : Field) (s : List ℕ) (f : List Float) (u : List ℕ) → (components_call F s f u).answer ≡ Ok Exact
     → {unit : ℕ} → Serves unit F → Safe (whole_of unit F) s (components_call F s f u).lent.values
 some_best_agrees F s f u e v =
     let x = values.exact_field _ F s f u e in
     rw (values_are F s f u Exact e) (parts_safe x.0 x.1.1 (omega (arith, v.to)) v.exact)
 
 -- Theorem. Of the masks of a component of at most 10 the values are those of the lowest that is best, whatever completion the values of a mask are put into.
-pub lowest_of_best : (F : Field) (s : List ℕ) (f : List Float) (u : List ℕ) → (components_call F s f u).answer ≡ Done Exact → {unit : ℕ} → Serves unit F
+pub lowest_of_best : (F : Field) (s : List ℕ) (f : List Float) (u : List ℕ) → (components_call F s f u).answer ≡ Ok Exact → {unit : ℕ} → Serves unit F
     → (p : ℕ) → p < length (components F true s) → (let K = get_or (components F true s) p [] in length K ≤ 10
     → (mask : ℕ) × (((x : List ℕ) → Completion s x → Won (λ m. twice_f (whole_of unit F) (put_to x K m (length K))) (2 ^ length K) mask) × HasBits (components_call F s f u).lent.values K mask))
 lowest_of_best F s f u e v p h few =

@@ -11,7 +11,6 @@ use lib.Pow.{pow_pos}
 use lib.ListN.{length, get_or}
 use lib.Ieee.{Float, nan, inf, fin, lt, of_bits}
 use Rattle.weights.specs.Worth.{zero64}
-use Rattle.field.specs.declared.Answer.TheVariants.{Done}
 use Rattle.field.specs.declared.Grade.{Grade}
 use Rattle.field.specs.Field.{Field, entries}
 use Rattle.calls.proofs.Values as values
@@ -23,6 +22,7 @@ use Rattle.enumeration.specs.Terms.{entry_of, linear_terms, term_at, pair_term, 
 use Rattle.components.specs.Call.{components_call}
 use Rattle.components.proofs.Small.{has_bits}
 use Rattle.components.proofs.Demands.{values_are}
+use Rattle.std.specs.Prelude.{Ok}
 
 -- ---- the sum of no bit
 
@@ -115,7 +115,7 @@ zeroth_wins F s members h = by (2 ^ length members) (pow_pos (length members)) h
 -- ---- the call
 
 -- Theorem. A component of at most 10 of which every mask but 0 sums to NaN or plus infinity gets 0 everywhere.
-pub all_zero : (F : Field) (s : List ℕ) (f : List Float) (u : List ℕ) (g : Grade) → (components_call F s f u).answer ≡ Done g
+pub all_zero : (F : Field) (s : List ℕ) (f : List Float) (u : List ℕ) (g : Grade) → (components_call F s f u).answer ≡ Ok g
     → (p : ℕ) → p < length (components F true s) → (let K = get_or (components F true s) p [] in length K ≤ 10
     → ((m : ℕ) → 0 < m → m < 2 ^ length K → lt (objective (terms_of F s K) m) top ≡ false) → HasBits (components_call F s f u).lent.values K 0)
 all_zero F s f u g e p h few none =

@@ -8,7 +8,8 @@ use native.Mathlib.Nat.{div-add-mod', mod-lt}
 use native.Mathlib.Numerals.{add-one}
 use native.Mathlib.Omega.{arith}
 use lib.ListN.{length, get_or, set, take, drop, length-set, length-append}
-use lib.Seq.{sets}
+use lib.Seq.{sets, get_or-take, get_or-drop}
+use Rattle.std.specs.Simd.{first_chunks}
 use Rattle.scratch.specs.Over.{over}
 use Rattle.scratch.proofs.Over.{length_over, over_front, over_rest, over_sets, sets_then}
 use Rattle.meaning.specs.Records.{Record, record_on}
@@ -174,3 +175,20 @@ module _ (l : List ℕ) where
       let s = in_at (record_on 0 0 0) (records l) m in
       let b : s.0 < room l = omega (arith, s.1.0, length_records l) in
       record { at = s.0; below = b; is = s.1.1 ∙ record_at_lem l s.0 (record_on 0 0 0) b }
+
+-- ---- a flat list as arrays of three
+
+-- number i of array t is number 3t + i of the list
+pub chunk_at : (k t i : ℕ) (list d : List ℕ) → t < k → i < 3 → get_or (get_or (first_chunks 3 k list) t d) i 0 ≡ get_or list (3 * t + i) 0
+chunk_at zero t i list d h g = absurd (omega arith)
+chunk_at (suc k) zero i list d h g = get_or-take 3 list i 0 g ∙ ap (λ (j : ℕ). get_or list j 0) (omega arith)
+chunk_at (suc k) (suc t) i list d h g =
+    chunk_at k t i (drop 3 list) d (omega arith) g ∙ get_or-drop 3 list (3 * t + i) 0 ∙ ap (λ (j : ℕ). get_or list j 0) (omega arith)
+
+-- the three numbers of array t are record number t
+pub chunk_record : (list : List ℕ) {chunks : List (List ℕ)} (t : ℕ) {a b c : ℕ} → chunks ≡ first_chunks 3 (room list) list → t < room list
+    → a ≡ get_or (get_or chunks t []) 0 0 → b ≡ get_or (get_or chunks t []) 1 0 → c ≡ get_or (get_or chunks t []) 2 0 → record_on a b c ≡ record_at list t
+chunk_record list {chunks} t {a} {b} {c} e h p q r =
+    let has : (i : ℕ) → i < 3 → get_or (get_or chunks t []) i 0 ≡ get_or list (3 * t + i) 0 = λ i g. rw e (chunk_at (room list) t i list [] h g) in
+    let x : a ≡ get_or list (3 * t) 0 = p ∙ has 0 (omega arith) ∙ ap (λ (j : ℕ). get_or list j 0) (omega arith) in
+    rw (x, q ∙ has 1 (omega arith), r ∙ has 2 (omega arith)) refl

@@ -15,9 +15,9 @@ pub fn number(lower: u16, higher: u16, set: u16) -> u32
     requires set_bound { set < 16 }
     ensures { result ≡ key_of (record_on lower higher set) }
 {
-    let a = lower as u32;
-    let b = higher as u32;
-    let c = set as u32;
+    let a = u32::from(lower);
+    let b = u32::from(higher);
+    let c = u32::from(set);
     (a * 4096 + b) * 16 + c
 }
 
@@ -30,8 +30,7 @@ pub fn key(first: u16, second: u16, kind: Kind) -> u32
     if first < second {
         return number(first, second, kind.set());
     }
-    let other = kind.turned();
-    number(second, first, other.set())
+    number(second, first, kind.turned().set())
 }
 
 // The lower variable, the higher one and the set that a number stands for.

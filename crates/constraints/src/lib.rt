@@ -9,7 +9,7 @@ ghost use Rattle.meaning.specs.Records.{record_on, set_of, turned};
 ghost use Rattle.constraints.specs.Codes.{code_of, kind_of, meant};
 ghost use Rattle.constraints.specs.Record.{stored};
 
-// What a constraint says of its two ends.
+// What a constraint says of its two ends; the codes are the numbers that stand for the kinds outside, and nothing in the code goes by them.
 #[derive(Clone, Copy)]
 pub enum Kind {
     AtLeastOne,
@@ -18,13 +18,6 @@ pub enum Kind {
     GreaterThan,
     LessThan,
     Equal,
-}
-
-// What a code says: a kind, or nothing.
-#[derive(Clone, Copy)]
-pub enum Coded {
-    Known(Kind),
-    Unknown,
 }
 
 impl Kind {
@@ -61,17 +54,17 @@ impl Kind {
     }
 
     // The kind of a code, where it has one.
-    pub fn of_code(code: u16) -> Coded
+    pub fn of_code(code: u16) -> Option<Kind>
         ensures { result ≡ kind_of code }
     {
         match code {
-            Kind::AT_LEAST_ONE => Coded::Known(Kind::AtLeastOne),
-            Kind::EXACTLY_ONE => Coded::Known(Kind::ExactlyOne),
-            Kind::NO_MORE_THAN_ONE => Coded::Known(Kind::NoMoreThanOne),
-            Kind::GREATER_THAN => Coded::Known(Kind::GreaterThan),
-            Kind::LESS_THAN => Coded::Known(Kind::LessThan),
-            Kind::EQUAL => Coded::Known(Kind::Equal),
-            _ => Coded::Unknown,
+            Kind::AT_LEAST_ONE => Some(Kind::AtLeastOne),
+            Kind::EXACTLY_ONE => Some(Kind::ExactlyOne),
+            Kind::NO_MORE_THAN_ONE => Some(Kind::NoMoreThanOne),
+            Kind::GREATER_THAN => Some(Kind::GreaterThan),
+            Kind::LESS_THAN => Some(Kind::LessThan),
+            Kind::EQUAL => Some(Kind::Equal),
+            _ => None,
         }
     }
 
@@ -94,12 +87,9 @@ impl Kind {
         ensures { meant result ≡ turned (meant self) }
     {
         match self {
-            Kind::AtLeastOne => Kind::AtLeastOne,
-            Kind::ExactlyOne => Kind::ExactlyOne,
-            Kind::NoMoreThanOne => Kind::NoMoreThanOne,
             Kind::GreaterThan => Kind::LessThan,
             Kind::LessThan => Kind::GreaterThan,
-            Kind::Equal => Kind::Equal,
+            other => other,
         }
     }
 }
@@ -108,7 +98,7 @@ impl Kind {
 pub fn forbidden_pairs(set: u16) -> u32
     ensures { result ≡ ones set }
 {
-    u16::count_ones(set)
+    set.count_ones()
 }
 
 // Writes three numbers as record number `at` of the list.

@@ -2,15 +2,17 @@
 use Prim.Native.Nat.{ℕ, zero, suc, ◌+◌, ◌*◌, ◌-◌, ◌%◌, ◌^◌, ◌<◌, ◌≤◌}
 use mathlib.Core.Path.{◌≡◌, refl, sym, ap, ◌∙◌}
 use mathlib.Core.Bool.{Bool, true, false, not, true≢false}
-use mathlib.Core.List.{List}
-use native.Mathlib.Nat.{pow-succ', pow-le-pow_right}
+use mathlib.Core.List.{List, [], ◌∷◌}
+use native.Mathlib.Nat.{pow-succ', pow-le-pow_right, mul_left_comm}
 use native.Mathlib.Omega.{arith}
 use borrow.Author.Tests.{lt-ltb, le-ltb}
 use lib.Dec.{T}
-use lib.ListN.{length, get_or, take}
-use lib.Seq.{drop-cons}
+use lib.ListN.{length, get_or, take, drop, length-drop}
+use lib.Seq.{drop-cons, length-take-le}
 use lib.Ieee.{Float, nan, inf, fin, binary64, of_bits, sub, is_nan, nan_bits}
 use lib.Ieee.Bits.{nan_bits_is, nan_bits_above}
+use Rattle.std.specs.Prelude.{slice_index}
+use Rattle.std.specs.Int.{byte_worth, sum_through}
 use Rattle.endian.specs.Bytes.{value_of, number_at, float_at}
 
 pub number_cons : (k : ℕ) (s : List ℕ) (at : ℕ) → at < length s → number_at (suc k) s at ≡ get_or s at 0 + 256 * number_at k s (suc at)
@@ -61,6 +63,33 @@ unfolding value_of number_at
 number_below zero s at h room = omega arith
 number_below (suc k) s at h room =
     omega (arith, number_cons k s at (omega arith), h at, pow-succ' 256 k, number_below k s (suc at) h (omega arith))
+
+-- ---- the library's reading of an array
+
+worth : List ℕ → ℕ → ℕ
+worth l i = byte_worth i (slice_index l i)
+
+scaled : (b p q : ℕ) → p ≡ 256 * q → b * p ≡ 256 * (b * q)
+scaled b p q e = ap (λ (x : ℕ). b * x) e ∙ mul_left_comm b 256 q
+
+worth_cons : (k a : ℕ) (l : List ℕ) → sum_through (worth (a ∷ l)) (suc k) ≡ a + 256 * sum_through (worth l) k
+unfolding worth
+worth_cons zero a l = omega arith
+worth_cons (suc k) a l =
+    omega (arith, worth_cons k a l, scaled (slice_index l (suc k)) (256 ^ suc (suc k)) (256 ^ suc k) (pow-succ' 256 (suc k)))
+
+value_worth : (k : ℕ) (l : List ℕ) → length l ≡ suc k → sum_through (worth l) k ≡ value_of l
+unfolding worth value_of
+value_worth k [] e = absurd (omega (arith, e))
+value_worth zero (a ∷ []) e = omega arith
+value_worth zero (a ∷ b ∷ l) e = absurd (omega (arith, e))
+value_worth (suc k) (a ∷ l) e = omega (arith, worth_cons k a l, value_worth k l (omega (arith, e)))
+
+-- k + 1 bytes from an index, read by the library, are the number there
+pub read_at_lem : (k : ℕ) (s : List ℕ) (at : ℕ) {l : List ℕ} → at + suc k ≤ length s → l ≡ take (suc k) (drop at s)
+    → sum_through (λ i. byte_worth i (slice_index l i)) k ≡ number_at (suc k) s at
+unfolding worth number_at
+read_at_lem k s at {l} room e = value_worth k l (ap length e ∙ length-take-le (suc k) (drop at s) (omega (arith, length-drop at s))) ∙ ap value_of e
 
 -- ---- floats
 

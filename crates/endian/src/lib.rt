@@ -1,7 +1,7 @@
 // Little-endian numbers among bytes.
 #![tactic(auto)]
 
-ghost use Rattle.std.specs.Prelude.{◌≡◌, ◌+◌, ◌≤◌, length};
+ghost use Rattle.std.specs.Prelude.{◌≡◌, ◌+◌, ◌≤◌, length, take, drop};
 ghost use Rattle.endian.specs.Bytes.{number_at, float_at};
 
 // 2^63, the weight of a float's sign.
@@ -10,10 +10,14 @@ const SIGN: u64 = 0x8000_0000_0000_0000;
 // The pattern of infinity: those above it, but for the sign, are NaN's.
 const TOP: u64 = 0x7ff0_0000_0000_0000;
 
-fn wide(x: u8) -> u64
-    ensures { result ≡ x }
+// The N bytes from index `at` on.
+fn bytes_at<const N: usize>(bytes: &[u8], at: usize) -> [u8; N]
+    requires { at + N ≤ length bytes.now }
+    ensures { result ≡ take N (drop at bytes.now) }
 {
-    x as u64
+    let mut taken = [0u8; N];
+    taken.copy_from_slice(&bytes[at..at + N]);
+    taken
 }
 
 // The number in the `width` bytes from `at`, the lowest first.
@@ -23,10 +27,8 @@ pub fn number(bytes: &[u8], at: usize, width: usize) -> u64
     ensures { result ≡ number_at width bytes.now at }
 {
     let mut value: u64 = 0;
-    let mut i = width;
-    while i > 0 {
-        i -= 1;
-        value = value * 256 + wide(bytes[at + i]);
+    for i in (0..width).rev() {
+        value = value * 256 + u64::from(bytes[at + i]);
     }
     value
 }
@@ -36,7 +38,7 @@ pub fn short(bytes: &[u8], at: usize) -> u16
     requires { at + 2 ≤ length bytes.now }
     ensures { result ≡ number_at 2 bytes.now at }
 {
-    number(bytes, at, 2) as u16
+    u16::from_le_bytes(bytes_at(bytes, at))
 }
 
 // The u32 in the four bytes from index `at` on, the lowest byte first.
@@ -44,7 +46,7 @@ pub fn word(bytes: &[u8], at: usize) -> u32
     requires { at + 4 ≤ length bytes.now }
     ensures { result ≡ number_at 4 bytes.now at }
 {
-    number(bytes, at, 4) as u32
+    u32::from_le_bytes(bytes_at(bytes, at))
 }
 
 // A NaN's pattern cannot be read as it stands; an infinity less itself is the same NaN.
@@ -52,7 +54,7 @@ pub fn float(bytes: &[u8], at: usize) -> f64
     requires { at + 8 ≤ length bytes.now }
     ensures { result ≡ float_at bytes.now at }
 {
-    let bits = number(bytes, at, 8);
+    let bits = u64::from_le_bytes(bytes_at(bytes, at));
     if bits % SIGN > TOP {
         let top = f64::from_bits(TOP);
         return top - top;

@@ -4,8 +4,7 @@ use mathlib.Core.Path.{◌≡◌}
 use mathlib.Core.List.{List}
 use native.Mathlib.Omega.{arith}
 use lib.Pow.{pow_mono}
-use lib.ListN.{length, replicate, length-replicate}
-use Rattle.weights.specs.Worth.{zero64}
+use lib.ListN.{length}
 use Rattle.scratch.specs.Region.{region}
 use Rattle.scratch.proofs.Region.{length_region}
 use Rattle.field.specs.Field.{Field}
@@ -17,9 +16,6 @@ use Rattle.enumeration.proofs.Filling.{linear_few, pairs_few}
 
 pub size_most : {count size : ℕ} → count ≤ 10 → size ≡ 2 ^ count → size ≤ 1024
 size_most few e = omega (arith, pow_mono few)
-
-pub blank_room : Room 110 (replicate 110 zero64) (replicate 110 0)
-blank_room = record { values_long = omega (arith, length-replicate 110 zero64); required_long = omega (arith, length-replicate {A = ℕ} 110 0) }
 
 -- 110 places are enough for all terms
 pub all_fit : (F : Field) (s u : List ℕ) (at count : ℕ) {L₀ L₁ L₂ : Lists} → count ≤ 10 → at + count ≤ length u → L₀.end ≡ 0 → Room 110 L₀.values L₀.required

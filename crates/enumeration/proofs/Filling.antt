@@ -33,9 +33,6 @@ pair_fits {a = a} {b = b} {x = x} {y = y} few ha hb ex ey =
 
 -- ---- room on the lists
 
-pub room_less : {n room : ℕ} {values : List Float} {required : List ℕ} → Room room values required → n ≤ room → Room n values required
-room_less R h = record { values_long = omega (arith, R.values_long); required_long = omega (arith, R.required_long) }
-
 -- behind at most n more terms
 pub room_after : {n room : ℕ} {ts : List Term} {L₀ L : Lists} (more : ℕ) → Listed ts L₀ L → length ts ≤ n → Room room L₀.values L₀.required → L₀.end + n + more ≤ room
     → Room (L.end + more) L.values L.required

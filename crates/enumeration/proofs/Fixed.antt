@@ -15,7 +15,7 @@ use Rattle.whole.specs.Whole.{Whole, nothing, ◌⊕◌, sum, Under}
 use Rattle.weights.specs.Worth.{Worth}
 use Rattle.weights.proofs.Worth.{add_worth, as_worth, times_worth}
 use Rattle.meaning.specs.Free.{is_free}
-use Rattle.meaning.specs.Gradient.{view, share, gradient}
+use Rattle.meaning.specs.Gradient.{view, share}
 use Rattle.field.specs.Field.{Field, variables, entries, row_end, column_end, Shaped, StartFor}
 use Rattle.field.specs.Grade.{ExactIn}
 use Rattle.field.specs.Reading.{whole_of}

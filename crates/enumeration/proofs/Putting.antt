@@ -29,9 +29,6 @@ module _ {s u : List ℕ} {at count mask : ℕ} {values : List ℕ} {b : ℕ} (P
   pub put_same : length values ≡ length s
   put_same = ap length P.so_far ∙ put_long s (region at count u) mask b
 
-  pub put_below : {i : ℕ} → b < count → i ≡ get_or u (at + b) 0 → i < length values
-  put_below l e = omega (arith, P.small.below b l, put_same)
-
   pub put_turn : {i v : ℕ} → b < count → i ≡ get_or u (at + b) 0 → v ≡ mask / 2 ^ b % 2 → Putting s u at count mask (set values i v) (b + 1)
   unfolding put_to
   put_turn l ei ev = record {
@@ -39,6 +36,3 @@ module _ {s u : List ℕ} {at count mask : ℕ} {values : List ℕ} {b : ℕ} (P
     within = omega arith;
     so_far = rw (add-one b, ev, P.so_far, ei, region_at at count u b 0 l) refl;
   }
-
-  pub put_done : count ≤ b → values ≡ put_to s (region at count u) mask count
-  put_done h = let e : b ≡ count = omega (arith, P.within) in rw e at P.so_far

@@ -7,7 +7,7 @@ use lib.Dec.{eqb}
 use lib.ListN.{get_or}
 use borrow.Author.Tests.{eq-eqb, ne_eqb}
 use Rattle.field.specs.Field.{Field, variables, entries}
-use Rattle.places.specs.Places.{places, entry_in}
+use Rattle.places.specs.Places.{entry_in}
 use Rattle.places.proofs.Walk.{Along, along_start, along_turn, along_end, walk_turn}
 use Rattle.enumeration.specs.Held.{Placed}
 use Rattle.enumeration.specs.Terms.{stands, entry_from, entry_of}

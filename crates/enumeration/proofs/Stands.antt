@@ -7,10 +7,10 @@ use mathlib.Core.List.{List}
 use native.Mathlib.Decide.{dec_lt, ℕ_discrete}
 use native.Mathlib.Nat.{le_refl}
 use native.Mathlib.Omega.{arith}
-use lib.Dec.{eqb, ltb}
+use lib.Dec.{eqb}
 use lib.ListN.{length}
 use borrow.Author.Tests.{eqb-true, eq-eqb, ne_eqb, lt-ltb, le-ltb}
-use Rattle.whole.specs.Whole.{Whole, nothing, only, sum, ◌≈◌, Under}
+use Rattle.whole.specs.Whole.{only, sum, ◌≈◌, Under}
 use Rattle.whole.proofs.Sums.{sum_same, sum_zero, sum_at}
 use Rattle.field.specs.Field.{Field, entries, row_end, column_end, Shaped}
 use Rattle.field.specs.Grade.{ExactIn}

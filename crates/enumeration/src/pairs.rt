@@ -1,12 +1,12 @@
 // The terms of the entries between members of a part.
-ghost use Rattle.std.specs.Prelude.{◌≡◌, ◌+◌, ◌<◌, length};
+ghost use Rattle.std.specs.Prelude.{◌≡◌, ◌+◌, ◌<◌, length, MatchOption};
 ghost use Rattle.scratch.specs.Region.{region};
 ghost use Rattle.field.specs.Field.{given, lent, variables, entries};
 ghost use Rattle.masks.specs.Listed.{lists, Room, Listed};
 ghost use Rattle.enumeration.specs.Held.{Placed, Small};
 ghost use Rattle.enumeration.specs.Terms.{stands, entry_of, pair_term, column_terms, pair_terms};
 
-use scratch::{wide_short, wide_word};
+use field::FieldRef;
 
 // Whether entry k is (i, j).
 fn stands_at(rows: &[u16], cols: &[u16], k: usize, i: usize, j: usize) -> bool
@@ -14,41 +14,30 @@ fn stands_at(rows: &[u16], cols: &[u16], k: usize, i: usize, j: usize) -> bool
     requires k_in_bounds_2 { k < length cols.now }
     ensures { result ≡ stands rows.now cols.now i j k }
 {
-    wide_short(rows[k]) == i && wide_short(cols[k]) == j
+    usize::from(rows[k]) == i && usize::from(cols[k]) == j
 }
 
-// The entry (i, j), found among the places of i, or the number of entries where there is none.
-fn entry_of(
-    c: &[f64],
-    rows: &[u16],
-    cols: &[u16],
-    q: &[f64],
-    u: &[u32],
-    i: usize,
-    j: usize,
-) -> usize
-    requires placed { Placed (lent c rows cols q) u.now }
-    requires i_bound { i < variables (lent c rows cols q) }
-    ensures { result ≡ entry_of (given c rows cols q) i j }
+// The entry (i, j), found among the places of i.
+fn entry_of(field: FieldRef, u: &[u32], i: usize, j: usize) -> Option<usize>
+    requires placed { Placed (lent field) u.now }
+    requires i_bound { i < variables (lent field) }
+    ensures { MatchOption result (entries (given field) ≡ entry_of (given field) i j) (λ k. (k < entries (given field)) × (k ≡ entry_of (given field) i j)) }
 {
-    let n = c.len();
-    let start = wide_word(u[i]);
-    let end = wide_word(u[i + 1]);
+    let n = field.c.len();
+    let start = u[i] as usize;
+    let end = u[i + 1] as usize;
     for p in start..end {
         let k = places::entry_in(u[n + 1 + p]);
-        if stands_at(rows, cols, k, i, j) {
-            return k;
+        if stands_at(field.rows, field.cols, k, i, j) {
+            return Some(k);
         }
     }
-    q.len()
+    None
 }
 
 // The term of members a and b, in row and column, at the end of the lists if such an entry stands; answers where they end then.
 fn list_pair(
-    c: &[f64],
-    rows: &[u16],
-    cols: &[u16],
-    q: &[f64],
+    field: FieldRef,
     u: &[u32],
     at: usize,
     count: usize,
@@ -58,35 +47,30 @@ fn list_pair(
     terms: &mut [f64],
     required: &mut [u16],
 ) -> usize
-    requires placed { Placed (lent c rows cols q) u.now }
-    requires small { Small (length c.now) u.now at count }
+    requires placed { Placed (lent field) u.now }
+    requires small { Small (variables (lent field)) u.now at count }
     requires room { Room (end + 1) terms.old required.old }
     requires a_lt_count { a < count }
     requires b_lt_count { b < count }
-    ensures { Listed (pair_term (given c rows cols q) (region at count u.now) b a) (lists end terms.old required.old) (lists result terms.new required.new) }
+    ensures { Listed (pair_term (given field) (region at count u.now) b a) (lists end terms.old required.old) (lists result terms.new required.new) }
 {
-    let i = wide_word(u[at + a]);
-    let j = wide_word(u[at + b]);
-    let k = entry_of(c, rows, cols, q, u, i, j);
-    if k >= q.len() {
-        return end;
+    let i = u[at + a] as usize;
+    let j = u[at + b] as usize;
+    match entry_of(field, u, i, j) {
+        None => end,
+        Some(k) => masks::list_term(
+            terms,
+            required,
+            end,
+            masks::bit(a) | masks::bit(b),
+            weights::half(field.q[k]),
+        ),
     }
-    let weight = q[k];
-    masks::list_term(
-        terms,
-        required,
-        end,
-        masks::bit(a) | masks::bit(b),
-        weights::half(weight),
-    )
 }
 
 // The terms of the column of member b, by rows in pop order.
 fn list_column(
-    c: &[f64],
-    rows: &[u16],
-    cols: &[u16],
-    q: &[f64],
+    field: FieldRef,
     u: &[u32],
     at: usize,
     count: usize,
@@ -95,25 +79,22 @@ fn list_column(
     terms: &mut [f64],
     required: &mut [u16],
 ) -> usize
-    requires placed { Placed (lent c rows cols q) u.now }
-    requires small { Small (length c.now) u.now at count }
+    requires placed { Placed (lent field) u.now }
+    requires small { Small (variables (lent field)) u.now at count }
     requires room { Room (from + 10) terms.old required.old }
     requires b_lt_count { b < count }
-    ensures { Listed (column_terms (given c rows cols q) (region at count u.now) b count) (lists from terms.old required.old) (lists result terms.new required.new) }
+    ensures { Listed (column_terms (given field) (region at count u.now) b count) (lists from terms.old required.old) (lists result terms.new required.new) }
 {
     let mut end = from;
     for a in 0..count {
-        end = list_pair(c, rows, cols, q, u, at, count, b, a, end, terms, required);
+        end = list_pair(field, u, at, count, b, a, end, terms, required);
     }
     end
 }
 
 // Lists the terms of all entries between members, by columns in pop order.
 pub fn list_pairs(
-    c: &[f64],
-    rows: &[u16],
-    cols: &[u16],
-    q: &[f64],
+    field: FieldRef,
     u: &[u32],
     at: usize,
     count: usize,
@@ -121,14 +102,14 @@ pub fn list_pairs(
     terms: &mut [f64],
     required: &mut [u16],
 ) -> usize
-    requires placed { Placed (lent c rows cols q) u.now }
-    requires small { Small (length c.now) u.now at count }
+    requires placed { Placed (lent field) u.now }
+    requires small { Small (variables (lent field)) u.now at count }
     requires room { Room (from + 100) terms.old required.old }
-    ensures { Listed (pair_terms (given c rows cols q) (region at count u.now) count) (lists from terms.old required.old) (lists result terms.new required.new) }
+    ensures { Listed (pair_terms (given field) (region at count u.now) count) (lists from terms.old required.old) (lists result terms.new required.new) }
 {
     let mut end = from;
     for b in 0..count {
-        end = list_column(c, rows, cols, q, u, at, count, b, end, terms, required);
+        end = list_column(field, u, at, count, b, end, terms, required);
     }
     end
 }

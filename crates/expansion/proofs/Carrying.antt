@@ -13,8 +13,8 @@ use borrow.Author.Tests.{ne_eqb}
 use lib.Ieee.{Float, nan, lt, ne}
 use lib.Ieee.Scale.{finite}
 use Rattle.weights.specs.Worth.{magnitude, zero64}
-use Rattle.expansion.specs.declared.ExactSum.{ExactSum}
-use Rattle.expansion.specs.declared.ExactSum.TheVariants.{Parts, Invalid}
+use Rattle.std.specs.Prelude.{Option, Some, None}
+use Rattle.std.specs.Option.{option_eq}
 use Rattle.expansion.specs.declared.Split.{Split}
 use Rattle.expansion.specs.Sum.{comes_to_zero, is_zero, Expansion, parts, invalid, two_sum, split_of, kept, in_front, carried, plus, sum_in, count_of, Keeps, Carried, Adds}
 
@@ -105,11 +105,11 @@ module _ {x high : Float} {count back i : ℕ} {f₀ f : List Float} (now : Carr
     sum = rw k.front (sym (continued_front (take back f) s.low _) ∙ ap (continued (take back f)) (sym (rw t at (step l e))) ∙ now.sum);
   }
 
-  pub carry_stop : {s : Split} (f₁ : List Float) → i < count → s ≡ split_of high (get_or f i nan) → finite s.high ≡ false → Carried x count f₀ f₁ Invalid
+  pub carry_stop : {s : Split} (f₁ : List Float) → i < count → s ≡ split_of high (get_or f i nan) → finite s.high ≡ false → Carried x count f₀ f₁ None
   unfolding sum_in continued
   carry_stop f₁ l e t = record { sum = sym (ap (continued (take back f)) (rw t at (step l e))) ∙ now.sum; grows = omega arith }
 
-  pub carry_done : {f₁ : List Float} {r : ℕ} → count ≤ i → Keeps high back f f₁ r → Carried x count f₀ f₁ (Parts r)
+  pub carry_done : {f₁ : List Float} {r : ℕ} → count ≤ i → Keeps high back f f₁ r → Carried x count f₀ f₁ (Some r)
   unfolding sum_in continued carried
   carry_done {f₁} {r} l k =
       let e : i ≡ count = omega (arith, now.within) in
@@ -120,33 +120,29 @@ module _ {x high : Float} {count back i : ℕ} {f₀ f : List Float} (now : Carr
 
 -- ---- an add
 
-module _ {x : Float} {s : ExactSum} {f f₁ : List Float} where
-  pub add_carries : {k : ℕ} {r : ExactSum} → s ≡ Parts k → finite x ≡ true → Carried x k f f₁ r → Adds x s f f₁ r
+module _ {x : Float} {s : Option ℕ} {f f₁ : List Float} where
+  pub add_carries : {k : ℕ} {r : Option ℕ} → s ≡ Some k → finite x ≡ true → Carried x k f f₁ r → Adds x s f f₁ r
   unfolding plus sum_in
   add_carries is e c = rw is (record { sum = rw e c.sum; grows = c.grows })
 
-  pub add_overflows : {k : ℕ} → s ≡ Parts k → finite x ≡ false → Adds x s f f₁ Invalid
+  pub add_overflows : {k : ℕ} → s ≡ Some k → finite x ≡ false → Adds x s f f₁ None
   unfolding plus sum_in
   add_overflows is e = rw is (record { sum = rw e; grows = omega arith })
 
-  pub add_stays : s ≡ Invalid → Adds x s f f₁ Invalid
+  pub add_stays : s ≡ None → Adds x s f f₁ None
   unfolding plus sum_in
   add_stays is = rw is (record { sum = refl; grows = omega arith })
 
 -- ---- the answer
 
-pub zero_is : (s : ExactSum) (f : List Float) → count_of s ≤ length f → is_zero s ≡ comes_to_zero (sum_in s f)
+pub zero_is : (s : Option ℕ) (f : List Float) → count_of s ≤ length f → is_zero s ≡ comes_to_zero (sum_in s f)
 unfolding is_zero comes_to_zero sum_in
-zero_is (Parts zero) f h = refl
-zero_is (Parts (suc k)) [] h = absurd (omega arith)
-zero_is (Parts (suc k)) (x ∷ f) h = ne_eqb (suc k) 0 (λ e. omega arith)
-zero_is Invalid f h = refl
+zero_is (Some zero) f h = refl
+zero_is (Some (suc k)) [] h = absurd (omega arith)
+zero_is (Some (suc k)) (x ∷ f) h = ne_eqb (suc k) 0 (λ e. omega arith)
+zero_is None f h = refl
 
-module _ {s : ExactSum} where
-  pub parts_zero : {k : ℕ} → s ≡ Parts k → eqb k 0 ≡ is_zero s
-  unfolding is_zero
-  parts_zero e = rw e
-
-  pub invalid_zero : s ≡ Invalid → false ≡ is_zero s
-  unfolding is_zero
-  invalid_zero e = rw e
+pub zero_told : (s : Option ℕ) → option_eq eqb s (Some 0) ≡ is_zero s
+unfolding is_zero
+zero_told (Some k) = refl
+zero_told None = refl

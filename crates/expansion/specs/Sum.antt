@@ -1,11 +1,9 @@
 -- The error-free sum (rule 9.3): parts that add up to what was added, for every f64. Assumes nothing.
-use Rattle.std.specs.Prelude.{ℕ, ◌+◌, ◌≤◌, ◌≡◌, Bool, true, false, cond, List, [], ◌∷◌, ◌++◌, take, drop, eqb, Float}
+use Rattle.std.specs.Prelude.{ℕ, ◌+◌, ◌≤◌, ◌≡◌, Bool, true, false, cond, List, [], ◌∷◌, ◌++◌, take, drop, eqb, Option, Some, None, Float}
 use Rattle.std.specs.Float.{binary64}
 use Rattle.std.specs.Float.Ieee.{add, sub, lt, ne}
 use Rattle.std.specs.Float.Ieee.Scale.{finite}
 use Rattle.weights.specs.Worth.{magnitude, zero64}
-use Rattle.expansion.specs.declared.ExactSum.{ExactSum}
-use Rattle.expansion.specs.declared.ExactSum.TheVariants.{Parts, Invalid}
 use Rattle.expansion.specs.declared.Split.{Split}
 
 -- ---- the model
@@ -51,19 +49,19 @@ comes_to_zero invalid = false
 -- ---- the code's view of it
 
 -- the parts at the front of a lent list
-unfoldable pub sum_in : ExactSum → List Float → Expansion
-sum_in (Parts k) f = parts (take k f)
-sum_in Invalid f = invalid
+unfoldable pub sum_in : Option ℕ → List Float → Expansion
+sum_in (Some k) f = parts (take k f)
+sum_in None f = invalid
 
 -- How many parts the code holds at the front of its lent list; 0 once the sum is invalid.
-abbrev pub count_of : ExactSum → ℕ
-count_of (Parts k) = k
-count_of Invalid = 0
+abbrev pub count_of : Option ℕ → ℕ
+count_of (Some k) = k
+count_of None = 0
 
 -- Whether the code's sum is valid and has no part, and so what was added comes to 0.
-unfoldable pub is_zero : ExactSum → Bool
-is_zero (Parts k) = eqb k 0
-is_zero Invalid = false
+unfoldable pub is_zero : Option ℕ → Bool
+is_zero (Some k) = eqb k 0
+is_zero None = false
 
 -- x goes behind the first k, unless it is 0; past it nothing changes
 pub record Keeps (x : Float) (k : ℕ) (f f' : List Float) (r : ℕ) : Type 0 where
@@ -72,11 +70,11 @@ pub record Keeps (x : Float) (k : ℕ) (f f' : List Float) (r : ℕ) : Type 0 wh
   pub grows : r ≤ k + 1
 
 -- The call that carries x through k parts leaves the model's expansion, with at most one part more.
-pub record Carried (x : Float) (k : ℕ) (f f' : List Float) (r : ExactSum) : Type 0 where
+pub record Carried (x : Float) (k : ℕ) (f f' : List Float) (r : Option ℕ) : Type 0 where
   pub sum : sum_in r f' ≡ carried x (take k f)
   pub grows : count_of r ≤ k + 1
 
 -- an addition adds one part at most
-pub record Adds (x : Float) (s : ExactSum) (f f' : List Float) (r : ExactSum) : Type 0 where
+pub record Adds (x : Float) (s : Option ℕ) (f f' : List Float) (r : Option ℕ) : Type 0 where
   pub sum : sum_in r f' ≡ plus x (sum_in s f)
   pub grows : count_of r ≤ count_of s + 1

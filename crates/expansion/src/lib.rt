@@ -1,15 +1,8 @@
-// The error-free sum of f64 numbers, whose parts stand at the front of a lent slice.
+// The error-free sum of f64 numbers, whose parts stand at the front of a lent slice: the sum is how many parts there are, or None once one of its sums has overflowed.
 #![tactic(auto)]
 
 ghost use Rattle.std.specs.Prelude.{◌≡◌, ◌<◌, length};
 ghost use Rattle.expansion.specs.Sum.{split_of, is_zero, count_of, Keeps, Carried, Adds};
-
-// How many parts there are, or that a sum overflowed.
-#[derive(Clone, Copy)]
-pub enum ExactSum {
-    Parts(usize),
-    Invalid,
-}
 
 // A rounded sum, and what rounding left over.
 #[derive(Clone, Copy)]
@@ -48,7 +41,7 @@ fn keep(parts: &mut [f64], kept: usize, x: f64) -> usize
 }
 
 // Carries x through the first `count` parts.
-fn carry(parts: &mut [f64], count: usize, x: f64) -> ExactSum
+fn carry(parts: &mut [f64], count: usize, x: f64) -> Option<usize>
     requires { count < length parts.old }
     ensures { Carried x count parts.old parts.new result }
 {
@@ -58,35 +51,28 @@ fn carry(parts: &mut [f64], count: usize, x: f64) -> ExactSum
         let split = two_sum(high, parts[i]);
         high = split.high;
         if !weights::is_finite(high) {
-            return ExactSum::Invalid;
+            return None;
         }
         kept = keep(parts, kept, split.low);
     }
-    ExactSum::Parts(keep(parts, kept, high))
+    Some(keep(parts, kept, high))
 }
 
-impl ExactSum {
-    // Adds x without error; the sum has then at most one part more than before.
-    pub fn add(self, parts: &mut [f64], x: f64) -> ExactSum
-        requires { count_of self < length parts.old }
-        ensures { Adds x self parts.old parts.new result }
-    {
-        if let ExactSum::Parts(count) = self {
-            if !weights::is_finite(x) {
-                return ExactSum::Invalid;
-            }
-            return carry(parts, count, x);
-        }
-        ExactSum::Invalid
+// Adds x without error; the sum has then at most one part more than before.
+pub fn add(sum: Option<usize>, parts: &mut [f64], x: f64) -> Option<usize>
+    requires { count_of sum < length parts.old }
+    ensures { Adds x sum parts.old parts.new result }
+{
+    let count = sum?;
+    if weights::is_finite(x) {
+        return carry(parts, count, x);
     }
+    None
+}
 
-    // Whether what was added comes to 0: no part is left, and no sum has overflowed.
-    pub fn is_zero(self) -> bool
-        ensures { result ≡ is_zero self }
-    {
-        if let ExactSum::Parts(count) = self {
-            return count == 0;
-        }
-        false
-    }
+// Whether what was added comes to 0: no part is left, and no sum has overflowed.
+pub fn is_zero(sum: Option<usize>) -> bool
+    ensures { result ≡ is_zero sum }
+{
+    sum == Some(0)
 }

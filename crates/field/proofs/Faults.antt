@@ -2,27 +2,26 @@
 use Prim.Native.Nat.{ℕ, zero, suc, ◌+◌, ◌-◌, ◌<◌, ◌≤◌}
 use mathlib.Core.Path.{◌≡◌, refl, sym, ap, ◌∙◌, subst}
 use mathlib.Core.Logic.{◌⊎◌, inl, inr, ⊎_elim, ◌↔◌}
-use mathlib.Core.Bool.{Bool, true, false, not, ◌&&◌, ◌||◌, cond, true≢false}
+use mathlib.Core.Bool.{Bool, true, false, ◌&&◌, cond, true≢false}
 use mathlib.Core.List.{List, [], ◌∷◌, ◌++◌}
 use native.Mathlib.Nat.{eq-or-lt_of_le}
 use native.Mathlib.Omega.{arith}
 use borrow.Author.Tests.{ltb-true, ltb-false, lt-ltb, le-ltb, eqb-true, eq-eqb, ne_eqb}
-use lib.Dec.{leb, ltb, eqb}
+use lib.Dec.{ltb, eqb}
 use lib.ListN.{length, get_or}
 use Rattle.scratch.specs.All.{all_below, Passing}
 use Rattle.scratch.proofs.All.{all_means, all_stop}
-use Rattle.scratch.proofs.Means.{lt_is, eq_is, both_is, either_is, every_is}
+use Rattle.scratch.proofs.Means.{lt_is, eq_is, both_is, either_is}
 use Rattle.field.specs.declared.Refusal.{Refusal}
 use Rattle.field.specs.declared.Refusal.TheVariants.{Variables, Lists, Row, Column, Repeat, Order, Diagonal, Weights, Start, Scratch}
-use Rattle.field.specs.declared.Checked.{Checked}
-use Rattle.field.specs.declared.Checked.TheVariants.{Passed, Failed}
-use Rattle.field.specs.Answers.{number_of, position_of}
-use Rattle.field.specs.Field.{Field, variables, entries, Before}
+use Rattle.field.specs.Answers.{number_of, position_of, Answer}
+use Rattle.field.specs.Field.{Field, variables, Before}
 use Rattle.field.specs.Table.{Test, test, tested, FirstToFail, fails, passes}
 use Rattle.field.specs.Tests.{is_before, in_order, is_fine, first_from, wrong_at, fault_of, shape_tests, loose_tests, open_tests, standard_tests, ready_tests}
 use Rattle.field.specs.Faults.{Fine, Reached, Fault, row, column, same, back, Listed, OneFault, Near}
 use Rattle.field.proofs.Means.{few_means, lists_mean, order_means}
 use Rattle.field.proofs.Table.{not_both, same_refusal, refused_exactly, test_no, test_ok, group_no, group_ok}
+use Rattle.std.specs.Prelude.{Ok, Err}
 
 -- ---- the first number that fails
 
@@ -318,7 +317,7 @@ module _ (F : Field) where
   fault_by {r = r} (passes _ (passes _ (passes _ x25))) L = elim x25 [ ]
 
   -- Theorem. 14 to 17: past tests 1 and 2 each is given exactly if every entry before its position is fine, and the entry there has this fault and none tested earlier.
-  pub fault_exactly : Listed F → (r : Refusal) → (tested (shape_tests F) ≡ Failed r) ↔ Fault (variables F) F.rows F.cols r
+  pub fault_exactly : Listed F → (r : Refusal) → (tested (shape_tests F) ≡ Err r) ↔ Fault (variables F) F.rows F.cols r
   unfolding shape_tests
   fault_exactly L r = (
     (λ e. fault_by ((refused_exactly (shape_tests F) r).0 e) L),
@@ -326,7 +325,7 @@ module _ (F : Field) where
         let h = (fault_means (variables F) F.rows F.cols (L.rows_long ∙ sym L.cols_long) r).1 x in
         let lists = (lists_mean F.rows F.cols F.quad).1 (L.rows_long, (L.cols_long, L.few_entries)) in
         sym (test_ok Variables _ ((few_means (variables F)).1 L.few_variables) (test_ok Lists _ lists (test_no (fault_of (variables F) F.rows F.cols) [] h.0)))
-        ∙ ap (λ (s : Refusal). Failed s) h.1,
+        ∙ ap (λ (s : Refusal). Err s) h.1,
   )
 
   -- a position is below 32,768: the lists are no longer where an entry is at fault
@@ -356,9 +355,9 @@ near_test s b ts few rest r e = by ((refused_exactly (test s b ∷ ts) r).0 e)
 pub near_group : (ts us : List Test) → Near ts → Near us → Near (ts ++ us)
 near_group ts us first rest r e = go (tested ts) refl
   where
-    go : (x : Checked) → tested ts ≡ x → position_of r < 32768
-    go Passed q = rest r (group_ok ts us q refl ∙ e)
-    go (Failed s) q = subst (λ (t : Refusal). position_of t < 32768) (same_refusal (group_no ts us q ∙ e)) (first s q)
+    go : (x : Answer Unit) → tested ts ≡ x → position_of r < 32768
+    go (Ok _) q = rest r (group_ok ts us q refl ∙ e)
+    go (Err s) q = subst (λ (t : Refusal). position_of t < 32768) (same_refusal (group_no ts us q ∙ e)) (first s q)
 
 -- Theorem. Any position that the tests of the shape name is below 32,768.
 pub shapes_near : (F : Field) → Near (shape_tests F)

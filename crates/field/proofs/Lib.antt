@@ -8,3 +8,4 @@ pub mod Units
 pub mod Measure
 pub mod Turned
 pub mod Reading
+pub mod Tried

@@ -1,21 +1,23 @@
 -- In plain words, what each test of the table means, and what passing a group of them leaves, both ways. Assumes nothing.
 use Prim.Native.Nat.{ℕ, zero, suc, ◌+◌, ◌*◌, ◌-◌, ◌<◌, ◌≤◌}
-use mathlib.Core.Path.{◌≡◌}
+use mathlib.Core.Path.{◌≡◌, ap, ◌∙◌}
 use mathlib.Core.Logic.{◌≢◌, ◌↔◌}
-use mathlib.Core.Bool.{true}
+use mathlib.Core.Bool.{Bool, true, ◌&&◌}
 use mathlib.Core.List.{List, [], ◌∷◌}
 use native.Mathlib.Omega.{arith}
 use lib.Dec.{T}
 use lib.ListN.{length, get_or}
 use lib.Ieee.{Float, nan}
 use lib.Ieee.Scale.{finite}
+use Rattle.scratch.specs.All.{Testing}
+use Rattle.scratch.proofs.All.{testing_turn}
 use Rattle.scratch.proofs.Means.{lt_is, le_is, eq_is, ne_is, true_is, both_is, either_is, every_is}
-use Rattle.field.specs.declared.Checked.TheVariants.{Passed}
 use Rattle.field.specs.declared.Refusal.TheVariants.{Variables, Lists, Diagonal, Weights, Start, Scratch}
 use Rattle.field.specs.Field.{Field, variables, entries, row_end, column_end, Before, Shaped, StartFor}
 use Rattle.field.specs.Table.{tested}
-use Rattle.field.specs.Tests.{ends_below, rises_at, all_rise, all_finite, bytes_small, few_variables, lists_match, in_order, off_diagonal, weights_finite, start_fits, floats_fit, words_fit, shape_tests, loose_tests, open_tests, standard_tests, ready_tests, Loose, Admitted, Sound, Ready}
+use Rattle.field.specs.Tests.{ends_below, is_before, rises_at, all_rise, all_finite, bytes_small, few_variables, lists_match, in_order, off_diagonal, weights_finite, start_fits, floats_fit, words_fit, shape_tests, loose_tests, open_tests, standard_tests, ready_tests, Loose, Admitted, Sound, Ready}
 use Rattle.field.proofs.Table.{pass_is, last_is, group_is}
+use Rattle.field.specs.Answers.{passed}
 
 -- ---- each test
 
@@ -40,6 +42,14 @@ unfolding all_rise
 rise_means rows cols =
     every_is (rises_at rows cols) (λ k. Before (get_or rows k 0) (get_or cols k 0) (get_or rows (k + 1) 0) (get_or cols (k + 1) 0)) _
     (λ k. either_is _ _ (lt_is _ _) (both_is _ _ (eq_is _ _) (lt_is _ _)))
+
+-- a turn of the loop that tests entry k against the one before, j
+pub rise_turn : (rows cols : List ℕ) {rise r : Bool} (j : ℕ) {k : ℕ} → k ≡ j + 1 → Testing (rises_at rows cols) (length rows - 1) j rise → k < length rows
+    → r ≡ is_before (get_or rows j 0) (get_or cols j 0) (get_or rows k 0) (get_or cols k 0) → Testing (rises_at rows cols) (length rows - 1) (k + 1 - 1) (rise && r)
+rise_turn rows cols {rise} {r} j {k} next now l e =
+    let back : k + 1 - 1 ≡ j + 1 = omega (arith, next) in
+    let e' : r ≡ rises_at rows cols j = e ∙ ap (λ (i : ℕ). is_before (get_or rows j 0) (get_or cols j 0) (get_or rows i 0) (get_or cols i 0)) next in
+    rw back (testing_turn (rises_at rows cols) now (omega (arith, next)) e')
 
 -- Theorem. 14 to 17: none exactly if every row and column is below n, and each entry stands before the next.
 pub order_means : (n : ℕ) (rows cols : List ℕ)
@@ -92,7 +102,7 @@ words_mean n m words = le_is _ _
 -- ---- the groups
 
 -- Theorem. Tests 1, 2 and 14 to 17 pass exactly if the field has its shape.
-pub shape_passes : (F : Field) → (tested (shape_tests F) ≡ Passed) ↔ Shaped F
+pub shape_passes : (F : Field) → (tested (shape_tests F) ≡ passed) ↔ Shaped F
 unfolding shape_tests
 shape_passes F = ((λ e. to (t.0 e)), λ h. t.1 (from h))
   where
@@ -104,7 +114,7 @@ shape_passes F = ((λ e. to (t.0 e)), λ h. t.1 (from h))
         × (((k : ℕ) → k < length F.cols → column_end F k < variables F)
         × ((k : ℕ) → k < length F.rows - 1 → Before (row_end F k) (column_end F k) (row_end F (k + 1)) (column_end F (k + 1))))))
 
-    t : (tested (shape_tests F) ≡ Passed) ↔ Parts
+    t : (tested (shape_tests F) ≡ passed) ↔ Parts
     t = pass_is Variables _ _ (few_means _) (pass_is Lists _ _ (lists_mean _ _ _) (last_is _ _ (order_means _ _ _)))
 
     to : Parts → Shaped F
@@ -131,7 +141,7 @@ shape_passes F = ((λ e. to (t.0 e)), λ h. t.1 (from h))
     )
 
 -- Theorem. These and 5 pass exactly if the field has its shape and every weight is finite.
-pub loose_passes : (F : Field) → (tested (loose_tests F) ≡ Passed) ↔ Loose F
+pub loose_passes : (F : Field) → (tested (loose_tests F) ≡ passed) ↔ Loose F
 unfolding loose_tests
 loose_passes F =
     let t = group_is (shape_tests F) _ (shape_passes F) (last_is Weights _ (finite_means F.linear F.quad)) in (
@@ -140,7 +150,7 @@ loose_passes F =
     )
 
 -- Theorem. `open_tests` pass exactly if shape, weights, start values and scratch are as asked; a diagonal is allowed.
-pub admitted_passes : (F : Field) (s : List ℕ) (floats words : ℕ) → (tested (open_tests F s floats words) ≡ Passed) ↔ Admitted F s floats words
+pub admitted_passes : (F : Field) (s : List ℕ) (floats words : ℕ) → (tested (open_tests F s floats words) ≡ passed) ↔ Admitted F s floats words
 unfolding open_tests
 admitted_passes F s floats words =
     let t = group_is (loose_tests F) _ (loose_passes F)
@@ -156,7 +166,7 @@ pub admitted_loose : {F : Field} {s : List ℕ} {floats words : ℕ} → Admitte
 admitted_loose A = record { shaped = A.shaped; finite_weights = A.finite_weights }
 
 -- Theorem. `standard_tests` pass exactly if the field is in standard form and finite, and the start values fit it.
-pub standard_passes : (F : Field) (s : List ℕ) → (tested (standard_tests F s) ≡ Passed) ↔ Sound F s
+pub standard_passes : (F : Field) (s : List ℕ) → (tested (standard_tests F s) ≡ passed) ↔ Sound F s
 unfolding standard_tests
 standard_passes F s =
     let t = group_is (shape_tests F) _ (shape_passes F)
@@ -178,7 +188,7 @@ pub sound_loose : {F : Field} {s : List ℕ} → Sound F s → Loose F
 sound_loose S = record { shaped = S.shaped; finite_weights = S.finite_weights }
 
 -- Theorem. `ready_tests` pass exactly if the field and its start values are sound and both scratches are long enough.
-pub ready_passes : (F : Field) (s : List ℕ) (floats words : ℕ) → (tested (ready_tests F s floats words) ≡ Passed) ↔ Ready F s floats words
+pub ready_passes : (F : Field) (s : List ℕ) (floats words : ℕ) → (tested (ready_tests F s floats words) ≡ passed) ↔ Ready F s floats words
 unfolding ready_tests
 ready_passes F s floats words =
     let t = group_is (standard_tests F s) _ (standard_passes F s)

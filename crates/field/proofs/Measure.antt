@@ -1,5 +1,6 @@
 -- How one pass over the weights finds the smallest unit that serves: the least unit beyond a weight's grain, the largest pattern. Assumes nothing.
 use Prim.Native.Nat.{ℕ, suc, ◌+◌, ◌/◌, ◌<◌, ◌≤◌, ◌^◌}
+use Rattle.std.specs.Prelude.{min, max}
 use mathlib.Core.Path.{◌≡◌, sym, subst}
 use mathlib.Core.Logic.{◌⊎◌, inl, inr, ⊎_elim, ◌↔◌}
 use mathlib.Core.Bool.{true}
@@ -16,6 +17,14 @@ use Rattle.field.specs.Field.{field_of}
 use Rattle.field.specs.Grade.{finest, coarsest, all_weigh, serves, unit_of, Weighs}
 use Rattle.field.specs.Measure.{Lesser, Greater, Measured, Both, First}
 use Rattle.field.proofs.Exact.{weighs_is, all_weigh_means, first_is}
+
+-- ---- min and max of the library
+
+pub lesser_min : {a b r : ℕ} → r ≡ min a b → Lesser a b r
+lesser_min e = grind (arith, e)
+
+pub greater_max : {a b r : ℕ} → r ≡ max a b → Greater a b r
+greater_max e = grind (arith, e)
 
 -- ---- a pass
 

@@ -1,13 +1,9 @@
 -- The number of each answer (rule 3.1), and the position that a refusal names (rule 3.2). Assumes nothing.
-use Rattle.std.specs.Prelude.{ℕ}
+use Rattle.std.specs.Prelude.{ℕ, Result, Ok, Err}
 use Rattle.field.specs.declared.Refusal.{Refusal}
 use Rattle.field.specs.declared.Refusal.TheVariants.{Variables, Lists, Row, Column, Repeat, Order, Diagonal, Weights, Start, Argument, Scratch, Room, Clash, Inexact, Unforced, Sum}
-use Rattle.field.specs.declared.Checked.{Checked}
-use Rattle.field.specs.declared.Checked.TheVariants.{Passed, Failed}
-use Rattle.field.specs.declared.Answer.{Answer}
-use Rattle.field.specs.declared.Answer.TheVariants.{Done, Refused}
+use Rattle.field.specs.declared.Grade.{Grade}
 use Rattle.field.specs.declared.Counted.{Counted}
-use Rattle.field.specs.declared.Counted.TheVariants.{Counts, Refuses}
 
 -- The table's number of a refusal: 1, 2, 4 to 10 and 12 to 18, each for one refusal alone.
 abbrev pub number_of : Refusal → ℕ
@@ -47,17 +43,23 @@ position_of Inexact = 0
 position_of Unforced = 0
 position_of Sum = 0
 
--- The number that a group of tests answers: 0 where all pass, else that of the refusal.
-abbrev pub checked_number : Checked → ℕ
-checked_number Passed = 0
-checked_number (Failed r) = number_of r
+-- What a call answers: what it finds, or a refusal.
+abbrev pub Answer : Type 0 → Type 0
+Answer A = Result A Refusal
 
--- The number that a call answers with a grade: 0 where it is done, else that of the refusal.
-abbrev pub answer_number : Answer → ℕ
-answer_number (Done g) = 0
-answer_number (Refused r) = number_of r
+-- What a group of tests answers where all of them pass.
+abbrev pub passed : Answer Unit
+passed = Ok tt
 
--- The number that a call answers with a grade and a count: 0 where it is done, else that of the refusal.
-abbrev pub counted_number : Counted → ℕ
-counted_number (Counts g k) = 0
-counted_number (Refuses r) = number_of r
+-- What a call that counts finds, made of the grade and the count.
+abbrev pub counted : Grade → ℕ → Counted
+counted g k = record { grade = g; count = k }
+
+-- What a call that counts answers where it is done: the grade and the count.
+abbrev pub counted_answer : Grade → ℕ → Answer Counted
+counted_answer g k = Ok (counted g k)
+
+-- The number that a call answers: 0 where it is done, else that of the refusal.
+abbrev pub answer_number : {A : Type 0} → Answer A → ℕ
+answer_number (Ok x) = 0
+answer_number (Err r) = number_of r

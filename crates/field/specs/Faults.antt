@@ -1,8 +1,7 @@
 -- When each of the four refusals of the order of entries is given (rule 3.2). Assumes nothing.
-use Rattle.std.specs.Prelude.{ℕ, ◌-◌, ◌<◌, ◌≤◌, ◌≡◌, List, length, get_or}
+use Rattle.std.specs.Prelude.{ℕ, ◌-◌, ◌<◌, ◌≤◌, ◌≡◌, List, length, get_or, Err}
 use Rattle.field.specs.declared.Refusal.{Refusal}
 use Rattle.field.specs.declared.Refusal.TheVariants.{Row, Column, Repeat, Order}
-use Rattle.field.specs.declared.Checked.TheVariants.{Failed}
 use Rattle.field.specs.Answers.{position_of}
 use Rattle.field.specs.Table.{Test, tested}
 use Rattle.field.specs.Field.{Field, variables, entries, Before}
@@ -42,4 +41,4 @@ pub record OneFault (n : ℕ) (rows cols : List ℕ) : Type 0 where
 
 -- where these tests refuse, the position that is named is below 32,768
 abbrev pub Near : List Test → Type 0
-Near ts = (r : Refusal) → tested ts ≡ Failed r → position_of r < 32768
+Near ts = (r : Refusal) → tested ts ≡ Err r → position_of r < 32768

@@ -1,8 +1,8 @@
 -- A field (section 1 of the rules): n linear weights c, and m entries (row, column, q), all f64. Assumes nothing.
 use Rattle.std.specs.Prelude.{ℕ, ◌+◌, ◌<◌, ◌≤◌, ◌≡◌, ◌≢◌, ◌⊎◌, List, length, get_or, Float}
 use Rattle.std.specs.Float.{nan}
-use Rattle.std.specs.Borrow.{Bor}
 use denote.Triple.Both.{Both}
+use Rattle.field.specs.declared.FieldRef.{FieldRef}
 
 -- The four lists of a field: the linear weights, and of each entry the row, the column and the pair weight.
 pub record Field : Type 0 where
@@ -39,13 +39,13 @@ column_end F k = get_or F.cols k 0
 abbrev pub quad_of : Field → ℕ → Float
 quad_of F k = get_or F.quad k nan
 
--- The field behind four lent slices as a call is given it, for its contract.
-abbrev pub given : {W X Y Z : Type 0} → Both (Bor (List Float)) W → Both (Bor (List ℕ)) X → Both (Bor (List ℕ)) Y → Both (Bor (List Float)) Z → Field
-given c rows cols q = field_of c.entry.now rows.entry.now cols.entry.now q.entry.now
-
 -- The field behind four lent slices as they stand now, for what is said inside a call.
-abbrev pub lent : Bor (List Float) → Bor (List ℕ) → Bor (List ℕ) → Bor (List Float) → Field
-lent c rows cols q = field_of c.now rows.now cols.now q.now
+abbrev pub lent : FieldRef → Field
+lent F = field_of F.c.now F.rows.now F.cols.now F.q.now
+
+-- The field behind four lent slices as a call is given it, for its contract.
+abbrev pub given : {W : Type 0} → Both FieldRef W → Field
+given F = lent F.entry
 
 -- (r, c) stands before (r₂, c₂): by column, then row
 abbrev pub Before : ℕ → ℕ → ℕ → ℕ → Type 0

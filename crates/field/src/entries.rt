@@ -3,15 +3,14 @@ ghost use Rattle.std.specs.Prelude.{◌≡◌, false, ◌<◌, length};
 ghost use Rattle.field.specs.Tests.{ends_below as ends_below_of, is_before, all_rise as all_rise_of, in_order, is_fine as is_fine_of, first_from, wrong_at as wrong_at_of, fault_of, off_diagonal as off_diagonal_of, bytes_small as bytes_small_of};
 
 use crate::Refusal;
-use scratch::wide_short;
 
 // Whether every end is below top.
 fn shorts_below(top: u16, ends: &[u16]) -> bool
     ensures { result ≡ ends_below_of top ends.now }
 {
     let mut below = true;
-    for k in 0..ends.len() {
-        below = below & (ends[k] < top);
+    for &end in ends {
+        below = below & (end < top);
     }
     below
 }
@@ -39,11 +38,8 @@ pub fn all_rise(rows: &[u16], cols: &[u16]) -> bool
     ensures { result ≡ all_rise_of rows.now cols.now }
 {
     let mut rise = true;
-    let mut k: usize = 0;
-    while k + 1 < rows.len() {
-        let next = k + 1;
-        rise = rise & stands_before(rows[k], cols[k], rows[next], cols[next]);
-        k = next;
+    for k in 1..rows.len() {
+        rise = rise & stands_before(rows[k - 1], cols[k - 1], rows[k], cols[k]);
     }
     rise
 }
@@ -54,10 +50,10 @@ fn is_fine(n: usize, rows: &[u16], cols: &[u16], k: usize) -> bool
     requires k_in_bounds { k < length rows.now }
     ensures { result ≡ is_fine_of n rows.now cols.now k }
 {
-    if wide_short(rows[k]) >= n {
+    if usize::from(rows[k]) >= n {
         return false;
     }
-    if wide_short(cols[k]) >= n {
+    if usize::from(cols[k]) >= n {
         return false;
     }
     if k == 0 {
@@ -72,14 +68,12 @@ fn first_fault(n: usize, rows: &[u16], cols: &[u16]) -> usize
     requires { length rows.now ≡ length cols.now }
     ensures { result ≡ first_from (is_fine_of n rows.now cols.now) 0 (length rows.now) }
 {
-    let mut k: usize = 0;
-    while k < rows.len() {
+    for k in 0..rows.len() {
         if !is_fine(n, rows, cols, k) {
             return k;
         }
-        k += 1;
     }
-    k
+    rows.len()
 }
 
 // What is wrong with entry k, which is not fine.
@@ -89,10 +83,10 @@ fn wrong_at(n: usize, rows: &[u16], cols: &[u16], k: usize) -> Refusal
     requires k_value { is_fine_of n rows.now cols.now k ≡ false }
     ensures { result ≡ wrong_at_of n rows.now cols.now k }
 {
-    if wide_short(rows[k]) >= n {
+    if usize::from(rows[k]) >= n {
         return Refusal::Row(k);
     }
-    if wide_short(cols[k]) >= n {
+    if usize::from(cols[k]) >= n {
         return Refusal::Column(k);
     }
     let last = k - 1;
@@ -131,8 +125,8 @@ pub fn bytes_small(s: &[u8]) -> bool
     ensures { result ≡ bytes_small_of s.now }
 {
     let mut small = true;
-    for i in 0..s.len() {
-        small = small & (s[i] <= 2);
+    for &byte in s {
+        small = small & (byte <= 2);
     }
     small
 }

@@ -5,9 +5,9 @@ ghost use Rattle.field.specs.Tests.{Finite, Loose};
 ghost use Rattle.field.specs.Grade.{grade_of, unit_of};
 ghost use Rattle.field.specs.Measure.{First};
 
-use crate::Grade;
 use crate::entries::off_diagonal;
-use crate::weighs::{Measure, greater, measured};
+use crate::weighs::{Measure, measured};
+use crate::{FieldRef, Grade};
 
 // 2^52, and all digits below it
 const LEADING: u64 = 4503599627370496;
@@ -24,13 +24,9 @@ fn first_unit(linear: Measure, quad: Measure) -> u64
     requires { (linear.size < 2 ^ 63) × (quad.size < 2 ^ 63) }
     ensures { First linear.beyond linear.size quad.beyond quad.size result }
 {
-    let u = greater(
-        greater(
-            (linear.size + BELOW) / LEADING + 20,
-            (quad.size + BELOW) / LEADING + 19,
-        ),
-        FINEST,
-    );
+    let linear_least = (linear.size + BELOW) / LEADING + 20;
+    let quad_least = (quad.size + BELOW) / LEADING + 19;
+    let u = linear_least.max(quad_least).max(FINEST);
     if NONE <= u {
         return NONE;
     }
@@ -61,14 +57,14 @@ pub fn least_unit(c: &[f64], q: &[f64]) -> u8
 }
 
 // Exact where no entry is on the diagonal, and every 2c and every q is a whole number of one unit of 2^-20 to 2^20, none above 2^31 of it.
-pub fn graded(c: &[f64], rows: &[u16], cols: &[u16], q: &[f64]) -> Grade
-    requires { Loose (lent c rows cols q) }
-    ensures { result ≡ grade_of (given c rows cols q) }
+pub fn graded(field: FieldRef) -> Grade
+    requires { Loose (lent field) }
+    ensures { result ≡ grade_of (given field) }
 {
-    if !off_diagonal(rows, cols) {
+    if !off_diagonal(field.rows, field.cols) {
         return Grade::Inexact;
     }
-    if half_unit(c, q) == NONE {
+    if half_unit(field.c, field.q) == NONE {
         return Grade::Inexact;
     }
     Grade::Exact

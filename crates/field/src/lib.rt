@@ -9,15 +9,24 @@ mod weighs;
 ghost use Rattle.std.specs.Prelude.{◌≡◌};
 ghost use Rattle.field.specs.Answers.{number_of, position_of, answer_number};
 
-// Whether all sums of a field's weights are exact in f64, counted in some unit of 2^-20 to 2^20.
+// The four lists of a field as they are lent: the linear weights, and of each entry the row, the column and the pair weight.
 #[derive(Clone, Copy)]
+pub struct FieldRef<'a> {
+    pub c: &'a [f64],
+    pub rows: &'a [u16],
+    pub cols: &'a [u16],
+    pub q: &'a [f64],
+}
+
+// Whether all sums of a field's weights are exact in f64, counted in some unit of 2^-20 to 2^20.
+#[derive(Clone, Copy, Debug, PartialEq, Eq)]
 pub enum Grade {
     Exact,
     Inexact,
 }
 
 // The table's refusals; four name the position of the first entry at fault.
-#[derive(Clone, Copy)]
+#[derive(Clone, Copy, Debug, PartialEq, Eq)]
 pub enum Refusal {
     Variables,
     Lists,
@@ -67,55 +76,31 @@ impl Refusal {
         ensures { result ≡ position_of self }
     {
         match self {
-            Refusal::Variables => 0,
-            Refusal::Lists => 0,
             Refusal::Row(k) => k,
             Refusal::Column(k) => k,
             Refusal::Repeat(k) => k,
             Refusal::Order(k) => k,
-            Refusal::Diagonal => 0,
-            Refusal::Weights => 0,
-            Refusal::Start => 0,
-            Refusal::Argument => 0,
-            Refusal::Scratch => 0,
-            Refusal::Room => 0,
-            Refusal::Clash => 0,
-            Refusal::Inexact => 0,
-            Refusal::Unforced => 0,
-            Refusal::Sum => 0,
+            _ => 0,
         }
     }
 }
 
-// What a call's tests find: all passed, or the first that failed.
-#[derive(Clone, Copy)]
-pub enum Checked {
-    Passed,
-    Failed(Refusal),
-}
+// What a call answers: what it finds, or the refusal of the first test that failed.
+pub type Answer<T> = Result<T, Refusal>;
 
-// What a call on a field answers: done, with the field's grade, or a refusal.
-#[derive(Clone, Copy)]
-pub enum Answer {
-    Done(Grade),
-    Refused(Refusal),
-}
-
-impl Answer {
-    // The table's number of this answer: 0 where the call is done.
-    pub fn number(self) -> u32
-        ensures { result ≡ answer_number self }
-    {
-        match self {
-            Answer::Done(_) => 0,
-            Answer::Refused(refusal) => refusal.number(),
-        }
+// The table's number of an answer: 0 where the call is done.
+pub fn number<T>(answer: &Answer<T>) -> u32
+    ensures { result ≡ answer_number answer.now }
+{
+    match answer {
+        Ok(_) => 0,
+        Err(refusal) => refusal.number(),
     }
 }
 
-// What a call that counts answers: done, with the field's grade and the count, or a refusal.
+// What a call that counts finds: the field's grade, and the count.
 #[derive(Clone, Copy)]
-pub enum Counted {
-    Counts(Grade, usize),
-    Refuses(Refusal),
+pub struct Counted {
+    pub grade: Grade,
+    pub count: usize,
 }

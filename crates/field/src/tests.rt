@@ -6,7 +6,7 @@ ghost use Rattle.field.specs.Tests.{few_variables as few_variables_of, lists_mat
 
 use crate::entries::{all_rise, bytes_small, ends_below, fault, off_diagonal};
 use crate::weighs::all_finite;
-use crate::{Checked, Refusal};
+use crate::{Answer, FieldRef, Refusal};
 
 // Test 1: n is at most 4,096.
 pub fn few_variables(n: usize) -> bool
@@ -79,104 +79,76 @@ pub fn words_fit(n: usize, m: usize, words: usize) -> bool
 }
 
 // 1, 2 and 14 to 17; where a fault is looked for, the entries are known to have one
-pub fn shape(c: &[f64], rows: &[u16], cols: &[u16], q: &[f64]) -> Checked
-    ensures { result ≡ tested (shape_tests (given c rows cols q)) }
+pub fn shape(field: FieldRef) -> Answer<()>
+    ensures { result ≡ tested (shape_tests (given field)) }
 {
-    if !few_variables(c.len()) {
-        return Checked::Failed(Refusal::Variables);
+    if !few_variables(field.c.len()) {
+        return Err(Refusal::Variables);
     }
-    if !lists_match(rows, cols, q) {
-        return Checked::Failed(Refusal::Lists);
+    if !lists_match(field.rows, field.cols, field.q) {
+        return Err(Refusal::Lists);
     }
-    if !in_order(c.len(), rows, cols) {
-        return Checked::Failed(fault(c.len(), rows, cols));
+    if !in_order(field.c.len(), field.rows, field.cols) {
+        return Err(fault(field.c.len(), field.rows, field.cols));
     }
-    Checked::Passed
+    Ok(())
 }
 
 // These and 5, for the calls that allow a diagonal
-pub fn loose(c: &[f64], rows: &[u16], cols: &[u16], q: &[f64]) -> Checked
-    ensures { result ≡ tested (loose_tests (given c rows cols q)) }
+pub fn loose(field: FieldRef) -> Answer<()>
+    ensures { result ≡ tested (loose_tests (given field)) }
 {
-    let shaped = shape(c, rows, cols, q);
-    if let Checked::Failed(refusal) = shaped {
-        return Checked::Failed(refusal);
+    shape(field)?;
+    if !weights_finite(field.c, field.q) {
+        return Err(Refusal::Weights);
     }
-    if !weights_finite(c, q) {
-        return Checked::Failed(Refusal::Weights);
-    }
-    Checked::Passed
+    Ok(())
 }
 
 // These, 6 and 8, for those of them that work from start values in scratch
-pub fn admitted(
-    c: &[f64],
-    rows: &[u16],
-    cols: &[u16],
-    q: &[f64],
-    start: &[u8],
-    floats: usize,
-    words: usize,
-) -> Checked
-    ensures { result ≡ tested (open_tests (given c rows cols q) start.now floats words) }
+pub fn admitted(field: FieldRef, start: &[u8], floats: usize, words: usize) -> Answer<()>
+    ensures { result ≡ tested (open_tests (given field) start.now floats words) }
 {
-    let shaped = loose(c, rows, cols, q);
-    if let Checked::Failed(refusal) = shaped {
-        return Checked::Failed(refusal);
+    loose(field)?;
+    if !start_fits(field.c.len(), start) {
+        return Err(Refusal::Start);
     }
-    if !start_fits(c.len(), start) {
-        return Checked::Failed(Refusal::Start);
+    if !floats_fit(field.c.len(), field.q.len(), floats) {
+        return Err(Refusal::Scratch);
     }
-    if !floats_fit(c.len(), q.len(), floats) {
-        return Checked::Failed(Refusal::Scratch);
+    if !words_fit(field.c.len(), field.q.len(), words) {
+        return Err(Refusal::Scratch);
     }
-    if !words_fit(c.len(), q.len(), words) {
-        return Checked::Failed(Refusal::Scratch);
-    }
-    Checked::Passed
+    Ok(())
 }
 
 // Makes tests 1, 2, 14 to 17, and 4 to 6, in this order; the first that fails is answered.
-pub fn standard(c: &[f64], rows: &[u16], cols: &[u16], q: &[f64], start: &[u8]) -> Checked
-    ensures { result ≡ tested (standard_tests (given c rows cols q) start.now) }
+pub fn standard(field: FieldRef, start: &[u8]) -> Answer<()>
+    ensures { result ≡ tested (standard_tests (given field) start.now) }
 {
-    let shaped = shape(c, rows, cols, q);
-    if let Checked::Failed(refusal) = shaped {
-        return Checked::Failed(refusal);
+    shape(field)?;
+    if !off_diagonal(field.rows, field.cols) {
+        return Err(Refusal::Diagonal);
     }
-    if !off_diagonal(rows, cols) {
-        return Checked::Failed(Refusal::Diagonal);
+    if !weights_finite(field.c, field.q) {
+        return Err(Refusal::Weights);
     }
-    if !weights_finite(c, q) {
-        return Checked::Failed(Refusal::Weights);
+    if !start_fits(field.c.len(), start) {
+        return Err(Refusal::Start);
     }
-    if !start_fits(c.len(), start) {
-        return Checked::Failed(Refusal::Start);
-    }
-    Checked::Passed
+    Ok(())
 }
 
 // Makes all the tests of a field in standard form, its start values and both scratches, 8 as the last.
-pub fn ready(
-    c: &[f64],
-    rows: &[u16],
-    cols: &[u16],
-    q: &[f64],
-    start: &[u8],
-    floats: usize,
-    words: usize,
-) -> Checked
-    ensures { result ≡ tested (ready_tests (given c rows cols q) start.now floats words) }
+pub fn ready(field: FieldRef, start: &[u8], floats: usize, words: usize) -> Answer<()>
+    ensures { result ≡ tested (ready_tests (given field) start.now floats words) }
 {
-    let sound = standard(c, rows, cols, q, start);
-    if let Checked::Failed(refusal) = sound {
-        return Checked::Failed(refusal);
+    standard(field, start)?;
+    if !floats_fit(field.c.len(), field.q.len(), floats) {
+        return Err(Refusal::Scratch);
     }
-    if !floats_fit(c.len(), q.len(), floats) {
-        return Checked::Failed(Refusal::Scratch);
+    if !words_fit(field.c.len(), field.q.len(), words) {
+        return Err(Refusal::Scratch);
     }
-    if !words_fit(c.len(), q.len(), words) {
-        return Checked::Failed(Refusal::Scratch);
-    }
-    Checked::Passed
+    Ok(())
 }

@@ -1,7 +1,7 @@
 // Tests at every weight of a list.
 ghost use Rattle.std.specs.Prelude.{◌≡◌, true, length};
 ghost use Rattle.field.specs.Tests.{all_finite as all_finite_of};
-ghost use Rattle.field.specs.Measure.{Lesser, Greater, Measured};
+ghost use Rattle.field.specs.Measure.{Measured};
 
 // What the grade reads of a list of weights: all are whole in the units below `beyond`, and the largest has the bits `size`.
 #[derive(Clone, Copy)]
@@ -15,24 +15,10 @@ pub fn all_finite(w: &[f64]) -> bool
     ensures { result ≡ all_finite_of w.now }
 {
     let mut fine = true;
-    for k in 0..w.len() {
-        fine = fine & weights::is_finite(w[k]);
+    for &x in w {
+        fine = fine & weights::is_finite(x);
     }
     fine
-}
-
-// The lesser of two numbers, for the units in which all weights are whole.
-pub fn lesser(a: u64, b: u64) -> u64
-    ensures { Lesser a b result }
-{
-    if b < a { b } else { a }
-}
-
-// The greater of two numbers, for the magnitude of the largest weight.
-pub fn greater(a: u64, b: u64) -> u64
-    ensures { Greater a b result }
-{
-    if a < b { b } else { a }
 }
 
 // One pass, with no branch on a weight's sign or on a zero. It stops at a weight that is whole in no unit of the 41.
@@ -42,21 +28,13 @@ pub fn measured(w: &[f64]) -> Measure
 {
     let mut beyond: u64 = 4096;
     let mut size: u64 = 0;
-    let mut k: usize = 0;
-    while k < w.len() {
-        let b = weights::pattern(w[k]);
-        beyond = lesser(beyond, weights::beyond(b));
-        size = greater(size, b);
+    for &x in w {
+        let b = weights::pattern(x);
+        beyond = beyond.min(weights::beyond(b));
+        size = size.max(b);
         if beyond <= 1053 {
-            return Measure {
-                beyond: beyond,
-                size: size,
-            };
+            return Measure { beyond, size };
         }
-        k += 1;
     }
-    Measure {
-        beyond: beyond,
-        size: size,
-    }
+    Measure { beyond, size }
 }

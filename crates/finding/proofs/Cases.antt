@@ -1,13 +1,16 @@
 -- The findings case by case, as the code goes through them. Assumes nothing.
 use Prim.Native.Nat.{ℕ, zero, suc, ◌<◌, ◌≤◌}
 use mathlib.Core.Path.{◌≡◌, refl}
+use mathlib.Core.Bool.{Bool, true, false, cond}
 use mathlib.Core.Logic.{◌≢◌}
+use mir.Val.{bool_byte}
+use lib.Dec.{ltb}
 use native.Mathlib.Omega.{arith}
 use Rattle.meaning.specs.Kinds.{at_least_one, greater_than, joining}
 use Rattle.meaning.specs.Records.{record_of}
 use Rattle.constraints.specs.Keys.{key_of}
 use Rattle.probe.specs.Found.{found}
-use Rattle.finding.specs.Finds.{wins, number_of}
+use Rattle.finding.specs.Finds.{wins, number_of, count_of}
 
 -- neither 0 nor 1
 pub after_zero_none : (i j v : ℕ) {x : ℕ} → v ≢ 0 → v ≢ 1 → x ≡ key_of (record_of (joining greater_than i j)) → x ≡ number_of (found i j 0 v)
@@ -63,3 +66,12 @@ winner_differ i j (suc zero) zero old h n = refl
 winner_differ i j (suc zero) (suc zero) old h n = absurd (n refl)
 winner_differ i j (suc zero) (suc (suc w)) old h n = refl
 winner_differ i j (suc (suc v)) w old h n = absurd (omega arith)
+
+-- a test of a number as how many records it stands for
+pub counts_told : (k : ℕ) {r : ℕ} → r ≡ bool_byte (ltb k 268435456) → (r ≡ count_of k) × (r ≤ 1)
+unfolding count_of
+counts_told k {r} e = go (ltb k 268435456) e
+  where
+    go : (b : Bool) → r ≡ bool_byte b → (r ≡ cond b 1 0) × (r ≤ 1)
+    go true h = (h, omega (arith, h))
+    go false h = (h, omega (arith, h))

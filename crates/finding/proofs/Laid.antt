@@ -1,54 +1,25 @@
 -- A list is kept, and the values of its variables are laid into the words. Assumes nothing.
-use Prim.Native.Nat.{ℕ, zero, suc, ◌+◌, ◌<◌, ◌≤◌}
+use Prim.Native.Nat.{ℕ, zero, suc, ◌+◌, ◌-◌, ◌<◌, ◌≤◌}
 use mathlib.Core.Path.{◌≡◌, refl, sym, ap, ◌∙◌}
 use mathlib.Core.Logic.{◌≢◌, ◌⊎◌, inl, inr}
-use mathlib.Core.List.{List}
+use mathlib.Core.List.{List, ◌++◌}
 use native.Mathlib.Nat.{le_refl}
 use native.Mathlib.Numerals.{add-one}
 use native.Mathlib.Decide.{ℕ_discrete}
 use native.Mathlib.Omega.{arith}
-use lib.ListN.{length, get_or, set, length-set}
-use lib.Seq.{paste, paste-zero, paste-suc, length-paste, get_or-set_same, get_or-set_other}
+use lib.ListN.{length, get_or, set, take, drop, length-set}
+use lib.Seq.{paste, take-take, get_or-set_same, get_or-set_other}
 use Rattle.scratch.specs.Region.{region}
-use Rattle.scratch.proofs.Region.{length_region, region_at}
-use Rattle.places.proofs.Slices.{front_get_d}
 use Rattle.finding.specs.Emit.{lay_to, Layable}
-use Rattle.finding.proofs.Copied.{paste_front}
 
 -- ---- the list is kept
 
-pub record Keeping (from count kept : ℕ) (u₀ u : List ℕ) (p : ℕ) : Type 0 where
-  pub low : from + count ≤ kept
-  pub room : kept + count ≤ length u₀
-  pub within : p ≤ count
-  pub is : u ≡ paste u₀ kept (region from count u₀) p
-
-pub keeping_start : {from count kept : ℕ} {u : List ℕ} → from + count ≤ kept → kept + count ≤ length u → Keeping from count kept u u 0
-keeping_start {from} {count} {kept} {u} a b = record { low = a; room = b; within = omega arith; is = paste-zero u kept (region from count u) }
-
-module _ {from count kept : ℕ} {u₀ u : List ℕ} {p : ℕ} (K : Keeping from count kept u₀ u p) where
-  list_long : length (region from count u₀) ≡ count
-  list_long = length_region from count u₀ (omega (arith, K.low, K.room))
-
-  pub keeping_long : length u ≡ length u₀
-  keeping_long = ap length K.is ∙ length-paste u₀ kept (region from count u₀) p (omega (arith, K.room, K.within)) (omega (arith, K.within, list_long))
-
-  pub keeping_turn : p < count → Keeping from count kept u₀ (set u (kept + p) (get_or u (from + p) 0)) (p + 1)
-  keeping_turn h =
-      let l = region from count u₀ in
-      let r : kept + p ≤ length u₀ = omega (arith, K.room) in
-      let e : get_or u (from + p) 0 ≡ get_or l p 0 =
-      ap (λ (z : List ℕ). get_or z (from + p) 0) K.is
-      ∙ front_get_d kept (paste u₀ kept l p) u₀ (paste_front u₀ l kept p r (omega (arith, list_long)) kept (le_refl kept)) (from + p) (omega (arith, K.low))
-      ∙ sym (region_at from count u₀ p 0 h) in record {
-        low = K.low;
-        room = K.room;
-        within = omega arith;
-        is = rw (e, K.is, add-one p) (paste-suc u₀ kept l p 0 (omega (arith, K.room)) (omega (arith, list_long)));
-      }
-
-  pub keeping_done : count ≤ p → u ≡ paste u₀ kept (region from count u₀) count
-  keeping_done h = let z : p ≡ count = omega (arith, K.within) in rw z at K.is
+-- a copy within the words is the list pasted
+pub kept_copy : (u : List ℕ) (from count kept : ℕ) {u' : List ℕ} → u' ≡ paste u kept (drop from u) (from + count - from) → u' ≡ paste u kept (region from count u) count
+unfolding region
+kept_copy u from count kept e =
+    let n : from + count - from ≡ count = omega arith in
+    rw n at e ∙ ap (λ (l : List ℕ). take kept u ++ l ++ drop (kept + count) u) (sym (take-take count count (drop from u) (le_refl count)))
 
 -- ---- the values are laid
 

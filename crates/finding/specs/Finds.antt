@@ -1,5 +1,5 @@
 -- What both probes of one candidate find of every other free variable: probe values and constraints. Executable on every field. Assumes nothing.
-use Rattle.std.specs.Prelude.{ℕ, zero, suc, ◌≤◌, ◌≡◌, cond, List, [], ◌∷◌, eqb, ltb, length, get_or, replicate}
+use Rattle.std.specs.Prelude.{ℕ, zero, suc, cond, List, [], ◌∷◌, eqb, ltb, length, get_or, replicate}
 use Rattle.meaning.specs.Records.{Record, record_of}
 use Rattle.constraints.specs.Keys.{key_of}
 use Rattle.field.specs.Field.{Field, variables}

@@ -5,8 +5,7 @@ ghost use Rattle.scratch.specs.Region.{region};
 ghost use Rattle.finding.specs.Emit.{lay_to, Layable, bench, entered, emit_at, emit_of, emit_to, Emits, Emittable};
 ghost use Rattle.probe.specs.Found.{found};
 
-use crate::rule::{counts, gives, number, winner, word};
-use scratch::wide_word;
+use crate::rule::{counts, gives, number, winner};
 
 // The list of `count` words at `from` is kept at `kept`.
 pub fn keep(u: &mut [u32], from: usize, count: usize, kept: usize)
@@ -14,9 +13,7 @@ pub fn keep(u: &mut [u32], from: usize, count: usize, kept: usize)
     requires count_in_bounds { kept + count ≤ length u.old }
     ensures { u.new ≡ paste u.old kept (region from count u.old) count }
 {
-    for p in 0..count {
-        u[kept + p] = u[from + p];
-    }
+    u.copy_within(from..from + count, kept);
 }
 
 // The values of the variables of a list go into the words from `first` on.
@@ -25,8 +22,8 @@ pub fn lay(values: &[u8], u: &mut [u32], from: usize, count: usize, first: usize
     ensures { u.new ≡ lay_to values.now from first u.old count }
 {
     for p in 0..count {
-        let j = wide_word(u[from + p]);
-        u[first + j] = word(values[j]);
+        let j = u[from + p] as usize;
+        u[first + j] = u32::from(values[j]);
     }
 }
 
@@ -62,7 +59,7 @@ pub fn emit(
     let probed = i as u16;
     let other = j as u16;
     let v = gives(probed, other, start[j], u[first + j]);
-    let w = gives(probed, other, start[j], word(values[j]));
+    let w = gives(probed, other, start[j], u32::from(values[j]));
     enter(u, probed, other, v, w, at + j, end)
 }
 
@@ -106,7 +103,7 @@ pub fn emit_list(
 {
     let mut last = end;
     for p in 0..count {
-        let j = wide_word(u[from + p]);
+        let j = u[from + p] as usize;
         last = emit_from(start, values, u, i, j, least, first, at, last);
     }
     last

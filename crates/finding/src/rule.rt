@@ -12,13 +12,11 @@ fn after_zero(i: u16, j: u16, v: u32) -> u32
     requires j_bound { j < 4096 }
     ensures { result ≡ number_of (found i j 0 v) }
 {
-    if v == 0 {
-        return 268435456;
+    match v {
+        0 => 268435456,
+        1 => key(i, j, Kind::Equal),
+        _ => key(i, j, Kind::GreaterThan),
     }
-    if v == 1 {
-        return key(i, j, Kind::Equal);
-    }
-    key(i, j, Kind::GreaterThan)
 }
 
 // Where it gives 1.
@@ -27,13 +25,11 @@ fn after_one(i: u16, j: u16, v: u32) -> u32
     requires j_bound { j < 4096 }
     ensures { result ≡ number_of (found i j 1 v) }
 {
-    if v == 0 {
-        return key(i, j, Kind::ExactlyOne);
+    match v {
+        0 => key(i, j, Kind::ExactlyOne),
+        1 => 268435456,
+        _ => key(i, j, Kind::AtLeastOne),
     }
-    if v == 1 {
-        return 268435456;
-    }
-    key(i, j, Kind::AtLeastOne)
 }
 
 // Where it gives none.
@@ -42,28 +38,25 @@ fn after_none(i: u16, j: u16, v: u32) -> u32
     requires j_bound { j < 4096 }
     ensures { result ≡ number_of (found i j 2 v) }
 {
-    if v == 0 {
-        return key(i, j, Kind::NoMoreThanOne);
+    match v {
+        0 => key(i, j, Kind::NoMoreThanOne),
+        1 => key(i, j, Kind::LessThan),
+        _ => 268435456,
     }
-    if v == 1 {
-        return key(i, j, Kind::LessThan);
-    }
-    268435456
 }
 
-// The number of the record that two values of j give for i and j, or 2^28 where they give none.
+// The number of the record that two values of j give for i and j, or 2^28 where they give none: a number for none, so that the caller stores it
+// behind those gathered without a branch.
 pub fn number(i: u16, j: u16, v: u32, w: u32) -> u32
     requires i_bound { i < 4096 }
     requires j_bound { j < 4096 }
     ensures { result ≡ number_of (found i j v w) }
 {
-    if v == 0 {
-        return after_zero(i, j, w);
+    match v {
+        0 => after_zero(i, j, w),
+        1 => after_one(i, j, w),
+        _ => after_none(i, j, w),
     }
-    if v == 1 {
-        return after_one(i, j, w);
-    }
-    after_none(i, j, w)
 }
 
 // The probe value that both give, or the old one.
@@ -84,7 +77,7 @@ pub fn counts(key: u32) -> usize
     ensures value { result ≡ count_of key }
     ensures upper_bound { result ≤ 1 }
 {
-    if key < 268435456 { 1 } else { 0 }
+    usize::from(key < 268435456)
 }
 
 // What a probe gives a variable, without the start values and the probed variable itself.
@@ -95,11 +88,4 @@ pub fn gives(i: u16, j: u16, start: u8, value: u32) -> u32
         return 2;
     }
     if start == 2 { value } else { 2 }
-}
-
-// A byte as a u32, the same number, as values stand among the words.
-pub fn word(x: u8) -> u32
-    ensures { result ≡ x }
-{
-    x as u32
 }

@@ -17,7 +17,7 @@ use Rattle.constraints.proofs.Numbers.{key_is, unkey_of_key}
 use Rattle.sorting.specs.Numbers.{Keys}
 use Rattle.sorting.proofs.Numbers.{distinct_long}
 use Rattle.sorting.proofs.Joining.{unkeys_snoc, words_proper}
-use Rattle.found.specs.declared.Merged.TheVariants.{Holds, Full}
+use Rattle.std.specs.Prelude.{Some, None}
 use Rattle.found.specs.Joint.{Held}
 use Rattle.found.specs.Flush.{Left, flushed}
 use Rattle.found.specs.Holding.{SameSet, Holding, Gathering}
@@ -107,7 +107,7 @@ module _ {F : List Record} {lo hi held : ℕ} {list₀ list u : List ℕ} (G : G
     counted = rw G.count at e
 
     -- A flush that answers n leaves n records in the list and no word.
-    pub gathering_flush : {n : ℕ} → x.answer ≡ Holds n → Gathering F lo lo n list₀ x.list x.words
+    pub gathering_flush : {n : ℕ} → x.answer ≡ Some n → Gathering F lo lo n list₀ x.list x.words
     gathering_flush a =
         let W = map unkey (slice lo hi u) in
         let w = words_left G.holding G.keys counted in record {
@@ -119,7 +119,7 @@ module _ {F : List Record} {lo hi held : ℕ} {list₀ list u : List ℕ} (G : G
         }
 
     -- A flush that finds no room: what was found so far has none, and so (`stays-full`) has all that is found in the end.
-    pub gathering_full : x.answer ≡ Full → room list₀ < length (merged_list F)
+    pub gathering_full : x.answer ≡ None → room list₀ < length (merged_list F)
     gathering_full a =
         stays_full (room list₀) (map unkey (slice lo hi u) ++ G.flushed) F (proper_both (words_proper G.keys) (λ x m. (G.holding.small x m).proper)) ((full_exactly G.holding G.keys counted).0 a) G.all.from
 

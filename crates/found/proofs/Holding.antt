@@ -19,7 +19,7 @@ use Rattle.constraints.proofs.Records.{length_flat, length_filled, filled_none, 
 use Rattle.sorting.specs.Numbers.{Keys, distinct_at}
 use Rattle.sorting.proofs.Numbers.{merged_small}
 use Rattle.sorting.proofs.Joining.{words_small, words_proper}
-use Rattle.found.specs.declared.Merged.TheVariants.{Holds, Full}
+use Rattle.std.specs.Prelude.{Some, None}
 use Rattle.found.specs.Joint.{front, Held, joint}
 use Rattle.found.specs.Flush.{Left, flushed}
 use Rattle.found.specs.Holding.{SameSet, Holding}
@@ -94,17 +94,17 @@ module _ {S : List Record} {list₀ list : List ℕ} (H : Holding S list₀ list
         ap (λ (l : List Record). merged_list (k ++ l)) front_is
         ∙ merged_same (k ++ merged_list S) (k ++ S) (proper_both (words_proper K) (merged_proper S held)) (proper_both (words_proper K) held) (same_both (same_refl k) (merged_bans S))
 
-    taken_in : {n : ℕ} → x.answer ≡ Holds n
+    taken_in : {n : ℕ} → x.answer ≡ Some n
         → Took (joint (length (merged_list S)) lo hi list u) list (distinct_at lo hi u) n (flushed list (length (merged_list S)) u lo hi)
     unfolding flushed
     taken_in a = holds_took (joint (length (merged_list S)) lo hi list u) list (distinct_at lo hi u) (sym (ap (λ (z : Left). z.answer) e) ∙ a)
 
     -- A flush that answers n has counted what was found, each once.
-    pub holds_count : {n : ℕ} → x.answer ≡ Holds n → n ≡ length (merged_list (map unkey (slice lo hi u) ++ S))
+    pub holds_count : {n : ℕ} → x.answer ≡ Some n → n ≡ length (merged_list (map unkey (slice lo hi u) ++ S))
     holds_count a = (taken_in a).count ∙ ap length joint_is
 
     -- The list then holds what the words stand for and what it held.
-    pub holding_flush : {n : ℕ} → x.answer ≡ Holds n → Holding (map unkey (slice lo hi u) ++ S) list₀ x.list
+    pub holding_flush : {n : ℕ} → x.answer ≡ Some n → Holding (map unkey (slice lo hi u) ++ S) list₀ x.list
     holding_flush a =
         let k = map unkey (slice lo hi u) in record {
           small = λ y m. ⊎_elim (words_small K y) (H.small y) (Memᴰ.append_cases k m);
@@ -116,12 +116,12 @@ module _ {S : List Record} {list₀ list : List ℕ} (H : Holding S list₀ list
               ∙ refilled (merged_list S) (merged_list (k ++ S)) list₀ (merged_more S (k ++ S) (λ y m. (H.small y m).proper) (λ i j p f. bans_right k f));
         }
 
-    left_out : x.answer ≡ Full → Refused (joint (length (merged_list S)) lo hi list u) list (distinct_at lo hi u) (flushed list (length (merged_list S)) u lo hi)
+    left_out : x.answer ≡ None → Refused (joint (length (merged_list S)) lo hi list u) list (distinct_at lo hi u) (flushed list (length (merged_list S)) u lo hi)
     unfolding flushed
     left_out a = full_refused (joint (length (merged_list S)) lo hi list u) list (distinct_at lo hi u) (sym (ap (λ (z : Left). z.answer) e) ∙ a)
 
     -- A flush answers that there is no room exactly if more was found, each counted once, than the list has room for.
-    pub full_exactly : (x.answer ≡ Full) ↔ (room list₀ < length (merged_list (map unkey (slice lo hi u) ++ S)))
+    pub full_exactly : (x.answer ≡ None) ↔ (room list₀ < length (merged_list (map unkey (slice lo hi u) ++ S)))
     unfolding flushed
     full_exactly = (
       λ a. rw (joint_is, same_long) at (left_out a).more,
@@ -131,7 +131,7 @@ module _ {S : List Record} {list₀ list : List ℕ} (H : Holding S list₀ list
     )
 
     -- The list is then as it was.
-    pub full_keeps : x.answer ≡ Full → x.list ≡ list
+    pub full_keeps : x.answer ≡ None → x.list ≡ list
     full_keeps a = ap (λ (z : Left). z.list) e ∙ (left_out a).kept
 
     -- The words are left sorted, each once, with zeros behind them; the rest of the scratch is as it was.

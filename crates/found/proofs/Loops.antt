@@ -31,9 +31,6 @@ pub record Counting (held lo hi : ℕ) (list u : List ℕ) (items keys n : ℕ) 
   pub turns : n + items + keys ≤ held + hi
   pub count : n + length (joint items lo keys list u) ≡ length (joint held lo hi list u)
 
-pub counting_start : (held lo hi : ℕ) (list u : List ℕ) → lo ≤ hi → Counting held lo hi list u held hi 0
-counting_start held lo hi list u h = record { few = omega arith; low = h; high = omega arith; turns = omega arith; count = omega arith }
-
 module _ {held lo hi : ℕ} {list u : List ℕ} {items keys n : ℕ} (C : Counting held lo hi list u items keys n) where
   -- a block and the word in front of it are taken
   pub counting_turn : Held held list → Climbed lo hi u → lo < keys → {p key items' keys' : ℕ} → Between p p items (get_or u (keys - 1) 0) list → Taking p lo keys list u key items' keys'
@@ -224,9 +221,6 @@ module _ {held lo hi : ℕ} {u list₀ : List ℕ} {items keys n : ℕ} {list : 
 
         pub laying_less : items - p + 1 ≤ n
         laying_less = omega (arith, laying_some laying_block H taken_up)
-
-        pub laying_spot : 3 * (n - (items - p + 1)) + 2 < length list'
-        laying_spot = rw spot at (laying_place laying_block H taken_up room_for)
 
         pub laying_step : {list'' : List ℕ} → list'' ≡ stored list' (n - (items - p + 1)) (unkey key) → Laying held lo hi u list₀ items' keys' (n - (items - p + 1)) list''
         laying_step {list''} q = rw spot at (laying_turn laying_block H taken_up room_for {list' = list''} (rw spot q))

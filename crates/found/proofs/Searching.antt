@@ -1,17 +1,22 @@
 -- The search for the place of a number among the records: their pairs climb, so one comparison speaks for all before it or for all behind it. Assumes nothing.
-use Prim.Native.Nat.{ℕ, zero, suc, ◌+◌, ◌*◌, ◌/◌, ◌<◌, ◌≤◌}
-use mathlib.Core.Path.{◌≡◌, ◌∙◌}
+use Prim.Native.Nat.{ℕ, zero, suc, ◌+◌, ◌-◌, ◌*◌, ◌/◌, ◌<◌, ◌≤◌}
+use mathlib.Core.Path.{◌≡◌, ap, ◌∙◌}
+use mathlib.Core.Bool.{Bool, true, false}
 use mathlib.Core.List.{List, [], ◌∷◌}
 use native.Mathlib.Decide.{ℕ_discrete, dec_lt}
 use native.Mathlib.Nat.{div-add-mod', mod-lt}
 use native.Mathlib.Omega.{arith}
-use lib.ListN.{length, get_or}
-use lib.Seq.{get_or-take}
+use borrow.Author.Tests.{le-leb, leb-true, leb-false}
+use lib.Dec.{leb}
+use lib.ListN.{length, get_or, take, drop, length-drop}
+use lib.Seq.{length-take-le, get_or-take, get_or-drop}
+use Rattle.std.specs.Simd.{first_chunks}
+use Rattle.std.specs.List.Sorted.{IsPartitionedBy, IsPartitionPoint}
 use Rattle.meaning.specs.Records.{Record, record_on}
 use Rattle.meaning.specs.Rising.{Before, by_lower, by_higher, Rising}
-use Rattle.constraints.specs.Record.{record_at, records}
+use Rattle.constraints.specs.Record.{room, record_at, records}
 use Rattle.constraints.specs.Keys.{key_of, Small}
-use Rattle.constraints.proofs.Records.{has_room, record_at_lem, at_in}
+use Rattle.constraints.proofs.Records.{has_room, record_at_lem, at_in, chunk_at}
 use Rattle.found.specs.Joint.{front, Held, Between}
 use Rattle.found.proofs.Fronts.{front_length}
 
@@ -49,29 +54,10 @@ module _ {n : ℕ} {list : List ℕ} (H : Held n list) where
 
 -- ---- one comparison
 
-pub between_start : (items y : ℕ) (list : List ℕ) → Between 0 items items y list
-between_start items y list = record { order = omega arith; within = omega arith; below = λ t h. absurd (omega arith); above = λ t a b. absurd (omega arith) }
-
 module _ {low high items y : ℕ} {list : List ℕ} (B : Between low high items y list) where
   -- the records before high alone
   pub between_first : Between low high high y list
   between_first = record { order = B.order; within = omega arith; below = B.below; above = λ t a b. absurd (omega arith) }
-
-  -- a place among the records before high is the place among all
-  pub between_all : {r : ℕ} → Between r r high y list → Between r r items y list
-  between_all A = record {
-    order = A.order;
-    within = omega (arith, A.within, B.within);
-    below = A.below;
-    above = λ t a b. elim (dec_lt t high) [
-      | yes h ↦ A.above t a h
-      | no h ↦ B.above t (omega arith) b
-    ];
-  }
-
-  -- nothing is left between them
-  pub between_done : high ≤ low → Between low low items y list
-  between_done h = record { order = omega arith; within = omega (arith, B.order, B.within); below = B.below; above = λ t a b. B.above t (omega arith) b }
 
   module _ (H : Held items list) {mid x : ℕ} (e : x ≡ key_of (record_at list mid)) (h : mid < high) where
     -- no record up to mid is above
@@ -100,6 +86,55 @@ module _ {low high items y : ℕ} {list : List ℕ} (B : Between low high items 
           ];
         }
 
--- what is left is halved
-pub half_less : (w : ℕ) → 0 < w → w / 2 < w
-half_less w h = omega (arith, div-add-mod' w 2, mod-lt w {m = 2} (omega arith))
+-- ---- the records as arrays of three
+
+-- whether the pair of an array is not above that of the number y
+abbrev pub not_above : ℕ → List ℕ → Bool
+not_above y r = leb (get_or r 0 0 * 4096 + get_or r 1 0) (y / 16)
+
+module _ {low high y : ℕ} {list : List ℕ} (H : Held high list) (B : Between low high high y list)
+    {chunks : List (List ℕ)} (is : chunks ≡ first_chunks 3 (room list) list) (long : length chunks ≡ room list) where
+  abbrev pub part : List (List ℕ)
+  part = take (high - low) (drop low chunks)
+
+  part_long : length part ≡ high - low
+  part_long = length-take-le (high - low) (drop low chunks) (omega (arith, length-drop low chunks, long, H.fits, B.order))
+
+  part_pair : (t : ℕ) (d : List ℕ) → t < high - low → get_or (get_or part t d) 0 0 * 4096 + get_or (get_or part t d) 1 0 ≡ key_of (record_at list (low + t)) / 16
+  part_pair t d h =
+      let at : get_or (take (high - low) (drop low chunks)) t d ≡ get_or (first_chunks 3 (room list) list) (low + t) d =
+      get_or-take (high - low) (drop low chunks) t d h ∙ get_or-drop low chunks t d ∙ ap (λ (l : List (List ℕ)). get_or l (low + t) d) is in
+      let has : (i : ℕ) → i < 3 → get_or (get_or (take (high - low) (drop low chunks)) t d) i 0 ≡ get_or list (3 * (low + t) + i) 0 =
+      λ i g. rw at (chunk_at (room list) (low + t) i list d (omega (arith, H.fits)) g) in
+      let first : get_or list (3 * (low + t) + 0) 0 ≡ get_or list (3 * (low + t)) 0 = ap (λ (j : ℕ). get_or list j 0) (omega arith) in
+      omega (arith, has 0 (omega arith), first, has 1 (omega arith), pair_is (small_at H (low + t) (omega arith)))
+
+  pub parted : IsPartitionedBy (not_above y) part
+  parted i j d h k e =
+      let l : j < high - low = omega (arith, part_long) in
+      let below = leb-true (get_or (get_or part j d) 0 0 * 4096 + get_or (get_or part j d) 1 0) (y / 16) e in
+      le-leb (get_or (get_or part i d) 0 0 * 4096 + get_or (get_or part i d) 1 0) (y / 16) (elim (ℕ_discrete i j) [
+        | yes q ↦ omega (arith, below, part_pair i d (omega arith), part_pair j d l, ap (λ (t : ℕ). key_of (record_at list (low + t)) / 16) q)
+        | no q ↦ omega (arith, below, part_pair i d (omega arith), part_pair j d l, climbs_at H (low + i) (low + j) (omega arith) (omega arith))
+      ])
+
+  pub located : {r : ℕ} → r ≤ length part → IsPartitionPoint (λ x. not_above y x ≡ true) (λ x. not_above y x ≡ false) part r → Between (low + r) (low + r) high y list
+  located {r} h point = record {
+    order = omega arith;
+    within = omega (arith, part_long, B.order);
+    below = λ t l. elim (dec_lt t low) [
+      | yes q ↦ B.below t q
+      | no q ↦
+          let e : low + (t - low) ≡ t = omega arith in
+          let u = leb-true _ _ (point.0 (t - low) [] (omega arith) (omega arith)) in
+          let v = part_pair (t - low) [] (omega (arith, part_long)) in
+          let w = ap (λ (k : ℕ). key_of (record_at list k) / 16) e in
+          omega (arith, u, v, w)
+    ];
+    above = λ t a b.
+        let e : low + (t - low) ≡ t = omega arith in
+        let u = leb-false _ _ (point.1 (t - low) [] (omega arith) (omega (arith, part_long))) in
+        let v = part_pair (t - low) [] (omega arith) in
+        let w = ap (λ (k : ℕ). key_of (record_at list k) / 16) e in
+        omega (arith, u, v, w);
+  }

@@ -9,14 +9,9 @@ pub fn move_up(list: &mut [u16], low: usize, high: usize, top: usize)
     requires top_in_bounds { top ≤ length list.old }
     ensures { list.new ≡ raised low high top list.old }
 {
+    // A block that stands there already is not walked.
     if high == top {
         return;
     }
-    let mut from = high;
-    let mut to = top;
-    while from > low {
-        from -= 1;
-        to -= 1;
-        list[to] = list[from];
-    }
+    list.copy_within(low..high, top - (high - low));
 }

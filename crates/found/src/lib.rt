@@ -11,19 +11,12 @@ ghost use Rattle.found.specs.Flush.{left, flushed};
 
 use merging::merge;
 
-// What a flush answers: how many records the list holds, or that it has no room for them.
-#[derive(Clone, Copy)]
-pub enum Merged {
-    Holds(usize),
-    Full,
-}
-
-// Puts what the words from lo to hi stand for among the `held` records of the list.
-pub fn flush(list: &mut [u16], held: usize, u: &mut [u32], lo: usize, hi: usize) -> Merged
+// Puts what the words from lo to hi stand for among the `held` records of the list, and says how many records it holds then; None where it has no room for them.
+pub fn flush(list: &mut [u16], held: usize, u: &mut [u32], lo: usize, hi: usize) -> Option<usize>
     requires held { Held held list.old }
     requires keys { Keys lo hi u.old }
     ensures { left result list.new u.new ≡ flushed list.old held u.old lo hi }
 {
     let end = sorting::distinct(u, lo, hi);
-    merge(list, held, u, lo, end)
+    merge(list, held, &u[lo..end])
 }

@@ -1,12 +1,11 @@
-// Two rising lists into one: the records at the front of the answer list, and the numbers in a part of scratch. What is held is not walked: the
+// Two rising lists into one: the records at the front of the answer list, and numbers in scratch. What is held is not walked: the
 // place of each number is found by a search, and the records between two places are moved as one block.
-ghost use Rattle.std.specs.Prelude.{◌≡◌, ◌+◌, ◌*◌, ◌-◌, ◌<◌, ◌≤◌, length, get_or};
+ghost use Rattle.std.specs.Prelude.{◌≡◌, ◌+◌, ◌*◌, ◌-◌, ◌<◌, ◌≤◌, length, get_or, slice_index};
 ghost use Rattle.constraints.specs.Record.{record_at, room, filled};
 ghost use Rattle.constraints.specs.Keys.{key_of, Small};
 ghost use Rattle.found.specs.Joint.{Held, Climbed, joint, NoneAbove, Between, Taking};
 ghost use Rattle.found.specs.Flush.{left, settled};
 
-use crate::Merged;
 use crate::blocks::move_up;
 use constraints::keys::number;
 
@@ -27,26 +26,24 @@ fn key_at(list: &[u16], t: usize) -> u32
     number(list[i], list[i + 1], list[i + 2])
 }
 
-// The first of the records from `low` to `high` whose pair is above that of the number y: what is left of them is halved.
+// The number of the pair of a record.
+fn pair_of(item: &[u16; 3]) -> u32
+    ensures { result ≡ slice_index item.now 0 * 4096 + slice_index item.now 1 }
+{
+    u32::from(item[0]) * 4096 + u32::from(item[1])
+}
+
+// The first of the records from `low` to `high` whose pair is above that of the number y.
 fn search(list: &[u16], low: usize, high: usize, y: u32) -> usize
     requires held { Held high list.now }
     requires between { Between low high high y list.now }
     ensures { Between result result high y list.now }
 {
-    let mut from = low;
-    let mut to = high;
-    while from < to {
-        let mid = from + (to - from) / 2;
-        if key_at(list, mid) / 16 <= y / 16 {
-            from = mid + 1;
-        } else {
-            to = mid;
-        }
-    }
-    from
+    let (records, _) = list.as_chunks::<3>();
+    low + records[low..high].partition_point(|x| pair_of(x) <= y / 16)
 }
 
-// The first of the first `items` records whose pair is above that of the number y: by steps from the end that double.
+// The first of the first `items` records whose pair is above that of the number y: by steps from the end that double, for which the library has no method.
 fn gallop(list: &[u16], items: usize, y: u32) -> usize
     requires { Held items list.now }
     ensures { Between result result items y list.now }
@@ -63,20 +60,16 @@ fn gallop(list: &[u16], items: usize, y: u32) -> usize
     search(list, 0, high, y)
 }
 
-// Takes the last word, which no record is above; where the last record has its pair, the union is taken from both.
-fn take_last(list: &[u16], items: usize, u: &[u32], lo: usize, keys: usize) -> Taken
+// Takes the number at `at`, which no record is above; where the last record has its pair, the union is taken from both.
+fn take_last(list: &[u16], items: usize, keys: &[u32], at: usize) -> Taken
     requires held { Held items list.now }
-    requires climbed { Climbed lo keys u.now }
-    requires lo_lt_keys { lo < keys }
-    requires none_above { NoneAbove items (get_or u.now (keys - 1) 0) list.now }
-    ensures { Taking items lo keys list.now u.now result.key result.items (keys - 1) }
+    requires climbed { Climbed 0 (at + 1) keys.now }
+    requires none_above { NoneAbove items (get_or keys.now at 0) list.now }
+    ensures { Taking items 0 (at + 1) list.now keys.now result.key result.items at }
 {
-    let y = u[keys - 1];
+    let y = keys[at];
     if items == 0 {
-        return Taken {
-            key: y,
-            items: items,
-        };
+        return Taken { key: y, items };
     }
     let last = items - 1;
     let x = key_at(list, last);
@@ -86,63 +79,56 @@ fn take_last(list: &[u16], items: usize, u: &[u32], lo: usize, keys: usize) -> T
             items: last,
         };
     }
-    Taken {
-        key: y,
-        items: items,
-    }
+    Taken { key: y, items }
 }
 
 // How many records both lists hold, merged.
-fn count(list: &[u16], held: usize, u: &[u32], lo: usize, hi: usize) -> usize
+fn count(list: &[u16], held: usize, keys: &[u32]) -> usize
     requires held { Held held list.now }
-    requires climbed { Climbed lo hi u.now }
-    ensures { result ≡ length (joint held lo hi list.now u.now) }
+    requires climbed { Climbed 0 (length keys.now) keys.now }
+    ensures { result ≡ length (joint held 0 (length keys.now) list.now keys.now) }
 {
     let mut items = held;
-    let mut keys = hi;
     let mut n = 0;
-    while keys > lo {
-        let p = gallop(list, items, u[keys - 1]);
-        let taken = take_last(list, p, u, lo, keys);
+    for at in (0..keys.len()).rev() {
+        let p = gallop(list, items, keys[at]);
+        let taken = take_last(list, p, keys, at);
         n += items - p + 1;
         items = taken.items;
-        keys -= 1;
     }
     n + items
 }
 
-// Merges from the back, where there is room: what is above the last word goes up as one block, and the word in front of it, until no word is left.
-fn lay(list: &mut [u16], held: usize, u: &[u32], lo: usize, hi: usize, total: usize)
+// Merges from the back, where there is room: what is above the last number goes up as one block, and the number in front of it, until none is left.
+fn lay(list: &mut [u16], held: usize, keys: &[u32], total: usize)
     requires held { Held held list.old }
-    requires climbed { Climbed lo hi u.now }
-    requires total_value { total ≡ length (joint held lo hi list.old u.now) }
+    requires climbed { Climbed 0 (length keys.now) keys.now }
+    requires total_value { total ≡ length (joint held 0 (length keys.now) list.old keys.now) }
     requires total_bound { total ≤ room list.old }
-    ensures { list.new ≡ filled (joint held lo hi list.old u.now) list.old }
+    ensures { list.new ≡ filled (joint held 0 (length keys.now) list.old keys.now) list.old }
 {
     let mut items = held;
-    let mut keys = hi;
     let mut n = total;
-    while keys > lo {
-        let p = gallop(list, items, u[keys - 1]);
-        let taken = take_last(list, p, u, lo, keys);
+    for at in (0..keys.len()).rev() {
+        let p = gallop(list, items, keys[at]);
+        let taken = take_last(list, p, keys, at);
         move_up(list, 3 * p, 3 * items, 3 * n);
         n -= items - p + 1;
         constraints::keys::put_key(list, n, taken.key);
         items = taken.items;
-        keys -= 1;
     }
 }
 
 // Counts first: the list is written where all of them fit, and nothing behind the last of them.
-pub fn merge(list: &mut [u16], held: usize, u: &[u32], lo: usize, hi: usize) -> Merged
+pub fn merge(list: &mut [u16], held: usize, keys: &[u32]) -> Option<usize>
     requires held { Held held list.old }
-    requires climbed { Climbed lo hi u.now }
-    ensures { left result list.new u.now ≡ settled (joint held lo hi list.old u.now) list.old u.now }
+    requires climbed { Climbed 0 (length keys.now) keys.now }
+    ensures { left result list.new keys.now ≡ settled (joint held 0 (length keys.now) list.old keys.now) list.old keys.now }
 {
-    let total = count(list, held, u, lo, hi);
+    let total = count(list, held, keys);
     if total > list.len() / 3 {
-        return Merged::Full;
+        return None;
     }
-    lay(list, held, u, lo, hi, total);
-    Merged::Holds(total)
+    lay(list, held, keys, total);
+    Some(total)
 }

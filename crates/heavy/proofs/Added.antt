@@ -15,7 +15,6 @@ use Rattle.meaning.specs.Part.{Safe}
 use Rattle.meaning.proofs.Values.{extends_refl, extends_trans}
 use Rattle.meaning.proofs.Safe.{every_safe, safe_trans}
 use Rattle.weights.specs.Worth.{zero64}
-use Rattle.field.specs.declared.Answer.TheVariants.{Done}
 use Rattle.field.specs.declared.Grade.TheVariants.{Exact}
 use Rattle.field.specs.Field.{Field, variables, entries, linear_of, StartFor}
 use Rattle.field.specs.Tests.{Sound}
@@ -31,6 +30,7 @@ use Rattle.preprocess.proofs.Idle.{idle_start}
 use Rattle.preprocess.proofs.Demands as preprocessing
 use Rattle.heavy.specs.Rounds.{probe_values, round, rounds, all_rounds}
 use Rattle.heavy.proofs.Values.{new_values, best_has_values, laid_long, laid_small, laid_extends, laid_among}
+use Rattle.std.specs.Prelude.{Ok}
 
 -- ---- how many are free
 
@@ -72,7 +72,7 @@ module _ {F : Field} {s : List ℕ} (S : Sound F s) where
   words : List ℕ
   words = replicate (16 * variables F + 8 * entries F + 16) 0
 
-  called : (preprocess_call F s floats words).answer ≡ Done (grade_of F)
+  called : (preprocess_call F s floats words).answer ≡ Ok (grade_of F)
   unfolding floats words
   called = (preprocessing.done_when F s floats words).1 (record {
     sound = S;
@@ -125,7 +125,7 @@ module _ {F : Field} {s : List ℕ} (S : Sound F s) where
   unfolding round
   round_stands g {unit} v =
       let t = preprocess F s in
-      safe_trans (rw worked at (preprocessing.some_best_agrees F s floats words (called ∙ ap Done g) v))
+      safe_trans (rw worked at (preprocessing.some_best_agrees F s floats words (called ∙ ap Ok g) v))
       (every_safe (whole_of unit F) preprocess_start.small (laid_extends (probe_values F t) t new_there)
       (λ x b. laid_among (probe_values F t) t b.completion.extends
       (λ j l. best_has_values S.shaped v.exact preprocess_start b j (omega (arith, preprocess_start.long)))))

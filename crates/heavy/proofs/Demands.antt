@@ -13,7 +13,6 @@ use Rattle.meaning.proofs.Values.{fixed, extends_refl, extends_trans}
 use Rattle.meaning.proofs.Free.{frees_le}
 use Rattle.weights.specs.Worth.{zero64}
 use Rattle.scratch.specs.Cleared.{cleared}
-use Rattle.field.specs.declared.Answer.TheVariants.{Done, Refused}
 use Rattle.field.specs.declared.Grade.{Grade}
 use Rattle.field.specs.declared.Grade.TheVariants.{Exact}
 use Rattle.field.specs.declared.Refusal.{Refusal}
@@ -30,6 +29,7 @@ use Rattle.preprocess.specs.Working.{preprocess}
 use Rattle.heavy.specs.Rounds.{round, rounds, all_rounds, heavy}
 use Rattle.heavy.specs.Call.{heavy_call}
 use Rattle.heavy.proofs.Added.{preprocess_start, preprocess_closes, preprocess_idle, rounds_extend, rounds_are, rounds_close, rounds_preprocess, rounds_stand}
+use Rattle.std.specs.Prelude.{Ok, Err}
 
 -- ---- the model
 
@@ -71,20 +71,20 @@ module _ (F : Field) (s : List ℕ) (f : List Float) (u : List ℕ) where
   one_result = values.one_result _ F s f u
 
   -- Theorem. The call is refused with r exactly if the tests before r's own pass, and its own fails.
-  pub refused_when : (r : Refusal) → ((heavy_call F s f u).answer ≡ Refused r) ↔ FirstToFail (ready_tests F s (length f) (length u)) r
+  pub refused_when : (r : Refusal) → ((heavy_call F s f u).answer ≡ Err r) ↔ FirstToFail (ready_tests F s (length f) (length u)) r
   refused_when = values.refused_when _ F s f u
 
   -- Theorem. A refusal changes nothing lent.
-  pub refused_leaves : (r : Refusal) → (heavy_call F s f u).answer ≡ Refused r → heavy_call F s f u ≡ left (Refused r) s f u
+  pub refused_leaves : (r : Refusal) → (heavy_call F s f u).answer ≡ Err r → heavy_call F s f u ≡ left (Err r) s f u
   refused_leaves = values.refused_leaves _ F s f u
 
   -- Theorem. It is done exactly if the field, the start values and both scratches are as the table asks, and then gives the grade.
-  pub done_when : ((heavy_call F s f u).answer ≡ Done (grade_of F)) ↔ Ready F s (length f) (length u)
+  pub done_when : ((heavy_call F s f u).answer ≡ Ok (grade_of F)) ↔ Ready F s (length f) (length u)
   done_when = values.done_when _ F s f u
 
-  module _ (g : Grade) (e : (heavy_call F s f u).answer ≡ Done g) where
+  module _ (g : Grade) (e : (heavy_call F s f u).answer ≡ Ok g) where
     -- Theorem. Then the values are in the start values, and both scratches are all zeros.
-    pub done_leaves : heavy_call F s f u ≡ left (Done (grade_of F)) (heavy F s) (cleared zero64 f) (cleared 0 u)
+    pub done_leaves : heavy_call F s f u ≡ left (Ok (grade_of F)) (heavy F s) (cleared zero64 f) (cleared 0 u)
     done_leaves = values.done_leaves _ F s f u g e
 
     pub values_are : (heavy_call F s f u).lent.values ≡ heavy F s
@@ -116,6 +116,6 @@ module _ (F : Field) (s : List ℕ) (f : List Float) (u : List ℕ) where
     rounds_end = rw values_are (heavy_all sound, heavy_closed sound)
 
 -- Theorem. DEMAND 3. On an exact field some best completion of the start values agrees with all values.
-pub some_best_agrees : (F : Field) (s : List ℕ) (f : List Float) (u : List ℕ) → (heavy_call F s f u).answer ≡ Done Exact
+pub some_best_agrees : (F : Field) (s : List ℕ) (f : List Float) (u : List ℕ) → (heavy_call F s f u).answer ≡ Ok Exact
     → {unit : ℕ} → Serves unit F → Safe (whole_of unit F) s (heavy_call F s f u).lent.values
 some_best_agrees F s f u e v = rw (values_are F s f u Exact e) (heavy_stands (sound F s f u Exact e) (values.graded _ F s f u Exact e) v)

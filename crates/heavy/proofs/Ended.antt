@@ -1,6 +1,6 @@
 -- What the rounds leave: nothing more that the closure, the small components or the full probe would add, and no value that none of them gave. Assumes nothing.
 use Prim.Native.Nat.{ℕ, zero, suc, ◌<◌}
-use mathlib.Core.Path.{◌≡◌, refl, sym, ap, ◌∙◌}
+use mathlib.Core.Path.{◌≡◌, sym, ap}
 use mathlib.Core.Logic.{◌≢◌, ◌⊎◌, inl, inr, ⊎_elim}
 use mathlib.Core.Bool.{true}
 use mathlib.Core.List.{List}
@@ -10,7 +10,6 @@ use lib.ListN.{length, get_or}
 use lib.Ieee.{Float}
 use Rattle.meaning.specs.Steps.{Extends}
 use Rattle.meaning.proofs.Values.{extends_refl, extends_trans}
-use Rattle.field.specs.declared.Answer.TheVariants.{Done}
 use Rattle.field.specs.declared.Grade.{Grade}
 use Rattle.field.specs.Field.{Field, variables}
 use Rattle.field.specs.Tests.{Sound}
@@ -25,6 +24,7 @@ use Rattle.heavy.specs.Call.{heavy_call}
 use Rattle.heavy.proofs.Values.{new_values, laid_at_lem, laid_value}
 use Rattle.heavy.proofs.Added.{frees_fewer, preprocess_start, preprocess_extends, preprocess_closes, round_probes, round_sound, rounds_sound, rounds_extend, rounds_are}
 use Rattle.heavy.proofs.Demands.{sound, values_are, rounds_end}
+use Rattle.std.specs.Prelude.{Ok}
 
 -- ---- where a round changes nothing
 
@@ -81,7 +81,7 @@ module _ {F : Field} where
 
 -- ---- the call
 
-module _ (F : Field) (s : List ℕ) (f : List Float) (u : List ℕ) (g : Grade) (e : (heavy_call F s f u).answer ≡ Done g) where
+module _ (F : Field) (s : List ℕ) (f : List Float) (u : List ℕ) (g : Grade) (e : (heavy_call F s f u).answer ≡ Ok g) where
   ended : Sound F (heavy_call F s f u).lent.values
   unfolding heavy
   ended = rw (values_are F s f u g e) (rounds_sound (variables F) (sound F s f u g e))

@@ -1,16 +1,14 @@
 -- Variables of no effect count as 0 while the rounds go on: whatever value they start with, the others end the same. Assumes nothing.
 use Prim.Native.Nat.{ℕ, zero, suc}
-use mathlib.Core.Path.{◌≡◌, refl, sym, ap, ◌∙◌}
-use mathlib.Core.Bool.{Bool, true, false, cond}
-use mathlib.Core.List.{List, [], ◌∷◌, ◌++◌}
+use mathlib.Core.Path.{◌≡◌, refl, sym, ◌∙◌}
+use mathlib.Core.Bool.{false}
+use mathlib.Core.List.{List}
 use native.Mathlib.Decide.{ℕ_discrete, dec_lt}
 use native.Mathlib.Omega.{arith}
-use lib.Dec.{eqb}
 use lib.ListN.{length, get_or, set, length-set, get_or-eq_default}
 use lib.Seq.{get_or-set_same, get_or-set_other, set_out}
 use lib.Ieee.{Float}
 use Rattle.meaning.specs.Free.{is_free, free_to}
-use Rattle.field.specs.declared.Answer.TheVariants.{Done}
 use Rattle.field.specs.declared.Grade.{Grade}
 use Rattle.field.specs.Field.{Field, variables, Shaped}
 use Rattle.field.specs.Tests.{Sound}
@@ -18,17 +16,16 @@ use Rattle.rows.specs.Stored.{up_to}
 use Rattle.rows.proofs.Upto.{length_up_to, get_d_up_to}
 use Rattle.run.specs.Run.{closure}
 use Rattle.no_effect.specs.Effect.{has_no_effect}
-use Rattle.probe.specs.Found.{found}
-use Rattle.finding.specs.Finds.{wins, gives_at, finding_of, finding, finding_by, values_after, values_of, values_found_by}
-use Rattle.preprocess.specs.Working.{preprocess}
+use Rattle.finding.specs.Finds.{finding_of, finding, finding_by, values_after, values_of, values_found_by}
 use Rattle.preprocess.specs.Elsewhere.{SameElsewhere}
 use Rattle.preprocess.proofs.Blind.{closure_blind}
 use Rattle.preprocess.proofs.Unseen.{preprocess_blind, frees_alike}
 use Rattle.probes.specs.Call.{all_values_by}
-use Rattle.heavy.specs.Rounds.{laid_at, laid_over, probe_values, round, all_rounds, heavy}
+use Rattle.heavy.specs.Rounds.{laid_over, probe_values, round, all_rounds, heavy}
 use Rattle.heavy.specs.Call.{heavy_call}
 use Rattle.heavy.proofs.Added.{round_sound, rounds_are}
 use Rattle.heavy.proofs.Demands.{sound, values_are}
+use Rattle.std.specs.Prelude.{Ok}
 
 -- ---- lists that are alike
 
@@ -108,7 +105,7 @@ module _ {F : Field} where
 
 -- Theorem. The other variables end the same, whether those of no effect are free, 0 or 1 at the start.
 pub idle_unseen : (F : Field) (s s' : List ℕ) (f f' : List Float) (u u' : List ℕ) (g g' : Grade)
-    → (heavy_call F s f u).answer ≡ Done g → (heavy_call F s' f' u').answer ≡ Done g'
+    → (heavy_call F s f u).answer ≡ Ok g → (heavy_call F s' f' u').answer ≡ Ok g'
     → SameElsewhere F s s' → SameElsewhere F (heavy_call F s f u).lent.values (heavy_call F s' f' u').lent.values
 idle_unseen F s s' f f' u u' g g' e e' E =
     rw (values_are F s f u g e, values_are F s' f' u' g' e') (heavy_blind (sound F s f u g e) (sound F s' f' u' g' e') E)

@@ -11,8 +11,8 @@ pub fn count_free(values: &[u8]) -> usize
     ensures { result ≡ frees values.now }
 {
     let mut count = 0;
-    for i in 0..values.len() {
-        count += step(values[i]);
+    for value in values {
+        count += step(*value);
     }
     count
 }
@@ -35,7 +35,7 @@ pub fn lay(values: &mut [u8], u: &[u32], at: usize)
     requires { at + length values.old ≤ length u.now }
     ensures { values.new ≡ laid_over (region at (length values.old) u.now) values.old }
 {
-    for j in 0..values.len() {
-        values[j] = laid(u[at + j], values[j]);
+    for (j, value) in values.iter_mut().enumerate() {
+        *value = laid(u[at + j], *value);
     }
 }

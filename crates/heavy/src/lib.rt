@@ -16,57 +16,51 @@ ghost use Rattle.heavy.specs.Call.{heavy_call};
 
 use crate::bytes::{count_free, lay};
 use crate::full::probe_values;
-use field::{Answer, Checked, Grade};
+use field::{Answer, FieldRef, Grade};
 
 // Preprocess, then the values of a full probe over what that leaves, if anything is left free; the places stand, and stay.
 fn round(
-    c: &[f64],
-    rows: &[u16],
-    cols: &[u16],
-    q: &[f64],
+    field: FieldRef,
     values: &mut [u8],
     probed: &mut [u8],
     f: &mut [f64],
     u: &mut [u32],
     grade: Grade,
 )
-    requires ready { Ready (lent c rows cols q) values.old (length f.old) (length u.old) }
-    requires probed_len { length probed.old ≡ variables (lent c rows cols q) }
-    requires grade_value { grade ≡ grade_of (lent c rows cols q) }
-    requires adjacent { Adjacent (variables (lent c rows cols q)) rows.now cols.now u.old }
-    ensures { Rounded (given c rows cols q) values.old values.new u.new }
+    requires ready { Ready (lent field) values.old (length f.old) (length u.old) }
+    requires probed_len { length probed.old ≡ variables (lent field) }
+    requires grade_value { grade ≡ grade_of (lent field) }
+    requires adjacent { Adjacent (variables (lent field)) (lent field).rows (lent field).cols u.old }
+    ensures { Rounded (given field) values.old values.new u.new }
 {
-    let n = c.len();
-    let at = n + 1 + 2 * rows.len() + n + n + n;
-    preprocess::work(c, rows, cols, q, values, f, u);
+    let n = field.c.len();
+    let at = n + 1 + 2 * field.rows.len() + n + n + n;
+    preprocess::work(field, values, f, u);
     if count_free(values) == 0 {
         return;
     }
-    probe_values(c, rows, cols, q, values, probed, f, u, grade);
+    probe_values(field, values, probed, f, u, grade);
     lay(values, u, at);
 }
 
 // Rounds until one adds none or leaves none free, and at most n.
 fn rounds(
-    c: &[f64],
-    rows: &[u16],
-    cols: &[u16],
-    q: &[f64],
+    field: FieldRef,
     values: &mut [u8],
     probed: &mut [u8],
     f: &mut [f64],
     u: &mut [u32],
     grade: Grade,
 )
-    requires ready { Ready (lent c rows cols q) values.old (length f.old) (length u.old) }
-    requires probed_len { length probed.old ≡ variables (lent c rows cols q) }
-    requires grade_value { grade ≡ grade_of (lent c rows cols q) }
-    requires adjacent { Adjacent (variables (lent c rows cols q)) rows.now cols.now u.old }
-    ensures { values.new ≡ heavy_of (given c rows cols q) values.old }
+    requires ready { Ready (lent field) values.old (length f.old) (length u.old) }
+    requires probed_len { length probed.old ≡ variables (lent field) }
+    requires grade_value { grade ≡ grade_of (lent field) }
+    requires adjacent { Adjacent (variables (lent field)) (lent field).rows (lent field).cols u.old }
+    ensures { values.new ≡ heavy_of (given field) values.old }
 {
     let mut free = count_free(values);
-    for k in 0..c.len() {
-        round(c, rows, cols, q, values, probed, f, u, grade);
+    for _ in 0..field.c.len() {
+        round(field, values, probed, f, u, grade);
         let still = count_free(values);
         if still == 0 {
             return;
@@ -79,54 +73,24 @@ fn rounds(
 }
 
 // The places once, then the rounds, with a byte for each variable in which the probes work.
-fn work(
-    c: &[f64],
-    rows: &[u16],
-    cols: &[u16],
-    q: &[f64],
-    values: &mut [u8],
-    f: &mut [f64],
-    u: &mut [u32],
-    grade: Grade,
-)
-    requires ready { Ready (lent c rows cols q) values.old (length f.old) (length u.old) }
-    requires grade_value { grade ≡ grade_of (lent c rows cols q) }
-    ensures { values.new ≡ heavy_of (given c rows cols q) values.old }
+fn work(field: FieldRef, values: &mut [u8], f: &mut [f64], u: &mut [u32], grade: Grade)
+    requires ready { Ready (lent field) values.old (length f.old) (length u.old) }
+    requires grade_value { grade ≡ grade_of (lent field) }
+    ensures { values.new ≡ heavy_of (given field) values.old }
 {
     let mut probed = [2; 4096];
-    places::build(u, rows, cols, c.len());
-    rounds(
-        c,
-        rows,
-        cols,
-        q,
-        values,
-        &mut probed[..c.len()],
-        f,
-        u,
-        grade,
-    );
+    places::build(u, field.rows, field.cols, field.c.len());
+    rounds(field, values, &mut probed[..field.c.len()], f, u, grade);
 }
 
 // The values that the rounds find go into the start values; a refusal changes nothing.
-pub fn heavy(
-    c: &[f64],
-    rows: &[u16],
-    cols: &[u16],
-    q: &[f64],
-    start: &mut [u8],
-    f: &mut [f64],
-    u: &mut [u32],
-) -> Answer
-    ensures { left result start.new f.new u.new ≡ heavy_call (given c rows cols q) start.old f.old u.old }
+pub fn heavy(field: FieldRef, start: &mut [u8], f: &mut [f64], u: &mut [u32]) -> Answer<Grade>
+    ensures { left result start.new f.new u.new ≡ heavy_call (given field) start.old f.old u.old }
 {
-    let checked = field::tests::ready(c, rows, cols, q, start, f.len(), u.len());
-    if let Checked::Failed(refusal) = checked {
-        return Answer::Refused(refusal);
-    }
-    let grade = field::grading::graded(c, rows, cols, q);
-    work(c, rows, cols, q, start, f, u, grade);
-    scratch::clear_floats(f);
-    scratch::clear_words(u);
-    Answer::Done(grade)
+    field::tests::ready(field, start, f.len(), u.len())?;
+    let grade = field::grading::graded(field);
+    work(field, start, f, u, grade);
+    f.fill(0.0);
+    u.fill(0);
+    Ok(grade)
 }

@@ -10,6 +10,7 @@ pub fn read_full(mut stdin: Stdin, buffer: &mut [u8]) -> usize
     ensures { result ≤ length buffer.new }
 {
     let mut done: usize = 0;
+    // A read says how many bytes came, so no range has a place for each read.
     while done < buffer.len() {
         match stdin.read(&mut buffer[done..]) {
             Ok(n) if n > 0 => done += n,

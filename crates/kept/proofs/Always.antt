@@ -7,8 +7,6 @@ use lib.ListN.{length}
 use lib.Ieee.{Float}
 use Rattle.meaning.specs.Steps.{Closure}
 use Rattle.meaning.specs.Gradient.{Forces}
-use Rattle.field.specs.declared.Answer.TheVariants.{Done}
-use Rattle.field.specs.declared.Counted.TheVariants.{Counts}
 use Rattle.field.specs.declared.Grade.{Grade}
 use Rattle.field.specs.Field.{Field, variables, Shaped, StartFor}
 use Rattle.field.specs.Grade.{ExactIn, Serves}
@@ -23,6 +21,8 @@ use Rattle.kept.proofs.Equation.{changed_made}
 use Rattle.kept.proofs.Operated.{left_has}
 use Rattle.kept.proofs.MakeDemands as make
 use Rattle.kept.proofs.CloseDemands as close
+use Rattle.std.specs.Prelude.{Ok}
+use Rattle.field.specs.Answers.{counted_answer}
 
 -- the record is that of its values, which are start values
 record Fresh (F : Field) (K : Kept) : Type 0 where
@@ -50,7 +50,7 @@ module _ {u : ℕ} {F : Field} (shaped : Shaped F) (exact : ExactIn u F) where
   fresh_all {K = K} h [] = h
   fresh_all {K = K} h (o ∷ os) = fresh_all {K = operated F K o} (fresh_operated h o) os
 
-module _ (F : Field) (s : List ℕ) (b : List Float) (n : ℕ) (f : List Float) (u : List ℕ) {g : Grade} (e : (make_call F s b n f u).answer ≡ Done g) (os : List Operation) where
+module _ (F : Field) (s : List ℕ) (b : List Float) (n : ℕ) (f : List Float) (u : List ℕ) {g : Grade} (e : (make_call F s b n f u).answer ≡ Ok g) (os : List Operation) where
   abbrev now : Kept
   now = record_after F s b n f u os
 
@@ -63,12 +63,12 @@ module _ (F : Field) (s : List ℕ) (b : List Float) (n : ℕ) (f : List Float) 
   kept_always = stays.is
 
   -- Theorem. After any sequence the record is what the making call would leave at the values that stand then.
-  pub as_made_anew : (b' : List Float) (n' : ℕ) (f' : List Float) (u' : List ℕ) {g' : Grade} → (make_call F (record_after F s b n f u os).values b' n' f' u').answer ≡ Done g'
+  pub as_made_anew : (b' : List Float) (n' : ℕ) (f' : List Float) (u' : List ℕ) {g' : Grade} → (make_call F (record_after F s b n f u os).values b' n' f' u').answer ≡ Ok g'
       → record_left F (record_after F s b n f u os).values b' n' f' u' ≡ record_after F s b n f u os
   as_made_anew b' n' f' u' e' = make.record_is F now.values b' n' f' u' e' ∙ sym kept_always
 
   -- and the closing call gives the closure at those values.
-  module _ (l : List ℕ) (f' : List Float) (u' : List ℕ) {g' : Grade} {k : ℕ} (d : (close_call F (record_after F s b n f u os).values (record_after F s b n f u os).bounds l f' u').answer ≡ Counts g' k) where
+  module _ (l : List ℕ) (f' : List Float) (u' : List ℕ) {g' : Grade} {k : ℕ} (d : (close_call F (record_after F s b n f u os).values (record_after F s b n f u os).bounds l f' u').answer ≡ counted_answer g' k) where
     -- Theorem. After any operations the closing call leaves the closure of the values that stand then, float by float.
     pub always_closes : (close_call F (record_after F s b n f u os).values (record_after F s b n f u os).bounds l f' u').lent.values ≡ closure F (record_after F s b n f u os).values
     always_closes = close.list_closure F now.values now.bounds l f' u' d (make.unit_serves F s b n f u e) (ap (λ (K : Kept). K.bounds) kept_always)

@@ -13,7 +13,6 @@ use Rattle.scratch.proofs.Means.{eq_is}
 use Rattle.meaning.specs.Steps.{Extends, Agrees, Closure}
 use Rattle.meaning.specs.Field.{Best}
 use Rattle.meaning.specs.Gradient.{Forces, flats}
-use Rattle.field.specs.declared.Counted.TheVariants.{Counts, Refuses}
 use Rattle.field.specs.declared.Grade.{Grade}
 use Rattle.field.specs.declared.Refusal.{Refusal}
 use Rattle.field.specs.declared.Refusal.TheVariants.{Room}
@@ -23,7 +22,7 @@ use Rattle.field.specs.Grade.{grade_of, Serves}
 use Rattle.field.specs.Reading.{whole_of}
 use Rattle.field.proofs.Table.{group_is, last_is}
 use Rattle.calls.specs.Call.{table, no_stage}
-use Rattle.calls.proofs.Answers.{same_refuses, counts_apart}
+use Rattle.calls.proofs.Answers.{same_refused, done_apart, same_counted}
 use Rattle.calls.proofs.Call as any
 use Rattle.calls.proofs.Usual as usual
 use Rattle.calls.proofs.Usual.{this_stage, other_stage}
@@ -34,6 +33,8 @@ use Rattle.kept.specs.Kept.{made}
 use Rattle.kept.specs.Calls.{lent_tests, Lendable, run_from, Closed, closed, close_call, close_table}
 use Rattle.kept.proofs.Tests.{lent_passes, never_room}
 use Rattle.kept.proofs.FromRows.{made_closes, made_closure}
+use Rattle.field.specs.Answers.{counted_answer}
+use Rattle.std.specs.Prelude.{Err}
 
 module _ (F : Field) (s : List ℕ) (b : List Float) (l : List ℕ) (f : List Float) (u : List ℕ) where
   -- Theorem. Any two results that the promise permits are equal.
@@ -41,40 +42,40 @@ module _ (F : Field) (s : List ℕ) (b : List Float) (l : List ℕ) (f : List Fl
   one_result = any.one_result (close_call F s b l f u)
 
   -- Theorem. The call is refused with r exactly if the tests before r's own pass, and its own fails: 1 to 6, then 8, then 9.
-  pub refused_when : (r : Refusal) → ((close_call F s b l f u).answer ≡ Refuses r) ↔ FirstToFail (close_table F s (length b) l (length f) (length u)) r
+  pub refused_when : (r : Refusal) → ((close_call F s b l f u).answer ≡ Err r) ↔ FirstToFail (close_table F s (length b) l (length f) (length u)) r
   unfolding close_call table
-  refused_when = usual.refused_when Refuses _ _ _ _ same_refuses counts_apart refl
+  refused_when = usual.refused_when Err _ _ _ _ same_refused done_apart refl
 
   -- Theorem. A refusal from 1 to 8 changes nothing lent.
-  pub refused_leaves : (r : Refusal) → r ≢ Room → (close_call F s b l f u).answer ≡ Refuses r → close_call F s b l f u ≡ closed (Refuses r) l f u
+  pub refused_leaves : (r : Refusal) → r ≢ Room → (close_call F s b l f u).answer ≡ Err r → close_call F s b l f u ≡ closed (Err r) l f u
   unfolding close_call
-  refused_leaves r x e = usual.refused_leaves Refuses _ _ _ _ same_refuses counts_apart r (other_stage x no_stage) e
+  refused_leaves r x e = usual.refused_leaves Err _ _ _ _ same_refused done_apart r (other_stage x no_stage) e
 
   -- Theorem. 9 is given exactly if those tests pass and the list is not n long.
-  pub room_when : ((close_call F s b l f u).answer ≡ Refuses Room) ↔ (Lendable F s (length b) (length f) (length u) × (length l ≢ variables F))
+  pub room_when : ((close_call F s b l f u).answer ≡ Err Room) ↔ (Lendable F s (length b) (length f) (length u) × (length l ≢ variables F))
   unfolding close_call
   room_when =
-      let w = usual.last_when Refuses _ _ Room _ _ same_refuses counts_apart (never_room F s (length b) (length f) (length u)) (eqb (length l) (variables F)) in
+      let w = usual.last_when Err _ _ Room _ _ same_refused done_apart (never_room F s (length b) (length f) (length u)) (eqb (length l) (variables F)) in
       let p = lent_passes F s (length b) (length f) (length u) in
       ((λ e. (p.0 (w.0 e).0, eqb-false _ _ (w.0 e).1)), λ h. w.1 (p.1 h.0, ne_eqb _ _ h.1))
 
   -- Theorem. On 9 the list and both scratches are all zeros.
-  pub room_leaves : (close_call F s b l f u).answer ≡ Refuses Room → close_call F s b l f u ≡ closed (Refuses Room) (cleared 0 l) (cleared zero64 f) (cleared 0 u)
+  pub room_leaves : (close_call F s b l f u).answer ≡ Err Room → close_call F s b l f u ≡ closed (Err Room) (cleared 0 l) (cleared zero64 f) (cleared 0 u)
   unfolding close_call
-  room_leaves e = usual.later_leaves Refuses _ _ _ _ same_refuses counts_apart Room _ (never_room F s (length b) (length f) (length u)) (this_stage no_stage) e
+  room_leaves e = usual.later_leaves Err _ _ _ _ same_refused done_apart Room _ (never_room F s (length b) (length f) (length u)) (this_stage no_stage) e
 
   -- Theorem. It is done exactly if the field, the record, both scratches and the list are as the table asks, and then gives the grade and the count.
-  pub done_when : ((close_call F s b l f u).answer ≡ Counts (grade_of F) (flat_rows (run_from F s b))) ↔ (Lendable F s (length b) (length f) (length u) × (length l ≡ variables F))
+  pub done_when : ((close_call F s b l f u).answer ≡ counted_answer (grade_of F) (flat_rows (run_from F s b))) ↔ (Lendable F s (length b) (length f) (length u) × (length l ≡ variables F))
   unfolding close_call table
   done_when =
-      usual.done_when Refuses _ _ _ _ same_refuses counts_apart
+      usual.done_when Err _ _ _ _ same_refused done_apart
       (group_is (lent_tests F s (length b) (length f) (length u)) _ (lent_passes F s (length b) (length f) (length u)) (last_is Room _ (eq_is (length l) (variables F))))
 
-  module _ {g : Grade} {k : ℕ} (e : (close_call F s b l f u).answer ≡ Counts g k) where
+  module _ {g : Grade} {k : ℕ} (e : (close_call F s b l f u).answer ≡ counted_answer g k) where
     -- Theorem. Then what the run from the record's rows reaches is in the list, and both scratches are all zeros.
-    pub done_leaves : close_call F s b l f u ≡ closed (Counts (grade_of F) (flat_rows (run_from F s b))) (run_from F s b).values (cleared zero64 f) (cleared 0 u)
+    pub done_leaves : close_call F s b l f u ≡ closed (counted_answer (grade_of F) (flat_rows (run_from F s b))) (run_from F s b).values (cleared zero64 f) (cleared 0 u)
     unfolding close_call
-    done_leaves = usual.done_leaves Refuses _ _ _ _ same_refuses counts_apart (λ r z. counts_apart r (sym e ∙ z))
+    done_leaves = usual.done_leaves Err _ _ _ _ same_refused done_apart (λ r z. done_apart r (sym e ∙ z))
 
     -- Theorem. It is done only where the field, the values, the record and both scratches are as the table asks.
     pub lendable : Lendable F s (length b) (length f) (length u)
@@ -84,7 +85,7 @@ module _ (F : Field) (s : List ℕ) (b : List Float) (l : List ℕ) (f : List Fl
     list_is = ap (λ (x : Closed). x.lent.values) done_leaves
 
     count_is : k ≡ flat_rows (run_from F s b)
-    count_is = let a : Counts g k ≡ Counts (grade_of F) (flat_rows (run_from F s b)) = sym e ∙ ap (λ (x : Closed). x.answer) done_leaves in let z : k ≡ flat_rows (run_from F s b) = cc in z
+    count_is = (same_counted (sym e ∙ ap (λ (x : Closed). x.answer) done_leaves)).1
 
     -- ---- on an exact field, in every unit that serves, where the bounds are those of the values worked out afresh
 
@@ -109,7 +110,7 @@ module _ (F : Field) (s : List ℕ) (b : List Float) (l : List ℕ) (f : List Fl
 
 -- Theorem. Further values that contradict none of the list keep each of it.
 pub further_keep : {unit : ℕ} (F : Field) (s s' : List ℕ) (b b' : List Float) (l l' : List ℕ) (f f' : List Float) (u u' : List ℕ) {g g' : Grade} {k k' : ℕ} → Serves unit F
-    → (close_call F s b l f u).answer ≡ Counts g k → b ≡ (made F s).bounds → (close_call F s' b' l' f' u').answer ≡ Counts g' k' → b' ≡ (made F s').bounds
+    → (close_call F s b l f u).answer ≡ counted_answer g k → b ≡ (made F s).bounds → (close_call F s' b' l' f' u').answer ≡ counted_answer g' k' → b' ≡ (made F s').bounds
     → Extends s s' → Agrees s' (close_call F s b l f u).lent.values → Extends (close_call F s b l f u).lent.values (close_call F s' b' l' f' u').lent.values
 further_keep F s s' b b' l l' f f' u u' serving e m e' m' =
     let x = (lendable F s b l f u e).ready.sound in

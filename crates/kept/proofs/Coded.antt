@@ -4,14 +4,11 @@ use mathlib.Core.Path.{◌≡◌, refl, sym, ap, ◌∙◌}
 use mathlib.Core.Logic.{◌≢◌}
 use mathlib.Core.Bool.{Bool, true, false, cond}
 use mathlib.Core.List.{List}
-use native.Mathlib.Omega.{arith}
 use borrow.Author.Tests.{eq-eqb, ne_eqb}
-use lib.ListN.{length, get_or, set, take, length-set}
-use lib.Seq.{take-suc, take_all, length-take-le}
-use native.Mathlib.Numerals.{add-one}
-use lib.Ieee.{Float, nan}
-use Rattle.scratch.specs.Over.{over}
-use Rattle.scratch.proofs.Over.{over_push}
+use denote.Enum.Bare.{sameb}
+use Rattle.field.specs.contracts.Grade.{the_type}
+use lib.ListN.{length, get_or, set}
+use lib.Ieee.{Float}
 use Rattle.field.specs.declared.Grade.{Grade}
 use Rattle.field.specs.declared.Grade.TheVariants.{Exact, Inexact}
 use Rattle.field.specs.Field.{Field, variables, entries}
@@ -29,22 +26,13 @@ use Rattle.kept.proofs.Elsewhere.{start_set}
 
 -- ---- the grade tells whether a field is exact
 
-module _ (F : Field) {g : Grade} (e : g ≡ grade_of F) where
-  pub told_exact : g ≡ Exact → true ≡ is_exact_of F
-  unfolding grade_of
-  told_exact p = by (is_exact_of F) (sym p ∙ e)
-    where
-      by : (b : Bool) → Exact ≡ cond b Exact Inexact → true ≡ b
-      by true h = refl
-      by false h = let z : ◌≡◌ {A = ℕ} 0 1 = cc in absurd (omega arith)
-
-  pub told_inexact : g ≡ Inexact → false ≡ is_exact_of F
-  unfolding grade_of
-  told_inexact p = by (is_exact_of F) (sym p ∙ e)
-    where
-      by : (b : Bool) → Inexact ≡ cond b Exact Inexact → false ≡ b
-      by false h = refl
-      by true h = let z : ◌≡◌ {A = ℕ} 0 1 = cc in absurd (omega arith)
+pub told_exact : (F : Field) {g : Grade} {b : Bool} → g ≡ grade_of F → b ≡ sameb the_type g Exact → b ≡ is_exact_of F
+unfolding grade_of
+told_exact F e d = d ∙ ap (λ (x : Grade). sameb the_type x Exact) e ∙ by (is_exact_of F)
+  where
+    by : (b : Bool) → sameb the_type (cond b Exact Inexact) Exact ≡ b
+    by true = refl
+    by false = refl
 
 -- ---- an entry of i: its other end is t
 
@@ -58,30 +46,6 @@ module _ (F : Field) (s : List ℕ) (i old new : ℕ) (b : List Float) (k : ℕ)
   unfolding turn_at
   turn_one f c a x y z p =
       p ∙ rw (z, y, x, a, c, e, m, eq-eqb (get_or s (other_end F.rows F.cols i k) 0) 2 (ap (λ (j : ℕ). get_or s j 0) (sym e) ∙ f)) refl
-
--- ---- bounds copied to the front of the scratch: i of them are there
-
-pub record Copied (bounds f₀ f : List Float) (i : ℕ) : Type 0 where
-  pub within : i ≤ length bounds
-  pub long : length f ≡ length f₀
-  pub front : f ≡ over (take i bounds) f₀
-
-pub copy_start : (bounds f : List Float) → Copied bounds f f 0
-unfolding over
-copy_start bounds f = record { within = omega arith; long = refl; front = refl }
-
-module _ {bounds f₀ f : List Float} {i : ℕ} (C : Copied bounds f₀ f i) where
-  pub copy_turn : {x : Float} → length bounds ≤ length f₀ → i < length bounds → x ≡ get_or bounds i nan → Copied bounds f₀ (set f i x) (i + 1)
-  copy_turn {x} room l e = record {
-    within = omega arith;
-    long = length-set f i x ∙ C.long;
-    front = ap (λ (z : List Float). set z i x) C.front
-        ∙ over_push (take i bounds) f₀ i x (length-take-le i bounds (omega (arith, C.within))) (omega arith)
-        ∙ ap (λ (z : List Float). over z f₀) (rw (e, add-one) (sym (take-suc bounds i nan l)));
-  }
-
-  pub copy_done : length bounds ≤ i → f ≡ over bounds f₀
-  copy_done l = C.front ∙ ap (λ (z : List Float). over z f₀) (take_all i bounds l)
 
 -- ---- the value of i changes
 

@@ -60,8 +60,8 @@ module _ {rows cols : List ℕ} {i from : ℕ} where
     pub next_found : not (meets rows cols i k) ≡ false → Next rows cols i from k
     next_found e = record { skipped = S; found = λ l. not-false _ e }
 
-    pub next_none : length rows ≤ k → Next rows cols i from k
-    next_none l = record { skipped = S; found = λ b. absurd (omega arith) }
+    pub next_none : length rows ≤ k → Next rows cols i from (length rows)
+    next_none l = let end : k ≡ length rows = omega (arith, S.within) in record { skipped = rw end at S; found = λ b. absurd (omega arith) }
 
 -- ---- what is done entry by entry, and changes nothing at one that is not of i
 

@@ -10,7 +10,6 @@ use lib.Ieee.{Float}
 use Rattle.weights.specs.Worth.{zero64}
 use Rattle.scratch.specs.Cleared.{cleared}
 use Rattle.meaning.specs.Gradient.{low, high}
-use Rattle.field.specs.declared.Answer.TheVariants.{Done, Refused}
 use Rattle.field.specs.declared.Grade.{Grade}
 use Rattle.field.specs.declared.Grade.TheVariants.{Exact, Inexact as NotExact}
 use Rattle.field.specs.declared.Refusal.{Refusal}
@@ -37,6 +36,7 @@ use Rattle.kept.proofs.Tests.{lent_passes, never_inexact}
 use Rattle.kept.proofs.Bounds.{made_row}
 use Rattle.kept.proofs.Equation.{stored_fixed}
 use Rattle.kept.proofs.Made.{row_is_worth, strict_is}
+use Rattle.std.specs.Prelude.{Ok, Err}
 
 -- what the test of the grade means
 exact_is : (F : Field) → (is_exact_of F ≡ true) ↔ (grade_of F ≡ Exact)
@@ -61,41 +61,41 @@ module _ (F : Field) (s : List ℕ) (b : List Float) (n : ℕ) (f : List Float) 
   one_result = any.one_result (make_call F s b n f u)
 
   -- Theorem. The call is refused with r exactly if the tests before r's own pass, and its own fails: 1 to 6, then 8, then 12.
-  pub refused_when : (r : Refusal) → ((make_call F s b n f u).answer ≡ Refused r) ↔ FirstToFail (make_table F s (length b) (length f) (length u)) r
+  pub refused_when : (r : Refusal) → ((make_call F s b n f u).answer ≡ Err r) ↔ FirstToFail (make_table F s (length b) (length f) (length u)) r
   unfolding make_call table
-  refused_when = usual.refused_when Refused _ _ _ _ same_refused done_apart refl
+  refused_when = usual.refused_when Err _ _ _ _ same_refused done_apart refl
 
   -- Theorem. A refusal from 1 to 8 changes nothing lent.
-  pub refused_leaves : (r : Refusal) → r ≢ Inexact → (make_call F s b n f u).answer ≡ Refused r → make_call F s b n f u ≡ left (Refused r) b n f u
+  pub refused_leaves : (r : Refusal) → r ≢ Inexact → (make_call F s b n f u).answer ≡ Err r → make_call F s b n f u ≡ left (Err r) b n f u
   unfolding make_call
-  refused_leaves r x e = usual.refused_leaves Refused _ _ _ _ same_refused done_apart r (other_stage x no_stage) e
+  refused_leaves r x e = usual.refused_leaves Err _ _ _ _ same_refused done_apart r (other_stage x no_stage) e
 
   -- Theorem. 12 is given exactly if those tests pass and the field is inexact.
-  pub inexact_when : ((make_call F s b n f u).answer ≡ Refused Inexact) ↔ (Lendable F s (length b) (length f) (length u) × (grade_of F ≡ NotExact))
+  pub inexact_when : ((make_call F s b n f u).answer ≡ Err Inexact) ↔ (Lendable F s (length b) (length f) (length u) × (grade_of F ≡ NotExact))
   unfolding make_call
   inexact_when =
-      let w = usual.last_when Refused _ _ Inexact _ _ same_refused done_apart (never_inexact F s (length b) (length f) (length u)) (is_exact_of F) in
+      let w = usual.last_when Err _ _ Inexact _ _ same_refused done_apart (never_inexact F s (length b) (length f) (length u)) (is_exact_of F) in
       let p = lent_passes F s (length b) (length f) (length u) in
       let x = inexact_is F in
       ((λ e. (p.0 (w.0 e).0, x.0 (w.0 e).1)), λ h. w.1 (p.1 h.0, x.1 h.1))
 
   -- Theorem. 12 leaves the record as it was, and both scratches all zeros.
-  pub inexact_leaves : (make_call F s b n f u).answer ≡ Refused Inexact → make_call F s b n f u ≡ left (Refused Inexact) b n (cleared zero64 f) (cleared 0 u)
+  pub inexact_leaves : (make_call F s b n f u).answer ≡ Err Inexact → make_call F s b n f u ≡ left (Err Inexact) b n (cleared zero64 f) (cleared 0 u)
   unfolding make_call
-  inexact_leaves e = usual.later_leaves Refused _ _ _ _ same_refused done_apart Inexact _ (never_inexact F s (length b) (length f) (length u)) (this_stage no_stage) e
+  inexact_leaves e = usual.later_leaves Err _ _ _ _ same_refused done_apart Inexact _ (never_inexact F s (length b) (length f) (length u)) (this_stage no_stage) e
 
   -- Theorem. It is done exactly if the field, the values, the bounds and both scratches are as the table asks, and the field is exact.
-  pub done_when : ((make_call F s b n f u).answer ≡ Done (grade_of F)) ↔ (Lendable F s (length b) (length f) (length u) × (grade_of F ≡ Exact))
+  pub done_when : ((make_call F s b n f u).answer ≡ Ok (grade_of F)) ↔ (Lendable F s (length b) (length f) (length u) × (grade_of F ≡ Exact))
   unfolding make_call table
   done_when =
-      usual.done_when Refused _ _ _ _ same_refused done_apart
+      usual.done_when Err _ _ _ _ same_refused done_apart
       (group_is (lent_tests F s (length b) (length f) (length u)) _ (lent_passes F s (length b) (length f) (length u)) (last_is Inexact _ (exact_is F)))
 
-  module _ {g : Grade} (e : (make_call F s b n f u).answer ≡ Done g) where
+  module _ {g : Grade} (e : (make_call F s b n f u).answer ≡ Ok g) where
     -- Theorem. Then the record of the values is in its place, and both scratches are all zeros.
-    pub done_leaves : make_call F s b n f u ≡ left (Done (grade_of F)) (made F s).bounds (made F s).strict (cleared zero64 f) (cleared 0 u)
+    pub done_leaves : make_call F s b n f u ≡ left (Ok (grade_of F)) (made F s).bounds (made F s).strict (cleared zero64 f) (cleared 0 u)
     unfolding make_call
-    done_leaves = usual.done_leaves Refused _ _ _ _ same_refused done_apart (λ r z. done_apart r (sym e ∙ z))
+    done_leaves = usual.done_leaves Err _ _ _ _ same_refused done_apart (λ r z. done_apart r (sym e ∙ z))
 
     -- Theorem. When it is done, the record that it leaves is the one worked out afresh from the values.
     pub record_is : record_left F s b n f u ≡ made F s

@@ -6,8 +6,6 @@ use mathlib.Core.List.{List}
 use native.Mathlib.Omega.{arith}
 use lib.ListN.{length, get_or, set}
 use lib.Seq.{get_or-set_other}
-use Rattle.field.specs.declared.Checked.{Checked}
-use Rattle.field.specs.declared.Checked.TheVariants.{Passed, Failed}
 use Rattle.field.specs.declared.Refusal.{Refusal}
 use Rattle.field.specs.Field.{Field, variables}
 use Rattle.field.specs.Table.{FirstToFail}
@@ -21,29 +19,31 @@ use Rattle.kept.proofs.Tests.{release_passes}
 use Rattle.kept.proofs.Elsewhere as elsewhere
 use Rattle.kept.proofs.Equation.{changed_made}
 use Rattle.kept.proofs.Operated as operated
+use Rattle.field.specs.Answers.{Answer, passed}
+use Rattle.std.specs.Prelude.{Err}
 
 module _ (F : Field) (K : Kept) (i : ℕ) where
   -- Theorem. Any two results that the promise permits are equal.
-  pub one_result : (x y : any.Left Checked Kept) → x ≡ release_call F K i → y ≡ release_call F K i → x ≡ y
+  pub one_result : (x y : any.Left (Answer Unit) Kept) → x ≡ release_call F K i → y ≡ release_call F K i → x ≡ y
   one_result = one (release_call F K i)
 
   -- Theorem. The operation is refused with r exactly if the tests before r's own pass, and its own fails: 1 to 6, then 7.
-  pub refused_when : (r : Refusal) → ((release_call F K i).answer ≡ Failed r) ↔ FirstToFail (release_tests F K.values (length K.bounds) i) r
+  pub refused_when : (r : Refusal) → ((release_call F K i).answer ≡ Err r) ↔ FirstToFail (release_tests F K.values (length K.bounds) i) r
   unfolding release_call
   refused_when = operated.refused_when K _ _
 
   -- Theorem. A refused one changes nothing.
-  pub refused_leaves : (r : Refusal) → (release_call F K i).answer ≡ Failed r → release_call F K i ≡ any.left (Failed r) K
+  pub refused_leaves : (r : Refusal) → (release_call F K i).answer ≡ Err r → release_call F K i ≡ any.left (Err r) K
   unfolding release_call
   refused_leaves = operated.refused_leaves K _ _
 
   -- Theorem. It is done exactly if the field, the values, the bounds and the variable are as the table asks.
-  pub done_when : ((release_call F K i).answer ≡ Passed) ↔ Releasable F K.values (length K.bounds) i
+  pub done_when : ((release_call F K i).answer ≡ passed) ↔ Releasable F K.values (length K.bounds) i
   unfolding release_call
   done_when = operated.done_when K _ _ (release_passes F K.values (length K.bounds) i)
 
   -- Theorem. When it is done, the record is changed by the released variable.
-  pub done_leaves : (release_call F K i).answer ≡ Passed → release_call F K i ≡ any.left Passed (released F i K)
+  pub done_leaves : (release_call F K i).answer ≡ passed → release_call F K i ≡ any.left passed (released F i K)
   unfolding release_call
   done_leaves = operated.done_leaves K _ _
 
@@ -69,15 +69,15 @@ module _ (F : Field) (K : Kept) (i : ℕ) where
       elsewhere.apart_stays a.recorded.sound.shaped K i 2 a.below a.recorded.long t l n d)
 
   -- Theorem. The number of strict rows is counted in the bounds that it leaves.
-  pub counts_anew : (release_call F K i).answer ≡ Passed
+  pub counts_anew : (release_call F K i).answer ≡ passed
       → (release_call F K i).lent.strict ≡ strict_to (release_call F K i).lent.values (release_call F K i).lent.bounds (length (release_call F K i).lent.values)
   unfolding changed
   counts_anew e = rw (done_leaves e) refl
 
 -- Theorem. THE EQUATION. On an exact field, in every unit that serves, the record made and then released is the record made with the variable free.
-pub afresh : {unit : ℕ} (F : Field) (s : List ℕ) (i : ℕ) → Serves unit F → (release_call F (made F s) i).answer ≡ Passed → (release_call F (made F s) i).lent ≡ made F (set s i 2)
+pub afresh : {unit : ℕ} (F : Field) (s : List ℕ) (i : ℕ) → Serves unit F → (release_call F (made F s) i).answer ≡ passed → (release_call F (made F s) i).lent ≡ made F (set s i 2)
 unfolding made
 afresh F s i serving e =
     let a = (done_when F (made F s) i).0 e in
-    ap (λ (x : any.Left Checked Kept). x.lent) (done_leaves F (made F s) i e)
+    ap (λ (x : any.Left (Answer Unit) Kept). x.lent) (done_leaves F (made F s) i e)
     ∙ changed_made a.recorded.sound.shaped serving.exact a.recorded.sound.start i 2 a.below (omega (arith))

@@ -7,7 +7,6 @@ use mathlib.Core.List.{List}
 use native.Mathlib.Omega.{arith}
 use lib.ListN.{get_or}
 use Rattle.scratch.proofs.Means.{lt_is, le_is, eq_is, ne_is, both_is}
-use Rattle.field.specs.declared.Checked.TheVariants.{Passed}
 use Rattle.field.specs.declared.Refusal.TheVariants.{Start, Argument, Scratch, Inexact, Room}
 use Rattle.field.specs.Field.{Field, variables, entries}
 use Rattle.field.specs.Table.{tested}
@@ -16,19 +15,21 @@ use Rattle.field.proofs.Table.{pass_is, last_is, group_is}
 use Rattle.field.proofs.Means.{standard_passes, floats_mean, words_mean}
 use Rattle.field.proofs.Faults.{fault_other}
 use Rattle.calls.specs.Call.{without}
+use Rattle.probe.specs.Call.{may_probe}
 use Rattle.kept.specs.Calls.{bounds_fit, record_tests, lent_tests, may_pin, pin_tests, may_release, release_tests, Recorded, Lendable, Pinnable, Releasable}
+use Rattle.field.specs.Answers.{passed}
 
 pub bounds_mean : (n bounds : ℕ) → (bounds_fit n bounds ≡ true) ↔ (bounds ≡ n + n)
 unfolding bounds_fit
 bounds_mean n bounds = eq_is bounds (n + n)
 
-pub record_passes : (F : Field) (s : List ℕ) (bounds : ℕ) → (tested (record_tests F s bounds) ≡ Passed) ↔ Recorded F s bounds
+pub record_passes : (F : Field) (s : List ℕ) (bounds : ℕ) → (tested (record_tests F s bounds) ≡ passed) ↔ Recorded F s bounds
 unfolding record_tests
 record_passes F s bounds =
     let t = group_is (standard_tests F s) _ (standard_passes F s) (last_is Start _ (bounds_mean (variables F) bounds)) in
     ((λ e. let p = t.0 e in record { sound = p.0; long = p.1 }), λ h. t.1 (h.sound, h.long))
 
-pub lent_passes : (F : Field) (s : List ℕ) (bounds floats words : ℕ) → (tested (lent_tests F s bounds floats words) ≡ Passed) ↔ Lendable F s bounds floats words
+pub lent_passes : (F : Field) (s : List ℕ) (bounds floats words : ℕ) → (tested (lent_tests F s bounds floats words) ≡ passed) ↔ Lendable F s bounds floats words
 unfolding lent_tests
 lent_passes F s bounds floats words =
     let t = group_is (record_tests F s bounds) _ (record_passes F s bounds)
@@ -42,7 +43,7 @@ pub pin_means : (n : ℕ) (s : List ℕ) (i v : ℕ) → (may_pin n s i v ≡ tr
 unfolding may_pin
 pin_means n s i v = both_is _ _ (lt_is i n) (both_is _ _ (eq_is _ 2) (le_is v 1))
 
-pub pin_passes : (F : Field) (s : List ℕ) (bounds i v : ℕ) → (tested (pin_tests F s bounds i v) ≡ Passed) ↔ Pinnable F s bounds i v
+pub pin_passes : (F : Field) (s : List ℕ) (bounds i v : ℕ) → (tested (pin_tests F s bounds i v) ≡ passed) ↔ Pinnable F s bounds i v
 unfolding pin_tests
 pin_passes F s bounds i v =
     let t = group_is (record_tests F s bounds) _ (record_passes F s bounds) (last_is Argument _ (pin_means (variables F) s i v)) in
@@ -53,7 +54,7 @@ pub release_means : (n : ℕ) (s : List ℕ) (i : ℕ) → (may_release n s i �
 unfolding may_release
 release_means n s i = both_is _ _ (lt_is i n) (ne_is _ 2)
 
-pub release_passes : (F : Field) (s : List ℕ) (bounds i : ℕ) → (tested (release_tests F s bounds i) ≡ Passed) ↔ Releasable F s bounds i
+pub release_passes : (F : Field) (s : List ℕ) (bounds i : ℕ) → (tested (release_tests F s bounds i) ≡ passed) ↔ Releasable F s bounds i
 unfolding release_tests
 release_passes F s bounds i =
     let t = group_is (record_tests F s bounds) _ (record_passes F s bounds) (last_is Argument _ (release_means (variables F) s i)) in
@@ -68,3 +69,8 @@ module _ (F : Field) (s : List ℕ) (bounds floats words : ℕ) where
   pub never_inexact : without Inexact (lent_tests F s bounds floats words) ≡ true
   unfolding without lent_tests record_tests standard_tests shape_tests
   never_inexact = rw (fault_other (variables F) F.rows F.cols 12 (omega arith)) refl
+
+-- a variable may be pinned where it may be probed
+pub probed_pinned : (n : ℕ) (s : List ℕ) (i v : ℕ) → may_probe n s i v ≡ may_pin n s i v
+unfolding may_probe may_pin
+probed_pinned n s i v = refl

@@ -1,14 +1,9 @@
 -- What the four calls on a kept record answer and leave, each as one function of what it is given, for every input (rules 12.3 to 12.8). Assumes nothing.
-use Rattle.std.specs.Prelude.{ℕ, ◌+◌, ◌<◌, ◌≤◌, ◌≡◌, ◌≢◌, Bool, not, ◌&&◌, List, [], ◌∷◌, ◌++◌, eqb, leb, ltb, length, get_or, Float}
+use Rattle.std.specs.Prelude.{ℕ, ◌+◌, ◌<◌, ◌≤◌, ◌≡◌, ◌≢◌, Bool, not, ◌&&◌, List, [], ◌∷◌, ◌++◌, eqb, leb, ltb, length, get_or, Float, Ok, Err}
 use Rattle.weights.specs.Worth.{zero64}
 use Rattle.scratch.specs.Cleared.{cleared}
 use Rattle.meaning.specs.Free.{is_free}
-use Rattle.field.specs.declared.Answer.{Answer}
-use Rattle.field.specs.declared.Answer.TheVariants.{Done, Refused}
-use Rattle.field.specs.declared.Checked.{Checked}
-use Rattle.field.specs.declared.Checked.TheVariants.{Passed, Failed}
 use Rattle.field.specs.declared.Counted.{Counted}
-use Rattle.field.specs.declared.Counted.TheVariants.{Counts, Refuses}
 use Rattle.field.specs.declared.Refusal.TheVariants.{Start, Argument, Scratch, Inexact, Room}
 use Rattle.field.specs.Field.{Field, variables, entries}
 use Rattle.field.specs.Table.{Test, test}
@@ -20,6 +15,8 @@ use Rattle.calls.specs.Values as values
 use Rattle.rows.specs.Stored.{rows_on}
 use Rattle.run.specs.Run.{Run, propagate, flat_rows}
 use Rattle.kept.specs.Kept.{Kept, kept, made, pinned, released}
+use Rattle.field.specs.Answers.{Answer, passed, counted_answer}
+use Rattle.field.specs.declared.Grade.{Grade}
 
 -- ---- the tests
 
@@ -90,18 +87,18 @@ lent b n f u = record { bounds = b; strict = n; floats = f; words = u }
 
 -- The answer of `make`, and afterwards the bounds, the number of strict rows and both scratches.
 abbrev pub Left : Type 0
-Left = any.Left Answer Lent
+Left = any.Left (Answer Grade) Lent
 
 -- What the call `make` leaves, made of its answer and of all that it writes.
-abbrev pub left : Answer → List Float → ℕ → List Float → List ℕ → Left
+abbrev pub left : Answer Grade → List Float → ℕ → List Float → List ℕ → Left
 left r b n f u = any.left r (lent b n f u)
 
 -- 1 to 6 and 8, then 12 on an inexact field, then the record; past test 8 scratch ends as all zeros
 unfoldable pub make_call : Field → List ℕ → List Float → ℕ → List Float → List ℕ → Left
 make_call F s b n f u =
     called
-    (usual Refused (lent b n f u) (lent_tests F s (length b) (length f) (length u)) (stage Inexact (is_exact_of F) (lent b n (cleared zero64 f) (cleared 0 u)) ∷ [])
-    (left (Done (grade_of F)) (made F s).bounds (made F s).strict (cleared zero64 f) (cleared 0 u)))
+    (usual Err (lent b n f u) (lent_tests F s (length b) (length f) (length u)) (stage Inexact (is_exact_of F) (lent b n (cleared zero64 f) (cleared 0 u)) ∷ [])
+    (left (Ok (grade_of F)) (made F s).bounds (made F s).strict (cleared zero64 f) (cleared 0 u)))
 
 -- The whole table of `make`: 1 to 6, 8 and 12.
 abbrev pub make_table : Field → List ℕ → ℕ → ℕ → ℕ → List Test
@@ -114,15 +111,15 @@ record_left F s b n f u = kept s (make_call F s b n f u).lent.bounds (make_call 
 -- ---- the two operations: tests, then the record as it is changed; a refused operation changes nothing
 
 -- An operation on the record: its tests, then the changed record; a refusal changes nothing.
-abbrev pub operation : Kept → List Test → Kept → any.Left Checked Kept
-operation K tests K' = called (usual Failed K tests [] (any.left Passed K'))
+abbrev pub operation : Kept → List Test → Kept → any.Left (Answer Unit) Kept
+operation K tests K' = called (usual Err K tests [] (any.left passed K'))
 
 -- What `pin` answers and leaves: the value in the values, and the record of the values then.
-unfoldable pub pin_call : Field → Kept → ℕ → ℕ → any.Left Checked Kept
+unfoldable pub pin_call : Field → Kept → ℕ → ℕ → any.Left (Answer Unit) Kept
 pin_call F K i v = operation K (pin_tests F K.values (length K.bounds) i v) (pinned F i v K)
 
 -- What `release` answers and leaves: the variable free, and the record of the values then.
-unfoldable pub release_call : Field → Kept → ℕ → any.Left Checked Kept
+unfoldable pub release_call : Field → Kept → ℕ → any.Left (Answer Unit) Kept
 release_call F K i = operation K (release_tests F K.values (length K.bounds) i) (released F i K)
 
 -- ---- the call that closes from the record
@@ -133,18 +130,18 @@ run_from F s b = propagate F s (rows_on b (variables F))
 
 -- The answer of `close`, and afterwards the list of values and both scratches.
 abbrev pub Closed : Type 0
-Closed = any.Left Counted values.Lent
+Closed = any.Left (Answer Counted) values.Lent
 
 -- What the call `close` leaves, made of its answer, the list of values and both scratches.
-abbrev pub closed : Counted → List ℕ → List Float → List ℕ → Closed
+abbrev pub closed : Answer Counted → List ℕ → List Float → List ℕ → Closed
 closed r l f u = any.left r (values.lent l f u)
 
 -- 1 to 6 and 8, then 9 where the list is not n long, with the list all zeros, then the values and the count of flat rows
 unfoldable pub close_call : Field → List ℕ → List Float → List ℕ → List Float → List ℕ → Closed
 close_call F s b l f u =
     called
-    (usual Refuses (values.lent l f u) (lent_tests F s (length b) (length f) (length u)) (stage Room (eqb (length l) (variables F)) (values.lent (cleared 0 l) (cleared zero64 f) (cleared 0 u)) ∷ [])
-    (closed (Counts (grade_of F) (flat_rows (run_from F s b))) (run_from F s b).values (cleared zero64 f) (cleared 0 u)))
+    (usual Err (values.lent l f u) (lent_tests F s (length b) (length f) (length u)) (stage Room (eqb (length l) (variables F)) (values.lent (cleared 0 l) (cleared zero64 f) (cleared 0 u)) ∷ [])
+    (closed (counted_answer (grade_of F) (flat_rows (run_from F s b))) (run_from F s b).values (cleared zero64 f) (cleared 0 u)))
 
 -- The whole table of `close`: 1 to 6, 8 and 9.
 abbrev pub close_table : Field → List ℕ → ℕ → List ℕ → ℕ → ℕ → List Test

@@ -14,107 +14,83 @@ ghost use Rattle.calls.specs.Call as any;
 ghost use Rattle.kept.specs.Kept.{kept};
 ghost use Rattle.kept.specs.Calls.{left, make_call, pin_call, release_call, closed, close_call};
 
-use field::{Answer, Checked, Counted, Grade, Refusal};
+use field::{Answer, Counted, FieldRef, Grade, Refusal};
 
 // The record of the values, for an exact field; a refusal before 12 changes nothing.
 pub fn make(
-    c: &[f64],
-    rows: &[u16],
-    cols: &[u16],
-    q: &[f64],
+    field: FieldRef,
     values: &[u8],
     bounds: &mut [f64],
     strict: &mut u32,
     f: &mut [f64],
     u: &mut [u32],
-) -> Answer
-    ensures { left result bounds.new strict.new f.new u.new ≡ make_call (given c rows cols q) values.now bounds.old strict.old f.old u.old }
+) -> Answer<Grade>
+    ensures { left result bounds.new strict.new f.new u.new ≡ make_call (given field) values.now bounds.old strict.old f.old u.old }
 {
-    let checked = testing::lendable(c, rows, cols, q, values, bounds.len(), f.len(), u.len());
-    if let Checked::Failed(refusal) = checked {
-        return Answer::Refused(refusal);
+    testing::lendable(field, values, bounds.len(), f.len(), u.len())?;
+    if !making::is_exact(field) {
+        f.fill(0.0);
+        u.fill(0);
+        return Err(Refusal::Inexact);
     }
-    if !making::is_exact(c, rows, cols, q) {
-        scratch::clear_floats(f);
-        scratch::clear_words(u);
-        return Answer::Refused(Refusal::Inexact);
-    }
-    *strict = making::begin(c, rows, cols, q, values, bounds, f);
-    scratch::clear_floats(f);
-    scratch::clear_words(u);
-    Answer::Done(Grade::Exact)
+    *strict = making::begin(field, values, bounds, f);
+    f.fill(0.0);
+    u.fill(0);
+    Ok(Grade::Exact)
 }
 
 // A free variable takes a value in the record; a refusal changes nothing.
 pub fn pin(
-    c: &[f64],
-    rows: &[u16],
-    cols: &[u16],
-    q: &[f64],
+    field: FieldRef,
     values: &mut [u8],
     bounds: &mut [f64],
     strict: &mut u32,
     variable: usize,
     value: u8,
-) -> Checked
-    ensures { any.left result (kept values.new bounds.new strict.new) ≡ pin_call (given c rows cols q) (kept values.old bounds.old strict.old) variable value }
+) -> Answer<()>
+    ensures { any.left result (kept values.new bounds.new strict.new) ≡ pin_call (given field) (kept values.old bounds.old strict.old) variable value }
 {
-    let checked = testing::pinnable(c, rows, cols, q, values, bounds.len(), variable, value);
-    if let Checked::Failed(refusal) = checked {
-        return Checked::Failed(refusal);
-    }
-    *strict = turning::change(c, rows, cols, q, values, bounds, variable, value);
-    Checked::Passed
+    testing::pinnable(field, values, bounds.len(), variable, value)?;
+    *strict = turning::change(field, values, bounds, variable, value);
+    Ok(())
 }
 
 // A variable that has a value is free again in the record; a refusal changes nothing.
 pub fn release(
-    c: &[f64],
-    rows: &[u16],
-    cols: &[u16],
-    q: &[f64],
+    field: FieldRef,
     values: &mut [u8],
     bounds: &mut [f64],
     strict: &mut u32,
     variable: usize,
-) -> Checked
-    ensures { any.left result (kept values.new bounds.new strict.new) ≡ release_call (given c rows cols q) (kept values.old bounds.old strict.old) variable }
+) -> Answer<()>
+    ensures { any.left result (kept values.new bounds.new strict.new) ≡ release_call (given field) (kept values.old bounds.old strict.old) variable }
 {
-    let checked = testing::releasable(c, rows, cols, q, values, bounds.len(), variable);
-    if let Checked::Failed(refusal) = checked {
-        return Checked::Failed(refusal);
-    }
-    *strict = turning::change(c, rows, cols, q, values, bounds, variable, 2);
-    Checked::Passed
+    testing::releasable(field, values, bounds.len(), variable)?;
+    *strict = turning::change(field, values, bounds, variable, 2);
+    Ok(())
 }
 
 // The closure of the record's values, from its rows, goes into the list; the record is unchanged, and a refusal before 9 changes nothing.
 pub fn close(
-    c: &[f64],
-    rows: &[u16],
-    cols: &[u16],
-    q: &[f64],
+    field: FieldRef,
     values: &[u8],
     bounds: &[f64],
     list: &mut [u8],
     f: &mut [f64],
     u: &mut [u32],
-) -> Counted
-    ensures { closed result list.new f.new u.new ≡ close_call (given c rows cols q) values.now bounds.now list.old f.old u.old }
+) -> Answer<Counted>
+    ensures { closed result list.new f.new u.new ≡ close_call (given field) values.now bounds.now list.old f.old u.old }
 {
-    let checked = testing::lendable(c, rows, cols, q, values, bounds.len(), f.len(), u.len());
-    if let Checked::Failed(refusal) = checked {
-        return Counted::Refuses(refusal);
+    testing::lendable(field, values, bounds.len(), f.len(), u.len())?;
+    if list.len() != field.c.len() {
+        list.fill(0);
+        f.fill(0.0);
+        u.fill(0);
+        return Err(Refusal::Room);
     }
-    if list.len() != c.len() {
-        scratch::clear_bytes(list);
-        scratch::clear_floats(f);
-        scratch::clear_words(u);
-        return Counted::Refuses(Refusal::Room);
-    }
-    let grade = field::grading::graded(c, rows, cols, q);
-    let flat = closing::work(c, rows, cols, q, values, bounds, list, f, u);
-    scratch::clear_floats(f);
-    scratch::clear_words(u);
-    Counted::Counts(grade, flat)
+    let grade = field::grading::graded(field);
+    let flat = closing::work(field, values, bounds, list, f, u);
+    f.fill(0.0);
+    u.fill(0);
+    Ok(Counted { grade, count: flat })
 }

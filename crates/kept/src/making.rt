@@ -8,35 +8,23 @@ ghost use Rattle.kept.specs.Kept as model;
 ghost use Rattle.kept.specs.Kept.{kept};
 
 use crate::storing::{store_rows, strict_rows};
-use field::Grade;
+use field::{FieldRef, Grade};
 
 // Whether the field is exact.
-pub fn is_exact(c: &[f64], rows: &[u16], cols: &[u16], q: &[f64]) -> bool
-    requires { Loose (lent c rows cols q) }
-    ensures { result ≡ is_exact_of (given c rows cols q) }
+pub fn is_exact(field: FieldRef) -> bool
+    requires { Loose (lent field) }
+    ensures { result ≡ is_exact_of (given field) }
 {
-    let grade = field::grading::graded(c, rows, cols, q);
-    match grade {
-        Grade::Exact => true,
-        Grade::Inexact => false,
-    }
+    field::grading::graded(field) == Grade::Exact
 }
 
 // Every row is worked out in the scratch and stored; how many are strict.
-pub fn begin(
-    c: &[f64],
-    rows: &[u16],
-    cols: &[u16],
-    q: &[f64],
-    values: &[u8],
-    bounds: &mut [f64],
-    f: &mut [f64],
-) -> u32
-    requires fillable { Fillable (lent c rows cols q) values.now f.old }
-    requires bounds_len { length bounds.old ≡ variables (lent c rows cols q) + variables (lent c rows cols q) }
-    ensures { kept values.now bounds.new result ≡ model.made (given c rows cols q) values.now }
+pub fn begin(field: FieldRef, values: &[u8], bounds: &mut [f64], f: &mut [f64]) -> u32
+    requires fillable { Fillable (lent field) values.now f.old }
+    requires bounds_len { length bounds.old ≡ variables (lent field) + variables (lent field) }
+    ensures { kept values.now bounds.new result ≡ model.made (given field) values.now }
 {
-    rows::fill::fill(c, rows, cols, q, values, f);
+    rows::fill::fill(field, values, f);
     store_rows(values, f, bounds);
     strict_rows(values, bounds)
 }

@@ -33,6 +33,7 @@ fn skip(rows: &[u16], cols: &[u16], i: u16, from: usize) -> usize
     ensures { Skipped rows.now cols.now i from result }
 {
     let mut k = from;
+    // k goes on by whole blocks, and where it stops is the answer: a for loop would count the blocks beside it.
     while k + 64 <= rows.len() {
         if !block_apart(rows, cols, i, k) {
             return k;
@@ -49,12 +50,10 @@ pub fn next_entry(rows: &[u16], cols: &[u16], i: u16, from: usize) -> usize
     requires from_in_bounds { from ≤ length rows.now }
     ensures { Next rows.now cols.now i from result }
 {
-    let mut k = skip(rows, cols, i, from);
-    while k < rows.len() {
+    for k in skip(rows, cols, i, from)..rows.len() {
         if !is_apart(rows[k], cols[k], i) {
             return k;
         }
-        k += 1;
     }
-    k
+    rows.len()
 }

@@ -47,7 +47,7 @@ fn strict_at(value: u8, row: Row) -> u32
     ensures { result ≡ cond (eqb value 2 && is_strict row) 1 0 }
 {
     let strict = (value == 2) & ((row.lower > 0.0) | (row.upper < 0.0));
-    if strict { 1 } else { 0 }
+    u32::from(strict)
 }
 
 // How many free variables have a strict row, whatever the bounds hold.
@@ -69,7 +69,5 @@ pub fn copy_bounds(bounds: &[f64], f: &mut [f64])
     requires { length bounds.now ≤ length f.old }
     ensures { f.new ≡ over bounds.now f.old }
 {
-    for i in 0..bounds.len() {
-        f[i] = bounds[i];
-    }
+    f[..bounds.len()].copy_from_slice(bounds);
 }

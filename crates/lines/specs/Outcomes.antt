@@ -1,50 +1,37 @@
--- What a call answered, as an outcome, and which codes follow each other. Assumes nothing.
-use Rattle.std.specs.Prelude.{ℕ, Bool, true, false, ◌&&◌, leb}
-use Rattle.weights.specs.Worth.{zero64}
+-- What a call answered, as an outcome. Assumes nothing.
+use Rattle.std.specs.Prelude.{ℕ, Option, Some, None, Result, Ok, Err}
 use Rattle.field.specs.declared.Grade.{Grade}
-use Rattle.field.specs.declared.Grade.TheVariants.{Exact, Inexact}
 use Rattle.field.specs.declared.Refusal.{Refusal}
-use Rattle.field.specs.declared.Checked.{Checked}
-use Rattle.field.specs.declared.Checked.TheVariants.{Passed, Failed}
-use Rattle.field.specs.declared.Answer.{Answer}
-use Rattle.field.specs.declared.Answer.TheVariants.{Done, Refused}
 use Rattle.field.specs.declared.Counted.{Counted}
-use Rattle.field.specs.declared.Counted.TheVariants.{Counts, Refuses}
-use Rattle.field.specs.Answers.{number_of, position_of}
-use Rattle.lines.specs.declared.Outcome.{Outcome}
+use Rattle.field.specs.Answers.{number_of, Answer}
+use Rattle.lines.specs.declared.outcomes.Outcome.{Outcome}
+use Rattle.lines.specs.declared.outcomes.Undone.{Undone}
+use Rattle.lines.specs.declared.outcomes.Undone.TheVariants.{Absent, Refusing}
 
--- An outcome with a number, a grade and two counts, and with no ground, unit or bound of a reason.
-abbrev pub outcome : ℕ → Bool → ℕ → ℕ → Outcome
-outcome number exact count pairs = record { number = number; is_exact = exact; count = count; pairs = pairs; ground_number = 0; unit = 0; bound = zero64 }
+-- What a call did, with a grade where it has one, and two counts; it gives no reason.
+abbrev pub outcome : Option Grade → ℕ → ℕ → Result Outcome Undone
+outcome grade count pairs = Ok (record { grade = grade; count = count; pairs = pairs; reason = None })
 
--- Whether a grade is exact, as an outcome holds it beside its counts.
-abbrev pub is_exact_of : Grade → Bool
-is_exact_of Exact = true
-is_exact_of Inexact = false
+-- What a refusal is told as.
+abbrev pub refusing : Refusal → Result Outcome Undone
+refusing r = Err (Refusing r)
 
--- An outcome that is a number alone, without a grade or a count.
-abbrev pub refused : ℕ → Outcome
-refused number = outcome number false 0 0
+-- The number of what was not done: a refusal's in the table, and 11 where no call has the code.
+abbrev pub undone_number : Undone → ℕ
+undone_number Absent = 11
+undone_number (Refusing r) = number_of r
 
--- a refusal's number, with the position that it names
-abbrev pub refusing : Refusal → Outcome
-refusing r = outcome (number_of r) false (position_of r) 0
-
--- The outcome of a call that answers without a grade: 0, or its refusal.
-abbrev pub checked : Checked → Outcome
-checked Passed = refused 0
-checked (Failed r) = refusing r
+-- The outcome of a call that answers without a grade, or its refusal.
+abbrev pub checked : Answer Unit → Result Outcome Undone
+checked (Ok x) = outcome None 0 0
+checked (Err r) = refusing r
 
 -- The outcome of a call that answers with its grade, or its refusal.
-abbrev pub answered : Answer → Outcome
-answered (Done g) = outcome 0 (is_exact_of g) 0 0
-answered (Refused r) = refusing r
+abbrev pub answered : Answer Grade → Result Outcome Undone
+answered (Ok g) = outcome (Some g) 0 0
+answered (Err r) = refusing r
 
 -- The outcome of a call that answers with its grade and a count, or its refusal.
-abbrev pub counted : Counted → Outcome
-counted (Counts g count) = outcome 0 (is_exact_of g) count 0
-counted (Refuses r) = refusing r
-
--- the code is from the first to the last
-abbrev pub among : ℕ → ℕ → ℕ → Bool
-among code first last = leb first code && leb code last
+abbrev pub counted : Answer Counted → Result Outcome Undone
+counted (Ok a) = outcome (Some a.grade) a.count 0
+counted (Err r) = refusing r

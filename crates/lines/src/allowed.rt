@@ -1,125 +1,76 @@
 // The line of the call that asks what constraints allow.
 ghost use Rattle.std.specs.Prelude.{◌≤◌, length};
 
-use crate::{BYTE, LONG, is_early, put_bytes_left, put_items, put_left, put_words};
-use std::io::Stdout;
-use stream::lists::{all_bytes, all_longs};
-use stream::output::{least, put, put_digits, put_number, put_promise, put_text};
+use crate::left::{put_kept, put_left};
+use crate::outcomes::Undone;
+use crate::{put_items, put_lent};
+use stream::output::Output;
 
 // Yes, or no and the variable.
-fn put_verdict(stdout: Stdout, out: &mut [u8], used: usize, is_yes: bool, variable: usize) -> usize
-    ensures { result ≤ length out.new }
-{
-    if is_yes {
-        return put_text(stdout, out, used, b" yes");
+fn put_verdict(out: &mut Output<'_>, failing: Option<usize>) {
+    match failing {
+        None => out.put_text(b" yes"),
+        Some(variable) => {
+            out.put_text(b" no=");
+            out.put_number(variable);
+        }
     }
-    let named = put_text(stdout, out, used, b" no=");
-    put_number(stdout, out, named, variable)
 }
 
 // The values up to `end`, and what is past them.
-fn put_assigned(stdout: Stdout, out: &mut [u8], used: usize, assignment: &[u8], end: usize) -> usize
+fn put_assigned(out: &mut Output<'_>, assignment: &[u8], end: usize)
     requires { end ≤ length assignment.now }
-    ensures { result ≤ length out.new }
 {
-    let listed = put_digits(stdout, out, used, &assignment[..end]);
-    let named = put_text(stdout, out, listed, b" past=");
-    let is_kept = all_bytes(&assignment[end..], BYTE);
-    put_promise(stdout, out, named, b"kept", is_kept)
+    out.put_digits(&assignment[..end]);
+    out.put_text(b" past=");
+    put_kept(out, &assignment[end..]);
 }
 
 // The answer, the assignment of n variables and the counts of their literals.
 fn put_found(
-    stdout: Stdout,
-    out: &mut [u8],
-    used: usize,
-    is_yes: bool,
-    variable: usize,
+    out: &mut Output<'_>,
+    failing: Option<usize>,
     n: usize,
     assignment: &[u8],
     counts: &[u16],
-) -> usize
-    ensures { result ≤ length out.new }
-{
-    let told = put_verdict(stdout, out, used, is_yes, variable);
-    let named = put_text(stdout, out, told, b" assignment=");
-    let values = least(n, assignment.len());
-    let assigned = put_assigned(stdout, out, named, assignment, values);
-    let counting = put_text(stdout, out, assigned, b" counts=");
-    let literals = 2 * least(n, counts.len() / 2);
-    put_items(stdout, out, counting, counts, literals, false)
+) {
+    put_verdict(out, failing);
+    out.put_text(b" assignment=");
+    put_assigned(out, assignment, n.min(assignment.len()));
+    out.put_text(b" counts=");
+    let literals = 2 * n.min(counts.len() / 2);
+    put_items(out, counts, literals, false);
 }
 
 // Both answer lists after a refusal.
-fn put_lists_left(
-    stdout: Stdout,
-    out: &mut [u8],
-    used: usize,
-    number: u32,
-    assignment: &[u8],
-    counts: &[u16],
-) -> usize
-    ensures { result ≤ length out.new }
-{
-    let named = put_text(stdout, out, used, b" assignment=");
-    let assigned = put_bytes_left(stdout, out, named, number, assignment);
-    let counting = put_text(stdout, out, assigned, b" counts=");
-    put_left(stdout, out, counting, number, counts)
+fn put_lists_left(out: &mut Output<'_>, undone: Undone, assignment: &[u8], counts: &[u16]) {
+    out.put_text(b" assignment=");
+    put_left(out, undone.leaves_all(), assignment);
+    out.put_text(b" counts=");
+    put_left(out, undone.leaves_list(), counts);
 }
 
-fn put_longs(stdout: Stdout, out: &mut [u8], used: usize, number: u32, w: &[u64]) -> usize
-    ensures { result ≤ length out.new }
-{
-    let named = put_text(stdout, out, used, b" longs=");
-    if is_early(number) {
-        let is_kept = all_longs(w, LONG);
-        return put_promise(stdout, out, named, b"kept", is_kept);
-    }
-    let is_zeros = all_longs(w, 0);
-    put_promise(stdout, out, named, b"zeros", is_zeros)
-}
-
-// Both answer lists.
-fn put_lists(
-    stdout: Stdout,
-    out: &mut [u8],
-    used: usize,
-    number: u32,
-    is_yes: bool,
-    variable: usize,
-    n: usize,
-    assignment: &[u8],
-    counts: &[u16],
-) -> usize
-    ensures { result ≤ length out.new }
-{
-    if number == 0 {
-        return put_found(stdout, out, used, is_yes, variable, n, assignment, counts);
-    }
-    put_lists_left(stdout, out, used, number, assignment, counts)
-}
-
-// Writes the whole line of an answer of `allow`: the answer, both lists and both scratches.
+// Writes the whole line of an answer of `allow`: the answer, which is no variable where some assignment meets all, both lists and both scratches.
 pub fn put_allowed(
-    stdout: Stdout,
-    out: &mut [u8],
-    used: usize,
-    number: u32,
-    is_yes: bool,
-    variable: usize,
+    out: &mut Output<'_>,
+    answer: Result<Option<usize>, Undone>,
     n: usize,
     assignment: &[u8],
     counts: &[u16],
     w: &[u64],
     u: &[u32],
-) -> usize
-    ensures { result ≤ length out.new }
-{
-    let begun = put_number(stdout, out, used, scratch::wide_word(number));
-    let listed = put_lists(
-        stdout, out, begun, number, is_yes, variable, n, assignment, counts,
-    );
-    let longs = put_longs(stdout, out, listed, number, w);
-    let words = put_words(stdout, out, longs, number, u);
-    put(stdout, out, words, b'\n')
+) {
+    match answer {
+        Ok(failing) => {
+            out.put_number(0);
+            put_found(out, failing, n, assignment, counts);
+        }
+        Err(undone) => {
+            out.put_number(undone.number() as usize);
+            put_lists_left(out, undone, assignment, counts);
+        }
+    }
+    put_lent(out, b" longs=", answer.err(), w);
+    put_lent(out, b" words=", answer.err(), u);
+    out.put(b'\n');
 }

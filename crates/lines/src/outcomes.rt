@@ -1,94 +1,124 @@
 // What a call answered, as an outcome.
 ghost use Rattle.std.specs.Prelude.{◌≡◌};
-ghost use Rattle.lines.specs.Outcomes.{is_exact_of, refused as refused_by, refusing as refusing_by, answered as answered_by, checked as checked_by, counted as counted_by};
+ghost use Rattle.lines.specs.declared.outcomes.Undone.TheVariants.{Refusing};
+ghost use Rattle.lines.specs.Outcomes.{outcome as outcome_of, refusing as refusing_by, undone_number, answered as answered_by, checked as checked_by, counted as counted_by};
 
-use crate::Outcome;
-use field::{Answer, Checked, Counted, Grade, Refusal};
+use field::{Answer, Counted, Grade, Refusal};
+use reason::Ground;
 
-// Whether a grade is exact, as the line of an answer says it.
-pub fn is_exact(grade: Grade) -> bool
-    ensures { result ≡ is_exact_of grade }
-{
-    match grade {
-        Grade::Exact => true,
-        Grade::Inexact => false,
+// The ground of a variable's value in the closure, and the unit of its bound.
+#[derive(Clone, Copy)]
+pub struct Reason {
+    pub ground: Ground,
+    pub unit: u8,
+}
+
+// What a call did: the field's grade where it has a field, the count of items, the count of pairs, of the smaller problem and of a mended list its entries, and a reason.
+#[derive(Clone, Copy)]
+pub struct Outcome {
+    pub grade: Option<Grade>,
+    pub count: usize,
+    pub pairs: usize,
+    pub reason: Option<Reason>,
+}
+
+// Why nothing was done: no call has the code, or the call refused.
+#[derive(Clone, Copy)]
+pub enum Undone {
+    Absent,
+    Refusing(Refusal),
+}
+
+impl Undone {
+    // The number of the refusal, and 11 where there is no call.
+    pub fn number(self) -> u32
+        ensures { result ≡ undone_number self }
+    {
+        match self {
+            Undone::Absent => 11,
+            Undone::Refusing(refusal) => refusal.number(),
+        }
+    }
+
+    // Whether nothing that was lent has changed.
+    pub(crate) fn leaves_all(self) -> bool {
+        match self {
+            Undone::Absent => false,
+            Undone::Refusing(refusal) => match refusal {
+                Refusal::Room | Refusal::Clash | Refusal::Inexact | Refusal::Unforced => false,
+                _ => true,
+            },
+        }
+    }
+
+    // Whether the answer list is as it was: a field that is not exact and a variable that is not forced leave it too.
+    pub(crate) fn leaves_list(self) -> bool {
+        match self {
+            Undone::Absent => false,
+            Undone::Refusing(refusal) => match refusal {
+                Refusal::Room | Refusal::Clash => false,
+                _ => true,
+            },
+        }
     }
 }
 
-// The outcome that is a number alone, as that of a call that is not here.
-pub fn refused(number: u32) -> Outcome
-    ensures { result ≡ refused_by number }
-{
-    Outcome {
-        number: number,
-        is_exact: false,
-        count: 0,
-        pairs: 0,
-        ground_number: 0,
-        unit: 0,
-        bound: 0.0,
+impl From<Refusal> for Undone {
+    ghost from_gives = { λ refusal undone. undone ≡ Refusing refusal };
+
+    fn from(refusal: Refusal) -> Undone {
+        Undone::Refusing(refusal)
     }
 }
 
-// A refusal's number, with the position that it names.
-pub fn refusing(refusal: Refusal) -> Outcome
+// What a call answered.
+pub type Ended = Result<Outcome, Undone>;
+
+// What a call did that gives no reason: its grade, where it has one, and two counts.
+pub fn done(grade: Option<Grade>, count: usize, pairs: usize) -> Ended
+    ensures { result ≡ outcome_of grade count pairs }
+{
+    Ok(Outcome {
+        grade,
+        count,
+        pairs,
+        reason: None,
+    })
+}
+
+// A refusal, as it is told.
+pub fn refusing(refusal: Refusal) -> Ended
     ensures { result ≡ refusing_by refusal }
 {
-    Outcome {
-        number: refusal.number(),
-        is_exact: false,
-        count: refusal.position(),
-        pairs: 0,
-        ground_number: 0,
-        unit: 0,
-        bound: 0.0,
-    }
+    Err(Undone::Refusing(refusal))
 }
 
 // Done with a grade, or a refusal.
-pub fn answered(answer: Answer) -> Outcome
+pub fn answered(answer: Answer<Grade>) -> Ended
     ensures { result ≡ answered_by answer }
 {
     match answer {
-        Answer::Done(grade) => Outcome {
-            number: 0,
-            is_exact: is_exact(grade),
-            count: 0,
-            pairs: 0,
-            ground_number: 0,
-            unit: 0,
-            bound: 0.0,
-        },
-        Answer::Refused(refusal) => refusing(refusal),
+        Ok(grade) => done(Some(grade), 0, 0),
+        Err(refusal) => refusing(refusal),
     }
 }
 
-// A refusal, or 0 where all passed.
-pub fn checked(answer: Checked) -> Outcome
+// A refusal, or all passed.
+pub fn checked(answer: Answer<()>) -> Ended
     ensures { result ≡ checked_by answer }
 {
     match answer {
-        Checked::Passed => refused(0),
-        Checked::Failed(refusal) => refusing(refusal),
+        Ok(()) => done(None, 0, 0),
+        Err(refusal) => refusing(refusal),
     }
 }
 
 // Done with a grade and a count, or a refusal.
-pub fn counted(answer: Counted) -> Outcome
+pub fn counted(answer: Answer<Counted>) -> Ended
     ensures { result ≡ counted_by answer }
 {
     match answer {
-        Counted::Counts(grade, count) => {
-            Outcome {
-                number: 0,
-                is_exact: is_exact(grade),
-                count: count,
-                pairs: 0,
-                ground_number: 0,
-                unit: 0,
-                bound: 0.0,
-            }
-        }
-        Counted::Refuses(refusal) => refusing(refusal),
+        Ok(Counted { grade, count }) => done(Some(grade), count, 0),
+        Err(refusal) => refusing(refusal),
     }
 }

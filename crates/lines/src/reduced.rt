@@ -1,139 +1,93 @@
 // The lines of the smaller problem and of a mended list, which close up in the field's lists.
 ghost use Rattle.std.specs.Prelude.{◌≤◌, length};
 ghost use Rattle.stream.specs.Heads.{standing};
+ghost use Rattle.field.specs.Field.{lent, variables};
 
+use crate::call::Call;
+use crate::outcomes::Ended;
 use crate::shifted::{entries_in, put_closed, put_unchanged};
-use crate::{MEND, Outcome, SUB_PROBLEM, put_answer_list, put_outcome, put_scratch};
-use std::io::Stdout;
-use stream::lists::{all_floats, all_shorts};
-use stream::output::{least, put_number, put_text, put_weight, put_weights};
+use crate::{put_answer_list, put_outcome, put_scratch};
+use field::FieldRef;
+use stream::lists::all_are;
+use stream::output::Output;
 
 // Whether every place past the new ends is zero.
-fn zeros_past(c: &[f64], rows: &[u16], cols: &[u16], q: &[f64], n: usize, m: usize) -> bool
-    requires n_in_bounds { n ≤ length c.now }
-    requires m_in_bounds { m ≤ length rows.now }
-    requires m_in_bounds_2 { m ≤ length cols.now }
-    requires m_in_bounds_3 { m ≤ length q.now }
+fn zeros_past(field: FieldRef, n: usize, m: usize) -> bool
+    requires n_in_bounds { n ≤ variables (lent field) }
+    requires m_in_bounds { m ≤ length (lent field).rows }
+    requires m_in_bounds_2 { m ≤ length (lent field).cols }
+    requires m_in_bounds_3 { m ≤ length (lent field).quad }
 {
-    if !all_floats(&c[n..], 0.0) {
-        return false;
-    }
-    if !all_shorts(&rows[m..], 0) {
-        return false;
-    }
-    if !all_shorts(&cols[m..], 0) {
-        return false;
-    }
-    all_floats(&q[m..], 0.0)
+    all_are(&field.c[n..], 0.0)
+        && all_are(&field.rows[m..], 0)
+        && all_are(&field.cols[m..], 0)
+        && all_are(&field.q[m..], 0.0)
 }
 
 // The first n linear weights.
-fn put_linear(stdout: Stdout, out: &mut [u8], used: usize, c: &[f64], n: usize) -> usize
+fn put_linear(out: &mut Output<'_>, c: &[f64], n: usize)
     requires { n ≤ length c.now }
-    ensures { result ≤ length out.new }
 {
-    let named = put_text(stdout, out, used, b" linear=");
-    put_weights(stdout, out, named, &c[..n])
+    out.put_text(b" linear=");
+    out.put_list(&c[..n], false);
 }
 
-// The smaller problem and its constant.
-fn put_smaller(
-    stdout: Stdout,
-    out: &mut [u8],
-    used: usize,
-    outcome: Outcome,
-    constant: f64,
-    c: &[f64],
-    rows: &[u16],
-    cols: &[u16],
-    q: &[f64],
-) -> usize
-    ensures { result ≤ length out.new }
+// How many entries there are, the entries, and whether zeros are behind them and behind n linear weights.
+fn put_entries(out: &mut Output<'_>, count: usize, field: FieldRef, n: usize)
+    requires { n ≤ variables (lent field) }
 {
-    let n = least(outcome.count, c.len());
-    let m = entries_in(rows, cols, q, outcome.pairs);
-    let is_zeros = zeros_past(c, rows, cols, q, n, m);
-    let weighed = put_linear(stdout, out, used, c, n);
-    let named = put_text(stdout, out, weighed, b" m=");
-    let counted = put_number(stdout, out, named, outcome.pairs);
-    let closed = put_closed(stdout, out, counted, rows, cols, q, m, b"zeros", is_zeros);
-    let told = put_text(stdout, out, closed, b" constant=");
-    put_weight(stdout, out, told, constant)
+    let m = entries_in(field.rows, field.cols, field.q, count);
+    let is_zeros = zeros_past(field, n, m);
+    out.put_text(b" m=");
+    out.put_number(count);
+    put_closed(out, field.rows, field.cols, field.q, m, b"zeros", is_zeros);
 }
 
-// The whole line of the smaller problem.
+// The whole line of the smaller problem, with its constant.
 pub fn put_reduced(
-    stdout: Stdout,
-    out: &mut [u8],
-    used: usize,
-    outcome: Outcome,
+    out: &mut Output<'_>,
+    ended: Ended,
     constant: f64,
     contents: &[u8],
-    c: &[f64],
-    rows: &[u16],
-    cols: &[u16],
-    q: &[f64],
+    field: FieldRef,
     list: &[u16],
     f: &[f64],
     u: &[u32],
-) -> usize
-    requires { standing (length c.now) (length rows.now) (length cols.now) (length q.now) ≤ length contents.now }
-    ensures { result ≤ length out.new }
+)
+    requires { standing (variables (lent field)) (length (lent field).rows) (length (lent field).cols) (length (lent field).quad) ≤ length contents.now }
 {
-    let begun = put_outcome(stdout, out, used, SUB_PROBLEM, outcome);
-    let listed = put_answer_list(stdout, out, begun, b" variables=", outcome, list, false);
-    if outcome.number == 0 {
-        let smaller = put_smaller(stdout, out, listed, outcome, constant, c, rows, cols, q);
-        return put_scratch(stdout, out, smaller, SUB_PROBLEM, outcome.number, f, u);
+    put_outcome(out, ended);
+    put_answer_list(out, b" variables=", ended, list, false);
+    match ended {
+        Ok(outcome) => {
+            let n = outcome.count.min(field.c.len());
+            put_linear(out, field.c, n);
+            put_entries(out, outcome.pairs, field, n);
+            out.put_text(b" constant=");
+            out.put_word(constant);
+        }
+        Err(_) => put_unchanged(out, contents, field),
     }
-    let unchanged = put_unchanged(stdout, out, listed, contents, c, rows, cols, q);
-    put_scratch(stdout, out, unchanged, SUB_PROBLEM, outcome.number, f, u)
-}
-
-// The entries, and whether zeros are behind them.
-fn put_kept(
-    stdout: Stdout,
-    out: &mut [u8],
-    used: usize,
-    count: usize,
-    c: &[f64],
-    rows: &[u16],
-    cols: &[u16],
-    q: &[f64],
-) -> usize
-    ensures { result ≤ length out.new }
-{
-    let m = entries_in(rows, cols, q, count);
-    let is_zeros = zeros_past(c, rows, cols, q, c.len(), m);
-    let named = put_text(stdout, out, used, b" m=");
-    let counted = put_number(stdout, out, named, count);
-    put_closed(stdout, out, counted, rows, cols, q, m, b"zeros", is_zeros)
+    put_scratch(out, Call::SubProblem, ended, f, u);
 }
 
 // The whole line of a mended list.
 pub fn put_mended(
-    stdout: Stdout,
-    out: &mut [u8],
-    used: usize,
-    outcome: Outcome,
+    out: &mut Output<'_>,
+    ended: Ended,
     contents: &[u8],
-    c: &[f64],
-    rows: &[u16],
-    cols: &[u16],
-    q: &[f64],
+    field: FieldRef,
     list: &[u16],
     f: &[f64],
     u: &[u32],
-) -> usize
-    requires { standing (length c.now) (length rows.now) (length cols.now) (length q.now) ≤ length contents.now }
-    ensures { result ≤ length out.new }
+)
+    requires { standing (variables (lent field)) (length (lent field).rows) (length (lent field).cols) (length (lent field).quad) ≤ length contents.now }
 {
-    let begun = put_outcome(stdout, out, used, MEND, outcome);
-    let listed = put_answer_list(stdout, out, begun, b" changes=", outcome, list, true);
-    if outcome.number == 0 {
-        let kept = put_kept(stdout, out, listed, outcome.pairs, c, rows, cols, q);
-        return put_scratch(stdout, out, kept, MEND, outcome.number, f, u);
+    put_outcome(out, ended);
+    put_answer_list(out, b" changes=", ended, list, true);
+    match ended {
+        Ok(outcome) => put_entries(out, outcome.pairs, field, field.c.len()),
+        Err(_) => put_unchanged(out, contents, field),
     }
-    let unchanged = put_unchanged(stdout, out, listed, contents, c, rows, cols, q);
-    put_scratch(stdout, out, unchanged, MEND, outcome.number, f, u)
+    put_scratch(out, Call::Mend, ended, f, u);
 }

@@ -1,27 +1,34 @@
--- The loop that makes every variable free, and zeros that begin no chain. Assumes nothing.
-use Prim.Native.Nat.{ℕ, ◌+◌, ◌*◌, ◌<◌, ◌≤◌}
-use mathlib.Core.Path.{◌≡◌, refl, ◌∙◌, subst}
-use mathlib.Core.List.{List}
+-- Every variable made free, and zeros that begin no chain. Assumes nothing.
+use Prim.Native.Nat.{ℕ, ◌+◌, ◌*◌, ◌≤◌}
+use mathlib.Core.Path.{◌≡◌, refl, sym, ◌∙◌, subst}
+use mathlib.Core.List.{List, ◌++◌}
 use native.Mathlib.Decide.{dec_lt}
 use native.Mathlib.Omega.{arith}
-use borrow.Author.Count.{below_more}
-use lib.ListN.{length, get_or, set, replicate, length-set, length-replicate, get_or-replicate, get_or-eq_default}
-use lib.Seq.{get_or-set_same, get_or-set_other}
+use lib.ListN.{length, take, drop, replicate, length-replicate, get_or-replicate, get_or-eq_default}
+use lib.Seq.{length-take-le}
+use Rattle.scratch.specs.Over.{over}
+use Rattle.scratch.proofs.Over.{length_over, over_at, over_past}
 use Rattle.literals.specs.Ends.{Unlinked}
 use Rattle.literals.specs.Going.{Freed}
 
-pub free_start : (u : List ℕ) → Freed 0 u u
-free_start u = record { long = refl; free = λ j h. absurd (omega arith); rest = λ y h. refl }
+-- the first n elements filled with z: a list of z laid over the front
+pub filled_over : {A : Type 0} (z : A) (n : ℕ) (s : List A) {front : List A} → n ≤ length s → front ≡ replicate (length (take n s)) z → front ++ drop n s ≡ over (replicate n z) s
+unfolding over
+filled_over z n s h e = rw (e, length-take-le n s h, length-replicate n z) refl
 
-pub free_turn : {i : ℕ} {u₀ u : List ℕ} → Freed i u₀ u → i < length u → Freed (i + 1) u₀ (set u i 2)
-free_turn {i} {u₀} {u} F h = record {
-  long = length-set u i 2 ∙ F.long;
-  free = below_more (λ j. get_or (set u i 2) j 0 ≡ 2) i (λ j l. get_or-set_other u i j 2 0 (λ e. omega arith) ∙ F.free j l) (get_or-set_same u i 2 0 h);
-  rest = λ y l. get_or-set_other u i y 2 0 (λ e. omega arith) ∙ F.rest y (omega arith);
-}
+-- the first n elements filled with 2
+pub freed : {n : ℕ} {u front : List ℕ} → n ≤ length u → front ≡ replicate (length (take n u)) 2 → Freed n u (front ++ drop n u)
+freed {n} {u} {front} h e = subst (Freed n u) (sym (filled_over 2 n u h e)) (record {
+  long = length_over twos u (omega (arith, long));
+  free = λ j l. over_at twos u j 0 (omega (arith, long)) ∙ get_or-replicate n j 2 0 l;
+  rest = λ y l. over_past twos u y 0 (omega (arith, long));
+})
+  where
+    twos : List ℕ
+    twos = replicate n 2
 
-pub free_done : {i n : ℕ} {u₀ u : List ℕ} → Freed i u₀ u → i ≤ n → n ≤ i → Freed n u₀ u
-free_done {i} {n} {u₀} {u} F h k = let e : i ≡ n = omega arith in subst (λ (z : ℕ). Freed z u₀ u) e F
+    long : length twos ≡ n
+    long = length-replicate n 2
 
 -- no chain begins among zeros
 pub zeros_unlinked : (k n : ℕ) {u : List ℕ} → u ≡ replicate k 0 → Unlinked n u

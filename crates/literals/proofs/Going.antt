@@ -183,9 +183,6 @@ module _ {list s : List ℕ} {tail i : ℕ} {u : List ℕ} (E : Entering list s 
       free = λ j l m. force_others E.going h still given_small j m (λ q. omega arith) ∙ E.free j (omega arith) m;
     })
 
-pub enter_done : {list s u : List ℕ} {tail i : ℕ} → Entering list s u tail i → i ≤ length s → length s ≤ i → Entering list s u tail (length s)
-enter_done {list} {s} {u} {tail} {i} E h k = let e : i ≡ length s = omega arith in subst (Entering list s u tail) e E
-
 -- every variable is free
 pub enter_start : {list s u u' : List ℕ} → Linked list (length s) u (2 * room list) → 3 * length s + 2 * room list ≤ length u → Freed (length s) u u' → Entering list s u' 0 0
 enter_start {s = s} {u' = u'} L long F = record {

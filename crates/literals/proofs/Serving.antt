@@ -14,8 +14,7 @@ use Rattle.meaning.proofs.Implications.{rules_fit}
 use Rattle.meaning.proofs.Theorems.{propagation_clash, propagation_done}
 use Rattle.meaning.proofs.Values.{fixed, below_or_at}
 use Rattle.constraints.specs.Record.{room, records}
-use Rattle.literals.specs.declared.Went.{Went}
-use Rattle.literals.specs.declared.Went.TheVariants.{On, Clashed}
+use Rattle.std.specs.Prelude.{Option, Some, None}
 use Rattle.literals.specs.Listed.{Listed}
 use Rattle.literals.specs.Ends.{rules, mine, other, says, Last}
 use Rattle.literals.specs.Going.{Valued, Going, Stands, Small, Given, Entering, Served, Outcome, on, clashed, found}
@@ -33,15 +32,15 @@ module _ {list s u : List ℕ} {tail x i v w : ℕ} (L : Listed (length s) list)
   e : w ≡ says list x (get_or u (mine list x) 0)
   e = is_said ∙ ap (says list x) (is-value ∙ ap (λ (k : ℕ). get_or u k 0) is_mine)
 
-  stays : Stands list u x → Outcome list s (λ y. y ≡ x) u tail u (On tail)
+  stays : Stands list u x → Outcome list s (λ y. y ≡ x) u tail u (Some tail)
   stays st = on (record { going = G; kept = kept_refl (length s) u tail; stands = λ y l q. rw q st })
 
   -- it says nothing
-  pub end_nothing : w ≡ 2 → Outcome list s (λ y. y ≡ x) u tail u (On tail)
+  pub end_nothing : w ≡ 2 → Outcome list s (λ y. y ≡ x) u tail u (Some tail)
   end_nothing z = stays (inl (sym e ∙ z))
 
   -- it says what stands
-  pub end_same : {j have : ℕ} → j ≡ other list x → have ≡ get_or u j 0 → have ≡ w → Outcome list s (λ y. y ≡ x) u tail u (On tail)
+  pub end_same : {j have : ℕ} → j ≡ other list x → have ≡ get_or u j 0 → have ≡ w → Outcome list s (λ y. y ≡ x) u tail u (Some tail)
   end_same ej eh z = stays (inr (sym (eh ∙ ap (λ (k : ℕ). get_or u k 0) ej) ∙ z ∙ e))
 
   -- what it says holds
@@ -52,7 +51,7 @@ module _ {list s u : List ℕ} {tail x i v w : ℕ} (L : Listed (length s) list)
       follows m from
 
   -- it says both
-  pub end_both : w ≡ 3 → Outcome list s (λ y. y ≡ x) u tail u Clashed
+  pub end_both : w ≡ 3 → Outcome list s (λ y. y ≡ x) u tail u None
   end_both z = clashed (record { at = other list x; zero = said_holds 0 (omega arith) (inr z); one = said_holds 1 (omega arith) (inr z) })
 
   module _ {j have : ℕ} (ne : w ≢ 2) (nb : w ≢ 3) (ej : j ≡ other list x) (eh : have ≡ get_or u j 0) (differs : have ≢ w) where
@@ -66,7 +65,7 @@ module _ {list s u : List ℕ} {tail x i v w : ℕ} (L : Listed (length s) list)
     holds = rw (sym ej) at (said_holds w small (inl refl))
 
     -- it says the opposite
-    pub end_clash : have ≢ 2 → Outcome list s (λ y. y ≡ x) u tail u Clashed
+    pub end_clash : have ≢ 2 → Outcome list s (λ y. y ≡ x) u tail u None
     end_clash taken =
         let has = ⊎_elim (λ z. absurd (taken (eh ∙ z))) (λ z. z) (G.sound j below) in
         clashed (both_ways L has holds (λ z. differs (eh ∙ z)))
@@ -79,7 +78,7 @@ module _ {list s u : List ℕ} {tail x i v w : ℕ} (L : Listed (length s) list)
       pub end_room : (j < length s) × (length s + tail < length s + length s)
       end_room = (below, force_room G below still small)
 
-      pub end_forced : {u' : List ℕ} {last : ℕ} → last ≡ tail + 1 → u' ≡ set (set u j w) (length s + tail) j → Outcome list s (λ y. y ≡ x) u tail u' (On last)
+      pub end_forced : {u' : List ℕ} {last : ℕ} → last ≡ tail + 1 → u' ≡ set (set u j w) (length s + tail) j → Outcome list s (λ y. y ≡ x) u tail u' (Some last)
       end_forced el eu =
           let kept = force_kept G below still small in
           let same : get_or (set (set u j w) (length s + tail) j) (mine list x) 0 ≡ get_or u (mine list x) 0 = value_kept kept own in
@@ -93,12 +92,12 @@ module _ {list s u : List ℕ} {tail x i v w : ℕ} (L : Listed (length s) list)
 -- ---- outcomes
 
 -- a step that went on to t
-pub went_on : {list s : List ℕ} {P : ℕ → Type 0} {u : List ℕ} {tail : ℕ} {u' : List ℕ} {r : Went} {t : ℕ} → Outcome list s P u tail u' r → r ≡ On t → Served list s P u tail u' t
+pub went_on : {list s : List ℕ} {P : ℕ → Type 0} {u : List ℕ} {tail : ℕ} {u' : List ℕ} {r : Option ℕ} {t : ℕ} → Outcome list s P u tail u' r → r ≡ Some t → Served list s P u tail u' t
 went_on {list} {s} {P} {u} {tail} {u'} {t = t} (on {tail' = tail'} d) e = let z : tail' ≡ t = cc in subst (Served list s P u tail u') z d
 went_on (clashed b) e = let z : ◌≡◌ {A = ℕ} 0 1 = cc in absurd (omega arith)
 
 -- a step that did not
-pub went_not : {list s : List ℕ} {P : ℕ → Type 0} {u : List ℕ} {tail : ℕ} {u' : List ℕ} {r : Went} → Outcome list s P u tail u' r → r ≡ Clashed → BothWays (rules list) s
+pub went_not : {list s : List ℕ} {P : ℕ → Type 0} {u : List ℕ} {tail : ℕ} {u' : List ℕ} {r : Option ℕ} → Outcome list s P u tail u' r → r ≡ None → BothWays (rules list) s
 went_not (on d) e = let z : ◌≡◌ {A = ℕ} 0 1 = cc in absurd (omega arith)
 went_not (clashed b) e = b
 
@@ -149,10 +148,10 @@ module _ {list s u₀ : List ℕ} {tail₀ i : ℕ} (L : Listed (length s) list)
         omega (arith, last.within)
 
     -- a clash of an end is one of the variable
-    pub serve_clash : {u' : List ℕ} {r : Went} → Outcome list s (λ y. y ≡ p - 1) u tail u' r → r ≡ Clashed → {v : List ℕ} → Outcome list s (λ y. mine list y ≡ i) u₀ tail₀ v Clashed
+    pub serve_clash : {u' : List ℕ} {r : Option ℕ} → Outcome list s (λ y. y ≡ p - 1) u tail u' r → r ≡ None → {v : List ℕ} → Outcome list s (λ y. mine list y ≡ i) u₀ tail₀ v None
     serve_clash o e = clashed (went_not o e)
 
-  pub serve_done : {u : List ℕ} {tail p : ℕ} → Serving list s u₀ tail₀ i u tail p → p ≤ 0 → Outcome list s (λ y. mine list y ≡ i) u₀ tail₀ u (On tail)
+  pub serve_done : {u : List ℕ} {tail p : ℕ} → Serving list s u₀ tail₀ i u tail p → p ≤ 0 → Outcome list s (λ y. mine list y ≡ i) u₀ tail₀ u (Some tail)
   serve_done D h = on (record { going = D.served.going; kept = D.served.kept; stands = λ y l q. D.served.stands y l (q, omega arith) })
 
 -- ---- the queue

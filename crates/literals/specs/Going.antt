@@ -1,10 +1,8 @@
 -- Propagation on its way, in u32 scratch: n values, a queue of at most n variables, and the chains of ends. Assumes nothing.
-use Rattle.std.specs.Prelude.{ℕ, ◌+◌, ◌*◌, ◌<◌, ◌≤◌, ◌≡◌, ◌⊎◌, Bool, cond, List, length, get_or, take}
+use Rattle.std.specs.Prelude.{ℕ, ◌+◌, ◌*◌, ◌<◌, ◌≤◌, ◌≡◌, ◌⊎◌, Bool, cond, Option, Some, None, List, length, get_or, take}
 use Rattle.meaning.specs.Free.{frees}
 use Rattle.meaning.specs.Literal.{Holds, BothWays, Answer, done, clash}
 use Rattle.constraints.specs.Record.{room}
-use Rattle.literals.specs.declared.Went.{Went}
-use Rattle.literals.specs.declared.Went.TheVariants.{On, Clashed}
 use Rattle.literals.specs.Ends.{rules, mine, other, says, Linked}
 
 -- i is in the queue of u
@@ -66,9 +64,9 @@ pub record Served (list s : List ℕ) (P : ℕ → Type 0) (u : List ℕ) (tail 
   pub stands : (y : ℕ) → y < 2 * room list → P y → Stands list u' y
 
 -- a step goes on, with a new end of the queue, or a variable is held both ways
-pub data Outcome (list s : List ℕ) (P : ℕ → Type 0) (u : List ℕ) (tail : ℕ) (u' : List ℕ) : Went → Type 0 where
-  on : {tail' : ℕ} → Served list s P u tail u' tail' → Outcome list s P u tail u' (On tail')
-  clashed : BothWays (rules list) s → Outcome list s P u tail u' Clashed
+pub data Outcome (list s : List ℕ) (P : ℕ → Type 0) (u : List ℕ) (tail : ℕ) (u' : List ℕ) : Option ℕ → Type 0 where
+  on : {tail' : ℕ} → Served list s P u tail u' tail' → Outcome list s P u tail u' (Some tail')
+  clashed : BothWays (rules list) s → Outcome list s P u tail u' None
 
 -- what a run found: values, or a clash
 unfoldable pub found : Bool → List ℕ → Answer

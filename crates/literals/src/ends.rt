@@ -12,7 +12,7 @@ pub fn mine(list: &[u16], x: usize) -> usize
     ensures { result ≡ mine_of list.now x }
 {
     let at = 3 * (x / 2) + x % 2;
-    scratch::wide_short(list[at])
+    usize::from(list[at])
 }
 
 // Reads, from the list, the variable at the other end of the record that has the end x.
@@ -22,7 +22,7 @@ pub fn other(list: &[u16], x: usize) -> usize
     ensures { result ≡ other_of list.now x }
 {
     let at = 3 * (x / 2) + (1 - x % 2);
-    scratch::wide_short(list[at])
+    usize::from(list[at])
 }
 
 // Whether the set forbids a at the lower end with b at the higher one.
@@ -46,23 +46,17 @@ fn barred(set: u16, forth: bool, v: u8, w: u8) -> bool
     forbids(set, w, v)
 }
 
-// What v here gives the other end: 0, 1, 2 for nothing, or 3 for both.
+// What v here gives the other end: 0, 1, 2 for nothing, or 3 for both, numbers since `Stands`, which the promise of a step rests on, compares them with values.
 fn gives(set: u16, forth: bool, v: u8) -> u8
     requires { v < 2 }
     ensures { result ≡ given_by set forth v }
 {
-    let one = barred(set, forth, v, 0);
-    let zero = barred(set, forth, v, 1);
-    if one {
-        if zero {
-            return 3;
-        }
-        return 1;
+    match (barred(set, forth, v, 0), barred(set, forth, v, 1)) {
+        (true, true) => 3,
+        (true, false) => 1,
+        (false, true) => 0,
+        (false, false) => 2,
     }
-    if zero {
-        return 0;
-    }
-    2
 }
 
 // What the value v at end x says of the other end.

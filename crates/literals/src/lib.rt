@@ -13,24 +13,6 @@ ghost use Rattle.literals.specs.Going.{Freed, Entering, found};
 
 use crate::ends::link;
 use crate::steps::{force, serve};
-use scratch::wide_word;
-
-// What a step finds: it goes on, with the queue's new end, or a variable is held both ways.
-#[derive(Clone, Copy)]
-enum Went {
-    On(usize),
-    Clashed,
-}
-
-// Every variable is free.
-fn free_all(u: &mut [u32], n: usize)
-    requires { n ≤ length u.old }
-    ensures { Freed n u.old u.new }
-{
-    for i in 0..n {
-        u[i] = 2;
-    }
-}
 
 // The start value of variable i.
 fn enter_at(start: &[u8], list: &[u16], u: &mut [u32], tail: usize, i: usize) -> usize
@@ -73,10 +55,10 @@ fn work(start: &[u8], list: &[u16], u: &mut [u32], tail: usize) -> bool
     let n = start.len();
     let mut last = tail;
     let mut head = 0;
+    // The queue grows while it is served, so no range ends where it does.
     while head < last {
-        let i = wide_word(u[n + head]);
-        let step = serve(start, list, u, last, i);
-        let Went::On(next) = step else {
+        let i = u[n + head] as usize;
+        let Some(next) = serve(start, list, u, last, i) else {
             return false;
         };
         last = next;
@@ -91,9 +73,9 @@ pub fn run(start: &[u8], list: &[u16], u: &mut [u32]) -> bool
     ensures { found result (take (length start.now) u.new) ≡ meaning.propagate (rules list.now) start.now }
 {
     let n = start.len();
-    scratch::clear_words(u);
+    u.fill(0);
     link(list, u, n);
-    free_all(u, n);
+    u[..n].fill(2);
     let tail = enter(start, list, u);
     work(start, list, u, tail)
 }

@@ -5,9 +5,7 @@ ghost use Rattle.literals.specs.Listed.{Listed};
 ghost use Rattle.literals.specs.Ends.{mine as mine_of};
 ghost use Rattle.literals.specs.Going.{Valued, Going, Outcome};
 
-use crate::Went;
 use crate::ends::{mine, other, says};
-use scratch::wide_word;
 
 // The value of variable i.
 fn value(u: &[u32], i: usize) -> u8
@@ -27,13 +25,13 @@ pub fn force(u: &mut [u32], n: usize, tail: usize, i: usize, v: u8) -> usize
     ensures u_value { u.new ≡ set (set u.old i v) (n + tail) i }
 {
     let at = n + tail;
-    u[i] = v as u32;
+    u[i] = u32::from(v);
     u[at] = i as u32;
     tail + 1
 }
 
-// What end x says of the other end: nothing, both values, what it has, the opposite, or a value for a free variable.
-fn serve_end(start: &[u8], list: &[u16], u: &mut [u32], tail: usize, x: usize) -> Went
+// What end x says of the other end: nothing, both values, what it has, the opposite, or a value for a free variable. Answers the queue's new end, or None where a variable is held both ways.
+fn serve_end(start: &[u8], list: &[u16], u: &mut [u32], tail: usize, x: usize) -> Option<usize>
     requires listed { Listed (length start.now) list.now }
     requires start_len_bound { length start.now ≤ 4096 }
     requires going { Going list.now start.now u.old tail }
@@ -44,25 +42,24 @@ fn serve_end(start: &[u8], list: &[u16], u: &mut [u32], tail: usize, x: usize) -
     let n = start.len();
     let w = says(list, x, value(u, mine(list, x)));
     if w == 2 {
-        return Went::On(tail);
+        return Some(tail);
     }
     if w == 3 {
-        return Went::Clashed;
+        return None;
     }
     let j = other(list, x);
     let have = value(u, j);
     if have == w {
-        return Went::On(tail);
+        return Some(tail);
     }
     if have != 2 {
-        return Went::Clashed;
+        return None;
     }
-    let last = force(u, n, tail, j, w);
-    Went::On(last)
+    Some(force(u, n, tail, j, w))
 }
 
-// Serves every end of variable i: what its value gives is forced at the other end, or clashes there.
-pub fn serve(start: &[u8], list: &[u16], u: &mut [u32], tail: usize, i: usize) -> Went
+// Serves every end of variable i: what its value gives is forced at the other end, or clashes there. Answers as an end does.
+pub fn serve(start: &[u8], list: &[u16], u: &mut [u32], tail: usize, i: usize) -> Option<usize>
     requires listed { Listed (length start.now) list.now }
     requires start_len_bound { length start.now ≤ 4096 }
     requires going { Going list.now start.now u.old tail }
@@ -71,15 +68,12 @@ pub fn serve(start: &[u8], list: &[u16], u: &mut [u32], tail: usize, i: usize) -
 {
     let n = start.len();
     let mut last = tail;
-    let mut p = wide_word(u[2 * n + i]);
+    let mut p = u[2 * n + i] as usize;
+    // Each end names the one before it in the chain of its variable.
     while p > 0 {
         let x = p - 1;
-        let step = serve_end(start, list, u, last, x);
-        let Went::On(next) = step else {
-            return Went::Clashed;
-        };
-        last = next;
-        p = wide_word(u[3 * n + x]);
+        last = serve_end(start, list, u, last, x)?;
+        p = u[3 * n + x] as usize;
     }
-    Went::On(last)
+    Some(last)
 }

@@ -20,7 +20,7 @@ use lib.Ieee.{Float, nan, inf, fin, Format, prec, emax, low, up, down, binary64,
 use lib.Ieee.Fits.{down_pos, and_l, and_r, round_is, mul-fits}
 use lib.Ieee.Exact.{HasValue, round_exact}
 use lib.Ieee.Order.{round_mono}
-use lib.Ieee.Positive.{through, above, above_of_le, positive, mul_mono}
+use lib.Ieee.Positive.{through, above, above_of_le, mul_mono}
 use Rattle.weights.specs.Worth.{zero64}
 use Rattle.field.specs.Field.{Field, variables}
 use Rattle.margins.specs.declared.bounds.Bounds.{Bounds}

@@ -6,7 +6,7 @@ use Prim.Native.Nat.{ℕ, zero, suc, ◌+◌, ◌≤◌, ◌<◌}
 use native.Mathlib.Omega.{arith}
 use lib.ListN.{get_or}
 use lib.Dec.{ltb}
-use lib.Ieee.{Float, nan, binary64, add, sub}
+use lib.Ieee.{Float, nan, binary64, add, sub, eq, ne}
 use borrow.Author.Tests.{ltb-true, le-ltb, lt-ltb, eq-eqb, ne_eqb}
 use Rattle.weights.specs.Worth.{zero64}
 use Rattle.margins.specs.declared.bounds.Bounds.{Bounds}
@@ -34,6 +34,22 @@ met_other b i j k wi wj r n m d y e = rw (ne_eqb k i n, ne_eqb k j m, ← d, y) 
 pub met_none : (b : Bounds) (i j k : ℕ) (wi wj : Float) {d : Bool} → k ≢ i → k ≢ j → d ≡ meets wi wj → d ≡ false → b ≡ met_by b i j k wi wj
 unfolding met_by
 met_none b i j k wi wj n m d y = rw (ne_eqb k i n, ne_eqb k j m, ← d, y)
+
+pub meets_first : (wi wj : Float) → ne wi zero64 ≡ true → true ≡ meets wi wj
+unfolding ne
+meets_first wi wj e = go (eq wi zero64) (eq wj zero64) e
+  where
+    go : (a b : Bool) → not a ≡ true → true ≡ not (a && b)
+    go true b e = absurd (true≢false (sym e))
+    go false b e = refl
+
+pub meets_second : (wi wj : Float) → ne wi zero64 ≡ false → ne wj zero64 ≡ meets wi wj
+unfolding ne
+meets_second wi wj e = go (eq wi zero64) (eq wj zero64) e
+  where
+    go : (a b : Bool) → not a ≡ false → not b ≡ not (a && b)
+    go true b e = refl
+    go false b e = absurd (true≢false e)
 
 -- a walk that goes on has hope, and one of the rows is not at its end
 pub and_true : (a b : Bool) → (a && b) ≡ true → (a ≡ true) × (b ≡ true)

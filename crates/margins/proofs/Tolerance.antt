@@ -1,13 +1,13 @@
 -- On exact fields the tolerance is finite and above 0; and to exceed it is a tolerance in the meaning's sense, which a float test decides. Assumes nothing.
 use mathlib.Core.Path.{◌≡◌, refl, sym, ap, ◌∙◌, subst}
 use mathlib.Core.Logic.{◌↔◌}
-use mathlib.Core.Bool.{Bool, true, false, not, ◌||◌, cond}
+use mathlib.Core.Bool.{Bool, true, false, ◌||◌, cond}
 use Prim.Native.Nat.{ℕ, ◌+◌, ◌-◌, ◌*◌, ◌^◌, ◌≤◌, ◌<◌}
 use native.Mathlib.Nat.{mul-lt-mul_of_pos_right, lt_of_mul-lt-mul_right, mul-le-mul_right, mul_assoc, mul_comm, mul_left_comm, add-mul, add_comm, mul-pos, mul-one, zero-mul}
 use native.Mathlib.Omega.{arith}
 use lib.Dec.{T, ltb, ltb→lt, lt→ltb, le→leb}
 use lib.Pow.{pow_pos, pow-add, pow_mono}
-use lib.Ieee.{Float, nan, inf, fin, binary64, up, down, add, mul, neg, lt, le, eq, below, round, of_bits}
+use lib.Ieee.{Float, nan, inf, fin, binary64, up, down, add, mul, neg, lt, le, eq, round, of_bits}
 use lib.Ieee.Fits.{down_pos}
 use lib.Ieee.Positive.{num, den, positive, above, between, mul_mono}
 use Rattle.whole.specs.Whole.{Whole, ◌⊕◌}

@@ -19,14 +19,14 @@ pub enum Sign {
     Neither,
 }
 
-// min(x, 0)
+// min(x, 0), where 0.0 stands for both zeros: f64::min leaves open which of two zeros it gives.
 fn below_zero(x: f64) -> f64
     ensures { result ≡ below_zero_of x }
 {
     if x < 0.0 { x } else { 0.0 }
 }
 
-// max(x, 0)
+// max(x, 0), where 0.0 stands for both zeros: f64::max leaves open which of two zeros it gives.
 fn above_zero(x: f64) -> f64
     ensures { result ≡ above_zero_of x }
 {
@@ -89,30 +89,24 @@ pub fn judged(low: f64, high: f64, t: f64) -> Sign
     ensures { result ≡ sign_of t low high }
 {
     if low > t {
-        return Sign::Above;
+        Sign::Above
+    } else if high < -t {
+        Sign::Below
+    } else {
+        Sign::Neither
     }
-    if high < -t {
-        return Sign::Below;
-    }
-    Sign::Neither
 }
 
 // Whether two bounds say neither.
 fn between(low: f64, high: f64, t: f64) -> bool
     ensures { result ≡ between_of t low high }
 {
-    if low <= t {
-        return -t <= high;
-    }
-    false
+    low <= t && -t <= high
 }
 
 // Whether no bound can give a constraint any more.
 pub fn hopeless(b: Bounds, t: f64) -> bool
     ensures { result ≡ hopeless_at t b }
 {
-    if between(b.sumLow, b.sumHigh, t) {
-        return between(b.diffLow, b.diffHigh, t);
-    }
-    false
+    between(b.sumLow, b.sumHigh, t) && between(b.diffLow, b.diffHigh, t)
 }

@@ -4,7 +4,6 @@ ghost use Rattle.margins.specs.Model.{meets as meets_of};
 ghost use Rattle.margins.specs.Merge.{rows_of, Fit, met_by, turn_of, going, walk_all, Rises, Looked};
 
 use crate::bounds::{Bounds, hopeless};
-use scratch::wide_word;
 
 // Where the walk over the two rows stands, and the bounds so far.
 #[derive(Clone, Copy)]
@@ -18,42 +17,25 @@ pub struct Walk {
 fn meets(wi: f64, wj: f64) -> bool
     ensures { result ≡ meets_of wi wj }
 {
-    if wi == 0.0 {
-        return wj != 0.0;
-    }
-    true
+    wi != 0.0 || wj != 0.0
 }
 
 // Neighbour k; i and j themselves are passed over.
 fn met(b: Bounds, i: usize, j: usize, k: usize, wi: f64, wj: f64) -> Bounds
     ensures { result ≡ met_by b i j k wi wj }
 {
-    if k == i {
-        return b;
+    if k != i && k != j && meets(wi, wj) {
+        b.widened(wi, wj)
+    } else {
+        b
     }
-    if k == j {
-        return b;
-    }
-    if meets(wi, wj) {
-        return b.widened(wi, wj);
-    }
-    b
 }
 
 // Whether some bound may still give a constraint and one of the rows is not at its end.
 fn is_going(ea: usize, eb: usize, t: f64, w: Walk) -> bool
     ensures { result ≡ going ea eb t w }
 {
-    let left = w.left;
-    let right = w.right;
-    let b = w.bounds;
-    if hopeless(b, t) {
-        return false;
-    }
-    if left < ea {
-        return true;
-    }
-    right < eb
+    !hopeless(w.bounds, t) && (w.left < ea || w.right < eb)
 }
 
 // One turn: the lower of the two keys, or both where they are equal.
@@ -75,45 +57,45 @@ fn turn(
     let right = w.right;
     let b = w.bounds;
     if left < ea {
-        let ki = wide_word(keys[left]);
+        let ki = keys[left] as usize;
         if right < eb {
-            let kj = wide_word(keys[right]);
+            let kj = keys[right] as usize;
             if ki < kj {
-                let m = met(b, i, j, ki, weights[left], 0.0);
+                let bounds = met(b, i, j, ki, weights[left], 0.0);
                 return Walk {
                     left: left + 1,
-                    right: right,
-                    bounds: m,
+                    right,
+                    bounds,
                 };
             }
             if kj < ki {
-                let m = met(b, i, j, kj, 0.0, weights[right]);
+                let bounds = met(b, i, j, kj, 0.0, weights[right]);
                 return Walk {
-                    left: left,
+                    left,
                     right: right + 1,
-                    bounds: m,
+                    bounds,
                 };
             }
-            let m = met(b, i, j, ki, weights[left], weights[right]);
+            let bounds = met(b, i, j, ki, weights[left], weights[right]);
             return Walk {
                 left: left + 1,
                 right: right + 1,
-                bounds: m,
+                bounds,
             };
         }
-        let m = met(b, i, j, ki, weights[left], 0.0);
+        let bounds = met(b, i, j, ki, weights[left], 0.0);
         return Walk {
             left: left + 1,
-            right: right,
-            bounds: m,
+            right,
+            bounds,
         };
     }
-    let kj = wide_word(keys[right]);
-    let m = met(b, i, j, kj, 0.0, weights[right]);
+    let kj = keys[right] as usize;
+    let bounds = met(b, i, j, kj, 0.0, weights[right]);
     Walk {
-        left: left,
+        left,
         right: right + 1,
-        bounds: m,
+        bounds,
     }
 }
 
@@ -132,6 +114,7 @@ pub fn walk_rows(
     ensures { result ≡ (walk_all (rows_of keys.now weights.now ea eb i j t) start).bounds }
 {
     let mut w = start;
+    // Two heads move, each to the end of its own row.
     while is_going(ea, eb, t, w) {
         w = turn(keys, weights, ea, eb, i, j, t, w);
     }
@@ -145,11 +128,12 @@ pub fn weight_of(keys: &[u32], weights: &[f64], from: usize, to: usize, k: usize
     requires to_in_bounds_2 { to ≤ length weights.now }
     ensures { Looked keys.now weights.now from to k result }
 {
+    // A part whose start is past its end has no key here, and no slice that the library could search.
     let mut low = from;
     let mut high = to;
     while low < high {
         let mid = low + (high - low) / 2;
-        let key = wide_word(keys[mid]);
+        let key = keys[mid] as usize;
         if key == k {
             return weights[mid];
         }

@@ -41,9 +41,6 @@ pub record Turned (bits : ℕ) (value : Float) (sums₀ sums : List Float) (l : 
   pub rest : (m : ℕ) → l ≤ m → get_or sums m nan ≡ get_or sums₀ m nan
 
 module _ {bits : ℕ} {value : Float} {sums₀ : List Float} where
-  pub turn_start : length sums₀ ≡ 32 → Turned bits value sums₀ sums₀ 0
-  turn_start e = record { within = omega arith; long = e; done = λ m h. absurd (omega arith); rest = λ m h. refl }
-
   module _ {sums : List Float} {l : ℕ} (T : Turned bits value sums₀ sums l) where
     pub turn_next : {x : Float} → l < 32 → x ≡ plus l (get_or sums l nan) (term bits value) → Turned bits value sums₀ (set sums l x) (l + 1)
     turn_next {x} h e = record {
@@ -55,14 +52,6 @@ module _ {bits : ℕ} {value : Float} {sums₀ : List Float} where
       ];
       rest = λ m k. get_or-set_other sums l m x nan (λ q. absurd (omega arith)) ∙ T.rest m (omega arith);
     }
-
-    pub turn_done : 32 ≤ l → TermAdded 0 bits value sums₀ sums
-    turn_done h = record {
-      each = record { long = T.long; at = λ m k. T.done m (omega arith) ∙ ap (λ (x : ℕ). plus x (get_or sums₀ m nan) (term bits value)) (omega arith) };
-    }
-
-  pub at_bits : {sums : List Float} {known : ℕ} → bits ≡ known → TermAdded 0 known value sums₀ sums → TermAdded 0 bits value sums₀ sums
-  at_bits e A = rw e A
 
 -- none of a block has the required bits where the last has them not
 pub none_has : {base bits : ℕ} {value : Float} {sums : List Float} → length sums ≡ 32 → base % 32 ≡ 0 → (bit_and (base + 31) bits ≡ bits → ⊥) → TermAdded base bits value sums sums

@@ -6,8 +6,6 @@ ghost use Rattle.masks.specs.Masks.{term, plus as plus_of, objective, lowest as 
 ghost use Rattle.masks.specs.Listed.{lists, terms_on, Room, Listed};
 ghost use Rattle.masks.specs.Block.{Block, TermAdded, Leads};
 
-use scratch::wide_short;
-
 // The lowest mask of least sum among those looked at, and that sum.
 #[derive(Clone, Copy)]
 struct Lead {
@@ -31,7 +29,7 @@ pub fn bit_of(mask: usize, b: usize) -> u8
     ((mask >> b) & 1) as u8
 }
 
-// One more term on the lists; answers where they end then.
+// One more term on the lists, which stand in the caller's scratch of f64 and of u16 numbers; answers where they end then.
 pub fn list_term(
     values: &mut [f64],
     required: &mut [u16],
@@ -68,92 +66,30 @@ fn add_each(sums: &mut [f64; 32], bits: usize, value: f64)
     }
 }
 
-// The same, with a loop of its own for bit 4 and each other bit: of bits that stand in the text the compiler knows which masks have them.
-fn add_fifth(sums: &mut [f64; 32], bits: usize, value: f64)
-    requires { length sums.old ≡ 32 }
-    ensures { TermAdded 0 bits value sums.old sums.new }
-{
-    if bits == 17 {
-        add_each(sums, 17, value);
-        return;
-    }
-    if bits == 18 {
-        add_each(sums, 18, value);
-        return;
-    }
-    if bits == 20 {
-        add_each(sums, 20, value);
-        return;
-    }
-    if bits == 24 {
-        add_each(sums, 24, value);
-        return;
-    }
-    add_each(sums, bits, value);
-}
-
-// The same, with one for each two of the bits 0 to 3 besides.
-fn add_two(sums: &mut [f64; 32], bits: usize, value: f64)
-    requires { length sums.old ≡ 32 }
-    ensures { TermAdded 0 bits value sums.old sums.new }
-{
-    if bits == 3 {
-        add_each(sums, 3, value);
-        return;
-    }
-    if bits == 5 {
-        add_each(sums, 5, value);
-        return;
-    }
-    if bits == 6 {
-        add_each(sums, 6, value);
-        return;
-    }
-    if bits == 9 {
-        add_each(sums, 9, value);
-        return;
-    }
-    if bits == 10 {
-        add_each(sums, 10, value);
-        return;
-    }
-    if bits == 12 {
-        add_each(sums, 12, value);
-        return;
-    }
-    add_fifth(sums, bits, value);
-}
-
-// The same, with one for no bit and for each bit alone besides.
+// The same, with a loop of its own for up to two of the bits: only of bits that stand in the text does the compiler know which masks have them.
 fn add_low(sums: &mut [f64; 32], bits: usize, value: f64)
     requires { length sums.old ≡ 32 }
     ensures { TermAdded 0 bits value sums.old sums.new }
 {
-    if bits == 0 {
-        add_each(sums, 0, value);
-        return;
+    match bits {
+        0 => add_each(sums, 0, value),
+        1 => add_each(sums, 1, value),
+        2 => add_each(sums, 2, value),
+        4 => add_each(sums, 4, value),
+        8 => add_each(sums, 8, value),
+        16 => add_each(sums, 16, value),
+        3 => add_each(sums, 3, value),
+        5 => add_each(sums, 5, value),
+        6 => add_each(sums, 6, value),
+        9 => add_each(sums, 9, value),
+        10 => add_each(sums, 10, value),
+        12 => add_each(sums, 12, value),
+        17 => add_each(sums, 17, value),
+        18 => add_each(sums, 18, value),
+        20 => add_each(sums, 20, value),
+        24 => add_each(sums, 24, value),
+        _ => add_each(sums, bits, value),
     }
-    if bits == 1 {
-        add_each(sums, 1, value);
-        return;
-    }
-    if bits == 2 {
-        add_each(sums, 2, value);
-        return;
-    }
-    if bits == 4 {
-        add_each(sums, 4, value);
-        return;
-    }
-    if bits == 8 {
-        add_each(sums, 8, value);
-        return;
-    }
-    if bits == 16 {
-        add_each(sums, 16, value);
-        return;
-    }
-    add_two(sums, bits, value);
 }
 
 // The sums of a block, the thirty-two masks from base on, after a term: none of them has the required bits if the last has them not; else a mask has them if its last five bits have the last five.
@@ -178,7 +114,7 @@ fn block(values: &[f64], required: &[u16], end: usize, base: usize) -> [f64; 32]
 {
     let mut sums = [0.0; 32];
     for t in 0..end {
-        add_block(&mut sums, base, wide_short(required[t]), values[t]);
+        add_block(&mut sums, base, usize::from(required[t]), values[t]);
     }
     sums
 }
@@ -200,19 +136,17 @@ fn lead_after(
     ensures { Leads (objective (terms_on values.now required.now end)) (base + count) result }
 {
     let sums = block(values, required, end, base);
-    let mut best = lead.sum;
-    let mut mask = lead.mask;
+    let mut best = lead;
     for l in 0..count {
         let sum = sums[l];
-        if sum < best {
-            best = sum;
-            mask = base + l;
+        if sum < best.sum {
+            best = Lead {
+                sum,
+                mask: base + l,
+            };
         }
     }
-    Lead {
-        sum: best,
-        mask: mask,
-    }
+    best
 }
 
 // The lowest mask of least sum below size, by whole blocks and then what is left: a NaN is passed over, and 0 stands where no sum is below plus infinity.

@@ -13,8 +13,6 @@ use Rattle.scratch.specs.Cleared.{cleared}
 use Rattle.scratch.specs.Over.{over}
 use Rattle.scratch.proofs.Over.{over_front, over_rest, over_past}
 use Rattle.scratch.proofs.Means.{le_is}
-use Rattle.field.specs.declared.Checked.{Checked}
-use Rattle.field.specs.declared.Checked.TheVariants.{Passed, Failed}
 use Rattle.field.specs.declared.Grade.{Grade}
 use Rattle.field.specs.declared.Refusal.{Refusal}
 use Rattle.field.specs.declared.Refusal.TheVariants.{Variables, Lists, Weights, Scratch, Room, Sum}
@@ -36,20 +34,18 @@ use Rattle.mending.proofs.Accepted.{mended_long, mended_loose, overflow_means, k
 use Rattle.mending.proofs.Accepted as model
 use Rattle.mending.proofs.Good as good
 use Rattle.mending.proofs.Exactly as exactly
-use Rattle.mend.specs.declared.Mended.TheVariants.{Done, Refused}
 use Rattle.mend.specs.Call.{Left, left, sum_tests, mend_tests, Mendable, fits, mend_table, mend_call, field_left}
 use Rattle.mend.proofs.Laws.{mend_passes, never_room}
+use Rattle.field.specs.Answers.{Answer, passed}
+use Rattle.std.specs.Prelude.{Err}
+use Rattle.mend.specs.Answers.{mended_answer}
+use Rattle.mend.specs.declared.Mended.{Mended}
+use Rattle.calls.proofs.Answers.{done_apart, same_refused, same_done}
 
 -- ---- answers
 
-same_refused : (r t : Refusal) → Refused r ≡ Refused t → r ≡ t
-same_refused r t e = cc
-
-done_apart : {A : Type 0} {g : Grade} {m k : ℕ} (r : Refusal) → Done g m k ≡ Refused r → A
-done_apart r e = let z : ◌≡◌ {A = ℕ} 0 1 = cc in absurd (omega arith)
-
-same_done : {g h : Grade} {m k i j : ℕ} → Done g m i ≡ Done h k j → (g ≡ h) × ((m ≡ k) × (i ≡ j))
-same_done e = (cc, (cc, cc))
+same_mended : {g h : Grade} {m k i j : ℕ} → mended_answer g m i ≡ mended_answer h k j → (g ≡ h) × ((m ≡ k) × (i ≡ j))
+same_mended e = let z = same_done e in (ap (λ (x : Mended). x.grade) z, (ap (λ (x : Mended). x.entries) z, ap (λ (x : Mended). x.changes) z))
 
 -- three numbers for each change
 numbered_long : (l : List Change) → length (numbered l) ≡ 3 * length l
@@ -67,7 +63,7 @@ pub one_result : (F : Field) (report : List ℕ) (f : List Float) (u : List ℕ)
 one_result F report f u = any.one_result (mend_call F report f u)
 
 -- 18 comes first where 1, 2 and 5 pass and the sums are not finite
-first_sum : (a b c d : Bool) (rest : Checked) → (rest ≡ Failed Sum → ⊥) → unless a Variables (unless b Lists (unless c Weights (unless d Sum rest))) ≡ Failed Sum
+first_sum : (a b c d : Bool) (rest : Answer Unit) → (rest ≡ Err Sum → ⊥) → unless a Variables (unless b Lists (unless c Weights (unless d Sum rest))) ≡ Err Sum
     → (a ≡ true) × ((b ≡ true) × ((c ≡ true) × (d ≡ false)))
 first_sum true true true true rest n e = absurd (n e)
 first_sum true true true false rest n e = (refl, (refl, (refl, refl)))
@@ -77,39 +73,39 @@ first_sum false b c d rest n e = let z : ◌≡◌ {A = ℕ} 1 18 = cc in absurd
 
 module _ (F : Field) (report : List ℕ) (f : List Float) (u : List ℕ) where
   -- Theorem. The call is refused with r exactly if the tests before r's own pass, and its own fails; 9 is tested last.
-  pub refused_when : (r : Refusal) → ((mend_call F report f u).answer ≡ Refused r) ↔ FirstToFail (mend_table F report (length f) (length u)) r
+  pub refused_when : (r : Refusal) → ((mend_call F report f u).answer ≡ Err r) ↔ FirstToFail (mend_table F report (length f) (length u)) r
   unfolding mend_call mend_table table
-  refused_when = usual.refused_when Refused _ _ _ _ same_refused done_apart refl
+  refused_when = usual.refused_when Err _ _ _ _ same_refused done_apart refl
 
   -- Theorem. A refusal but 9 changes nothing.
-  pub refused_leaves : (r : Refusal) → r ≢ Room → (mend_call F report f u).answer ≡ Refused r → mend_call F report f u ≡ left (Refused r) F.rows F.cols F.quad report f u
+  pub refused_leaves : (r : Refusal) → r ≢ Room → (mend_call F report f u).answer ≡ Err r → mend_call F report f u ≡ left (Err r) F.rows F.cols F.quad report f u
   unfolding mend_call
-  refused_leaves r n e = usual.refused_leaves Refused _ _ _ _ same_refused done_apart r (other_stage n no_stage) e
+  refused_leaves r n e = usual.refused_leaves Err _ _ _ _ same_refused done_apart r (other_stage n no_stage) e
 
   -- Theorem. 9 is given exactly if the tests before it pass and there are more changes than the report has room for.
-  pub room_when : ((mend_call F report f u).answer ≡ Refused Room) ↔ (Mendable F (length f) (length u) × (length report / 3 < length (changes_of F)))
+  pub room_when : ((mend_call F report f u).answer ≡ Err Room) ↔ (Mendable F (length f) (length u) × (length report / 3 < length (changes_of F)))
   unfolding mend_call fits
   room_when =
-      let t = usual.last_when Refused _ _ Room _ _ same_refused done_apart (never_room F (length f) (length u)) (fits F report) in
+      let t = usual.last_when Err _ _ Room _ _ same_refused done_apart (never_room F (length f) (length u)) (fits F report) in
       let p = mend_passes F (length f) (length u) in
       ((λ e. (p.0 (t.0 e).0, leb-false _ _ (t.0 e).1)), λ h. t.1 (p.1 h.0, lt-leb _ _ h.1))
 
   -- Theorem. 9 leaves the entries as they were and the report all zeros.
-  pub room_leaves : (mend_call F report f u).answer ≡ Refused Room
-      → mend_call F report f u ≡ left (Refused Room) F.rows F.cols F.quad (cleared 0 report) (cleared zero64 f) (cleared 0 u)
+  pub room_leaves : (mend_call F report f u).answer ≡ Err Room
+      → mend_call F report f u ≡ left (Err Room) F.rows F.cols F.quad (cleared 0 report) (cleared zero64 f) (cleared 0 u)
   unfolding mend_call
-  room_leaves e = usual.later_leaves Refused _ _ _ _ same_refused done_apart Room _ (never_room F (length f) (length u)) (this_stage no_stage) e
+  room_leaves e = usual.later_leaves Err _ _ _ _ same_refused done_apart Room _ (never_room F (length f) (length u)) (this_stage no_stage) e
 
   -- Theorem. It is done exactly if the lists, the sums and both scratches are as the table asks and the report has room, and then gives the mended field's grade, the new m and the number of changes.
-  pub done_when : ((mend_call F report f u).answer ≡ Done (grade_of (mended F)) (entries (mended F)) (length (changes_of F)))
+  pub done_when : ((mend_call F report f u).answer ≡ mended_answer (grade_of (mended F)) (entries (mended F)) (length (changes_of F)))
       ↔ (Mendable F (length f) (length u) × (length (changes_of F) ≤ length report / 3))
   unfolding mend_call fits table
   done_when =
-      usual.done_when Refused _ _ _ _ same_refused done_apart
+      usual.done_when Err _ _ _ _ same_refused done_apart
       (group_is (mend_tests F (length f) (length u)) _ (mend_passes F (length f) (length u)) (last_is Room _ (le_is (length (changes_of F)) (length report / 3))))
 
   -- Theorem. 18 is given exactly if tests 1, 2 and 5 pass and some place inside the field has a sum that is not finite; dropped entries do not count, and the scratch is not asked.
-  pub sum_when : ((mend_call F report f u).answer ≡ Refused Sum) ↔ (Listed F × (Finite F × Overflow F))
+  pub sum_when : ((mend_call F report f u).answer ≡ Err Sum) ↔ (Listed F × (Finite F × Overflow F))
   unfolding mend_table mend_tests sum_tests tested
   sum_when = (
     (λ e.
@@ -128,10 +124,10 @@ module _ (F : Field) (report : List ℕ) (f : List Float) (u : List ℕ) where
   )
     where
       later : unless (floats_fit (variables F) (entries F) (length f)) Scratch
-          (unless (words_fit (variables F) (entries F) (length u)) Scratch (unless (fits F report) Room Passed)) ≡ Failed Sum → ⊥
+          (unless (words_fit (variables F) (entries F) (length u)) Scratch (unless (fits F report) Room passed)) ≡ Err Sum → ⊥
       later = go (floats_fit (variables F) (entries F) (length f)) (words_fit (variables F) (entries F) (length u)) (fits F report)
         where
-          go : (x y z : Bool) → unless x Scratch (unless y Scratch (unless z Room Passed)) ≡ Failed Sum → ⊥
+          go : (x y z : Bool) → unless x Scratch (unless y Scratch (unless z Room passed)) ≡ Err Sum → ⊥
           go true true true e = let z : ◌≡◌ {A = ℕ} 0 1 = cc in omega arith
           go true true false e = let z : ◌≡◌ {A = ℕ} 0 1 = cc in omega arith
           go true false c e = let z : ◌≡◌ {A = ℕ} 0 1 = cc in omega arith
@@ -139,16 +135,16 @@ module _ (F : Field) (report : List ℕ) (f : List Float) (u : List ℕ) where
 
 -- ---- what it leaves when done
 
-module _ (F : Field) (report : List ℕ) (f : List Float) (u : List ℕ) {g : Grade} {m changes : ℕ} (e : (mend_call F report f u).answer ≡ Done g m changes) where
+module _ (F : Field) (report : List ℕ) (f : List Float) (u : List ℕ) {g : Grade} {m changes : ℕ} (e : (mend_call F report f u).answer ≡ mended_answer g m changes) where
   -- Theorem. When it is done, entries, report and scratch are exactly these: the mended list with zeros behind it, and the changes.
   pub done_leaves : mend_call F report f u
-      ≡ left (Done (grade_of (mended F)) (entries (mended F)) (length (changes_of F))) (over (mended F).rows (cleared 0 F.rows)) (over (mended F).cols (cleared 0 F.cols))
+      ≡ left (mended_answer (grade_of (mended F)) (entries (mended F)) (length (changes_of F))) (over (mended F).rows (cleared 0 F.rows)) (over (mended F).cols (cleared 0 F.cols))
       (over (mended F).quad (cleared zero64 F.quad)) (over (numbered (changes_of F)) report) (cleared zero64 f) (cleared 0 u)
   unfolding mend_call
-  done_leaves = usual.done_leaves Refused _ _ _ _ same_refused done_apart (λ r z. done_apart r (sym e ∙ z))
+  done_leaves = usual.done_leaves Err _ _ _ _ same_refused done_apart (λ r z. done_apart r (sym e ∙ z))
 
   answer_is : (g ≡ grade_of (mended F)) × ((m ≡ entries (mended F)) × (changes ≡ length (changes_of F)))
-  answer_is = same_done (sym e ∙ ap (λ (x : Left). x.answer) done_leaves)
+  answer_is = same_mended (sym e ∙ ap (λ (x : Left). x.answer) done_leaves)
 
   ready : Mendable F (length f) (length u) × (length (changes_of F) ≤ length report / 3)
   ready = (done_when F report f u).0 (ap (λ (x : Left). x.answer) done_leaves)
@@ -170,7 +166,7 @@ module _ (F : Field) (report : List ℕ) (f : List Float) (u : List ℕ) {g : Gr
       )
 
   -- Theorem. What is left passes the tests of entries, 1, 2, 14 to 17 and 5.
-  pub accepted : tested (loose_tests (field_left F.linear m (mend_call F report f u))) ≡ Passed
+  pub accepted : tested (loose_tests (field_left F.linear m (mend_call F report f u))) ≡ passed
   accepted = rw field_is ((loose_passes (mended F)).1 (mended_loose F ready.0.listed ready.0.finite_weights.linear ready.0.finite_sums))
 
   -- Theorem. What is left has every place named inside the field, and no other.
@@ -233,12 +229,12 @@ pub input_rises : (F : Field) → InputRises (changes_of F)
 input_rises = exactly.input_rises
 
 -- A list that is in order comes back unchanged, with no change reported.
-module _ (F : Field) (report : List ℕ) (f : List Float) (u : List ℕ) {g : Grade} {m changes : ℕ} (e : (mend_call F report f u).answer ≡ Done g m changes) (S : Shaped F) where
+module _ (F : Field) (report : List ℕ) (f : List Float) (u : List ℕ) {g : Grade} {m changes : ℕ} (e : (mend_call F report f u).answer ≡ mended_answer g m changes) (S : Shaped F) where
   whole : {A : Type 0} (z : A) (l : List A) → over l (cleared z l) ≡ l
   unfolding over
   whole {A} z l = ap (λ (x : List A). l ++ x) (drop_of_length-le (cleared z l) {i = length l} (omega (arith, length-replicate (length l) z))) ∙ append-nil l
 
   -- Theorem. A list that has its shape already comes back bit for bit, with no change in the report.
-  pub good_unchanged : mend_call F report f u ≡ left (Done (grade_of F) (entries F) 0) F.rows F.cols F.quad report (cleared zero64 f) (cleared 0 u)
+  pub good_unchanged : mend_call F report f u ≡ left (mended_answer (grade_of F) (entries F) 0) F.rows F.cols F.quad report (cleared zero64 f) (cleared 0 u)
   unfolding numbered over
   good_unchanged = done_leaves F report f u e ∙ rw (good.good_unchanged F S, good.good_no_changes F S, whole 0 F.rows, whole 0 F.cols, whole zero64 F.quad)

@@ -16,7 +16,6 @@ use Rattle.scratch.specs.Region.{region}
 use Rattle.scratch.specs.Over.{over}
 use Rattle.scratch.proofs.Region.{length_region, region_at}
 use Rattle.scratch.proofs.Over.{over_front, length_over}
-use Rattle.field.specs.declared.Checked.TheVariants.{Passed, Failed}
 use Rattle.field.specs.declared.Grade.{Grade}
 use Rattle.field.specs.declared.Refusal.{Refusal}
 use Rattle.field.specs.declared.Refusal.TheVariants.{Variables, Lists, Weights, Scratch, Room, Sum}
@@ -38,9 +37,11 @@ use Rattle.mending.specs.Back.{Returnable, Returned}
 use Rattle.mending.proofs.Marks.{counts_changes, tells_changes}
 use Rattle.mending.proofs.Kept.{place_below}
 use Rattle.mending.proofs.Accepted.{mended_long, mended_loose}
-use Rattle.mend.specs.declared.Mended.TheVariants.{Done, Refused}
 use Rattle.mend.specs.Call.{sum_tests, mend_tests, Mendable, fits, left, first_of, mend_call}
 use Rattle.mend.specs.Work.{Worked, Writable, Written, Within}
+use Rattle.field.specs.Answers.{passed}
+use Rattle.std.specs.Prelude.{Err}
+use Rattle.mend.specs.Answers.{mended_answer}
 
 -- ---- the tests
 
@@ -49,7 +50,7 @@ listed_is F a b =
     let l = (lists_mean F.rows F.cols F.quad).0 b in
     record { few_variables = (few_means (variables F)).0 a; rows_long = l.0; cols_long = l.1.0; few_entries = l.1.1 }
 
-pub sum_passes : (F : Field) → (tested (sum_tests F) ≡ Passed) ↔ (Listed F × (Finite F × (sums_finite F ≡ true)))
+pub sum_passes : (F : Field) → (tested (sum_tests F) ≡ passed) ↔ (Listed F × (Finite F × (sums_finite F ≡ true)))
 unfolding sum_tests
 sum_passes F =
     let t = pass_is Variables _ _ (few_means (variables F)) (pass_is Lists _ _ (lists_mean F.rows F.cols F.quad) (pass_is Weights _ _ (finite_means F.linear F.quad) (last_is Sum (sums_finite F) ((λ e. e), λ e. e)))) in (
@@ -61,7 +62,7 @@ sum_passes F =
       λ h. t.1 (h.0.few_variables, ((h.0.rows_long, (h.0.cols_long, h.0.few_entries)), ((h.1.0.linear, h.1.0.quad), h.1.1))),
     )
 
-pub mend_passes : (F : Field) (floats words : ℕ) → (tested (mend_tests F floats words) ≡ Passed) ↔ Mendable F floats words
+pub mend_passes : (F : Field) (floats words : ℕ) → (tested (mend_tests F floats words) ≡ passed) ↔ Mendable F floats words
 unfolding mend_tests
 mend_passes F floats words =
     let t = group_is (sum_tests F) _ (sum_passes F) (pass_is Scratch _ _ (floats_mean (variables F) (entries F) floats) (last_is Scratch _ (words_mean (variables F) (entries F) words))) in (
@@ -171,11 +172,11 @@ module _ {F : Field} {kept changes : ℕ} {report : List ℕ} {f : List Float} {
 -- ---- the answer
 
 module _ (F : Field) (report : List ℕ) (f : List Float) (u : List ℕ) where
-  pub refused_call : {r : Refusal} → tested (mend_tests F (length f) (length u)) ≡ Failed r → left (Refused r) F.rows F.cols F.quad report f u ≡ mend_call F report f u
+  pub refused_call : {r : Refusal} → tested (mend_tests F (length f) (length u)) ≡ Err r → left (Err r) F.rows F.cols F.quad report f u ≡ mend_call F report f u
   unfolding mend_call
-  refused_call e = usual.refused_call Refused _ _ _ _ e
+  refused_call e = usual.refused_call Err _ _ _ _ e
 
-  module _ (p : tested (mend_tests F (length f) (length u)) ≡ Passed) {kept changes : ℕ} {f₁ : List Float} {u₁ : List ℕ} (W : Worked F kept changes f f₁ u u₁) where
+  module _ (p : tested (mend_tests F (length f) (length u)) ≡ passed) {kept changes : ℕ} {f₁ : List Float} {u₁ : List ℕ} (W : Worked F kept changes f f₁ u u₁) where
     M : Mendable F (length f) (length u)
     M = (mend_passes F (length f) (length u)).0 p
 
@@ -187,18 +188,18 @@ module _ (F : Field) (report : List ℕ) (f : List Float) (u : List ℕ) where
 
     pub room_call : length report / 3 < changes → {report' : List ℕ} {rs : ℕ} → report' ≡ replicate rs 0 → rs ≡ length report
         → {f' : List Float} {fs : ℕ} → f' ≡ replicate fs zero64 → fs ≡ length f → {u' : List ℕ} {us : ℕ} → u' ≡ replicate us 0 → us ≡ length u
-        → left (Refused Room) F.rows F.cols F.quad report' f' u' ≡ mend_call F report f u
+        → left (Err Room) F.rows F.cols F.quad report' f' u' ≡ mend_call F report f u
     unfolding mend_call fits
     room_call h er rr ef ff eu uu =
-        rw (er, rr, ef, ff, eu, uu) (usual.last_refuses Refused _ _ Room _ _ p (lt-leb (length (changes_of F)) (length report / 3) (omega (arith, count_is))))
+        rw (er, rr, ef, ff, eu, uu) (usual.last_refuses Err _ _ Room _ _ p (lt-leb (length (changes_of F)) (length report / 3) (omega (arith, count_is))))
 
     pub done_call : changes ≤ length report / 3 → {g : Grade} → g ≡ grade_of (mended F) → {rows' cols' : List ℕ} {q' : List Float} {report' : List ℕ} → Written F report rows' cols' q' report'
         → {f' : List Float} {fs : ℕ} → f' ≡ replicate fs zero64 → fs ≡ length f → {u' : List ℕ} {us : ℕ} → u' ≡ replicate us 0 → us ≡ length u
-        → left (Done g kept changes) rows' cols' q' report' f' u' ≡ mend_call F report f u
+        → left (mended_answer g kept changes) rows' cols' q' report' f' u' ≡ mend_call F report f u
     unfolding mend_call fits
     done_call h eg T ef ff eu uu =
         rw (eg, kept_are, count_is, T.rows_are, T.cols_are, T.quad_is, T.report_is, ef, ff, eu, uu)
-        (usual.last_passes Refused _ _ Room _ _ p (le-leb (length (changes_of F)) (length report / 3) (omega (arith, count_is))))
+        (usual.last_passes Err _ _ Room _ _ p (le-leb (length (changes_of F)) (length report / 3) (omega (arith, count_is))))
 
     -- the grade is that of the mended field
     module _ {rows' cols' : List ℕ} {q' : List Float} {report' : List ℕ} (T : Written F report rows' cols' q' report') where

@@ -1,10 +1,10 @@
 -- What the call `mend` answers and leaves, as one function of what it is given, for every input. Assumes nothing.
-use Rattle.std.specs.Prelude.{ℕ, ◌+◌, ◌*◌, ◌/◌, ◌≤◌, ◌≡◌, Bool, true, List, [], ◌∷◌, ◌++◌, leb, length, take, Float}
+use Rattle.std.specs.Prelude.{ℕ, ◌+◌, ◌*◌, ◌/◌, ◌≤◌, ◌≡◌, Bool, true, List, [], ◌∷◌, ◌++◌, leb, length, take, Float, Err}
 use Rattle.weights.specs.Worth.{zero64}
 use Rattle.scratch.specs.Cleared.{cleared}
 use Rattle.scratch.specs.Over.{over}
 use Rattle.field.specs.declared.Refusal.TheVariants.{Variables, Lists, Weights, Scratch, Room, Sum}
-use Rattle.field.specs.Answers.{number_of}
+use Rattle.field.specs.Answers.{Answer}
 use Rattle.field.specs.Field.{Field, field_of, variables, entries}
 use Rattle.field.specs.Faults.{Listed}
 use Rattle.field.specs.Table.{Test, test}
@@ -15,12 +15,7 @@ use Rattle.calls.specs.Call.{called, stage, usual}
 use Rattle.mending.specs.Places.{sums_finite, mended}
 use Rattle.mending.specs.Changes.{changes_of, numbered}
 use Rattle.mend.specs.declared.Mended.{Mended}
-use Rattle.mend.specs.declared.Mended.TheVariants.{Done, Refused}
-
--- The table's number of an answer of `mend`: 0 when done, else that of the refusal.
-abbrev pub mended_number : Mended → ℕ
-mended_number (Done g m changes) = 0
-mended_number (Refused r) = number_of r
+use Rattle.mend.specs.Answers.{mended_answer}
 
 -- 1, 2 and 5, then 18 where the sum at some place is not finite, each over the whole input
 unfoldable pub sum_tests : Field → List Test
@@ -67,10 +62,10 @@ lent rows cols q report f u = record { rows = rows; cols = cols; quad = q; repor
 
 -- the answer, and the six lent lists afterwards
 abbrev pub Left : Type 0
-Left = any.Left Mended Lent
+Left = any.Left (Answer Mended) Lent
 
 -- What the call `mend` leaves, made of its answer and its six lent lists.
-abbrev pub left : Mended → List ℕ → List ℕ → List Float → List ℕ → List Float → List ℕ → Left
+abbrev pub left : Answer Mended → List ℕ → List ℕ → List Float → List ℕ → List Float → List ℕ → Left
 left r rows cols q report f u = any.left r (lent rows cols q report f u)
 
 -- 1, 2, 5, 18 and 8, then room, then the mended list, with zeros behind the new m; every refusal but 9 changes nothing, and 9 leaves the
@@ -78,10 +73,10 @@ left r rows cols q report f u = any.left r (lent rows cols q report f u)
 unfoldable pub mend_call : Field → List ℕ → List Float → List ℕ → Left
 mend_call F report f u =
     called
-    (usual Refused (lent F.rows F.cols F.quad report f u) (mend_tests F (length f) (length u))
+    (usual Err (lent F.rows F.cols F.quad report f u) (mend_tests F (length f) (length u))
     (stage Room (fits F report) (lent F.rows F.cols F.quad (cleared 0 report) (cleared zero64 f) (cleared 0 u)) ∷ [])
     (left
-    (Done (grade_of (mended F)) (entries (mended F)) (length (changes_of F)))
+    (mended_answer (grade_of (mended F)) (entries (mended F)) (length (changes_of F)))
     (over (mended F).rows (cleared 0 F.rows))
     (over (mended F).cols (cleared 0 F.cols))
     (over (mended F).quad (cleared zero64 F.quad))

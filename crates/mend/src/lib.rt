@@ -10,13 +10,14 @@ ghost use Rattle.mending.specs.Lineup.{Roomy};
 ghost use Rattle.mend.specs.Work.{Worked, Writable, Written, Within};
 ghost use Rattle.mend.specs.Call.{left, first_of, sum_tests as sum_tests_of, mend_tests, mend_call};
 
-use field::{Checked, Grade, Refusal};
+use field::{Answer, FieldRef, Grade, Refusal};
 
-// What the call answers: done, with the mended field's grade, the new number of entries and the number of changes, or a refusal.
+// What the call finds: the mended field's grade, the new number of entries and the number of changes.
 #[derive(Clone, Copy)]
-pub enum Mended {
-    Done(Grade, usize, usize),
-    Refused(Refusal),
+pub struct Mended {
+    pub grade: Grade,
+    pub entries: usize,
+    pub changes: usize,
 }
 
 // How many places are kept, and how many entries are changed.
@@ -27,54 +28,50 @@ pub struct Tally {
 }
 
 // 1, 2, 5 and 18; none of them needs scratch
-fn sum_tests(c: &[f64], rows: &[u16], cols: &[u16], q: &[f64]) -> Checked
-    ensures { result ≡ tested (sum_tests_of (given c rows cols q)) }
+fn sum_tests(field: FieldRef) -> Answer<()>
+    ensures { result ≡ tested (sum_tests_of (given field)) }
 {
-    if !field::tests::few_variables(c.len()) {
-        return Checked::Failed(Refusal::Variables);
+    if !field::tests::few_variables(field.c.len()) {
+        return Err(Refusal::Variables);
     }
-    if !field::tests::lists_match(rows, cols, q) {
-        return Checked::Failed(Refusal::Lists);
+    if !field::tests::lists_match(field.rows, field.cols, field.q) {
+        return Err(Refusal::Lists);
     }
-    if !field::tests::weights_finite(c, q) {
-        return Checked::Failed(Refusal::Weights);
+    if !field::tests::weights_finite(field.c, field.q) {
+        return Err(Refusal::Weights);
     }
-    if !mending::sums::sums_finite(c, rows, cols, q) {
-        return Checked::Failed(Refusal::Sum);
+    if !mending::sums::sums_finite(field) {
+        return Err(Refusal::Sum);
     }
-    Checked::Passed
+    Ok(())
 }
 
 // These and 8
-fn tests(c: &[f64], rows: &[u16], cols: &[u16], q: &[f64], floats: usize, words: usize) -> Checked
-    ensures { result ≡ tested (mend_tests (given c rows cols q) floats words) }
+fn tests(field: FieldRef, floats: usize, words: usize) -> Answer<()>
+    ensures { result ≡ tested (mend_tests (given field) floats words) }
 {
-    let summed = sum_tests(c, rows, cols, q);
-    if let Checked::Failed(refusal) = summed {
-        return Checked::Failed(refusal);
+    sum_tests(field)?;
+    if !field::tests::floats_fit(field.c.len(), field.q.len(), floats) {
+        return Err(Refusal::Scratch);
     }
-    if !field::tests::floats_fit(c.len(), q.len(), floats) {
-        return Checked::Failed(Refusal::Scratch);
+    if !field::tests::words_fit(field.c.len(), field.q.len(), words) {
+        return Err(Refusal::Scratch);
     }
-    if !field::tests::words_fit(c.len(), q.len(), words) {
-        return Checked::Failed(Refusal::Scratch);
-    }
-    Checked::Passed
+    Ok(())
 }
 
 // Sorts, gathers and counts in scratch; nothing else is written yet.
-fn work(c: &[f64], rows: &[u16], cols: &[u16], q: &[f64], f: &mut [f64], u: &mut [u32]) -> Tally
-    requires { Roomy (lent c rows cols q) f.old u.old }
-    ensures { Worked (given c rows cols q) result.kept result.changes f.old f.new u.old u.new }
+fn work(field: FieldRef, f: &mut [f64], u: &mut [u32]) -> Tally
+    requires { Roomy (lent field) f.old u.old }
+    ensures { Worked (given field) result.kept result.changes f.old f.new u.old u.new }
 {
-    mending::lineup::line_up(c, rows, cols, q, f, u);
-    let kept = mending::gathering::gather(c, rows, cols, q, f, u);
-    let changes = mending::report::count(u, q.len());
-    Tally {
-        kept: kept,
-        changes: changes,
-    }
+    mending::lineup::line_up(field, f, u);
+    let kept = mending::gathering::gather(field, f, u);
+    let changes = mending::report::count(u, field.q.len());
+    Tally { kept, changes }
 }
+
+// The lists that are changed go from call to call apart, as in shift.
 
 // The report, and the mended entries with zeros behind them.
 fn write(
@@ -91,19 +88,24 @@ fn write(
     ensures { Written (field_of c.now rows.old cols.old q.old) report.old rows.new cols.new q.new report.new }
 {
     mending::report::put(u, q.len(), report);
-    scratch::clear_shorts(rows);
-    scratch::clear_shorts(cols);
-    scratch::clear_floats(q);
+    rows.fill(0);
+    cols.fill(0);
+    q.fill(0.0);
     mending::back::put_back(c.len(), f, u, rows, cols, q, tally.kept);
 }
 
 // The grade of the field of the first m entries.
-fn grade_first(c: &[f64], rows: &[u16], cols: &[u16], q: &[f64], m: usize) -> Grade
-    requires loose { Loose (first_of m (lent c rows cols q)) }
-    requires within { Within m (lent c rows cols q) }
-    ensures { result ≡ grade_of (first_of m (given c rows cols q)) }
+fn grade_first(field: FieldRef, m: usize) -> Grade
+    requires loose { Loose (first_of m (lent field)) }
+    requires within { Within m (lent field) }
+    ensures { result ≡ grade_of (first_of m (given field)) }
 {
-    field::grading::graded(c, &rows[..m], &cols[..m], &q[..m])
+    field::grading::graded(FieldRef {
+        c: field.c,
+        rows: &field.rows[..m],
+        cols: &field.cols[..m],
+        q: &field.q[..m],
+    })
 }
 
 // Entries outside the field are dropped, the others put in order, and repeats added in input order; the report has each change.
@@ -115,25 +117,27 @@ pub fn mend(
     report: &mut [u16],
     f: &mut [f64],
     u: &mut [u32],
-) -> Mended
+) -> Answer<Mended>
     ensures { left result rows.new cols.new q.new report.new f.new u.new ≡ mend_call (field_of c.now rows.old cols.old q.old) report.old f.old u.old }
 {
-    let checked = tests(c, rows, cols, q, f.len(), u.len());
-    if let Checked::Failed(refusal) = checked {
-        return Mended::Refused(refusal);
-    }
-    let tally = work(c, rows, cols, q, f, u);
+    let field = FieldRef { c, rows, cols, q };
+    tests(field, f.len(), u.len())?;
+    let tally = work(field, f, u);
     let kept = tally.kept;
     let changes = tally.changes;
     if changes > report.len() / 3 {
-        scratch::clear_shorts(report);
-        scratch::clear_floats(f);
-        scratch::clear_words(u);
-        return Mended::Refused(Refusal::Room);
+        report.fill(0);
+        f.fill(0.0);
+        u.fill(0);
+        return Err(Refusal::Room);
     }
     write(c, rows, cols, q, report, f, u, tally);
-    scratch::clear_floats(f);
-    scratch::clear_words(u);
-    let grade = grade_first(c, rows, cols, q, kept);
-    Mended::Done(grade, kept, changes)
+    f.fill(0.0);
+    u.fill(0);
+    let grade = grade_first(FieldRef { c, rows, cols, q }, kept);
+    Ok(Mended {
+        grade,
+        entries: kept,
+        changes,
+    })
 }

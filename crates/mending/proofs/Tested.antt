@@ -2,7 +2,7 @@
 use Prim.Native.Nat.{ℕ, zero, suc, ◌+◌, ◌<◌, ◌≤◌}
 use mathlib.Core.Path.{◌≡◌, refl, sym, ap, ◌∙◌}
 use mathlib.Core.Logic.{◌≢◌}
-use mathlib.Core.Bool.{Bool, true, false, cond, not}
+use mathlib.Core.Bool.{Bool, true, false, cond}
 use mathlib.Core.List.{List, [], ◌∷◌, ◌++◌, map, map-append}
 use native.Mathlib.Numerals.{add-one}
 use native.Mathlib.Omega.{arith}
@@ -11,68 +11,71 @@ use lib.Dec.{eqb, ltb}
 use lib.ListN.{length, get_or, length-append, length-map}
 use lib.Ieee.{Float, nan, binary64, add, le, of_bits}
 use lib.Ieee.Scale.{finite}
+use Rattle.std.specs.Prelude.{Option, Some, None}
+use Rattle.std.specs.Option.{unwrap_or}
 use Rattle.weights.specs.Worth.{zero64, magnitude}
 use Rattle.scratch.specs.All.{all_below}
 use Rattle.scratch.proofs.All.{all_means}
 use Rattle.ranking.proofs.Ordered.{Every}
 use Rattle.field.specs.Field.{Field, entries, quad_of}
 use Rattle.field.specs.Faults.{Listed}
-use Rattle.mending.specs.declared.sums.Part.{Part}
 use Rattle.mending.specs.Places.{all_places, place_of, entries_to, entries_at, added, sum_at, sums_finite, is_empty}
-use Rattle.mending.specs.Sums.{limit64, all_small, part_with, finite_at}
+use Rattle.mending.specs.Sums.{limit64, all_small, with_one, part_with, finite_at}
 use Rattle.mending.proofs.Entries.{entries_there}
 use Rattle.mending.proofs.Gathers.{added_last}
 use Rattle.mending.proofs.Adding.{AllSmall, small_sum}
 
 -- ---- the sum of a place, entry by entry
 
-abbrev pub part : Bool → Float → Part
-part b x = record { found = b; sum = x }
+-- the sum over the first k entries, none where none of them is at the place
+abbrev pub part_to : Field → ℕ → ℕ → Option Float
+part_to F p k = cond (is_empty (entries_to F p k)) None (Some (added (map (quad_of F) (entries_to F p k))))
 
--- the sum over the first k entries
-abbrev pub part_to : Field → ℕ → ℕ → Part
-part_to F p k = part (not (is_empty (entries_to F p k))) (added (map (quad_of F) (entries_to F p k)))
-
-pub part_start : (F : Field) (p : ℕ) {z : Float} → z ≡ zero64 → part false z ≡ part_to F p 0
-unfolding entries_to added
-part_start F p e = rw e
+pub part_start : (F : Field) (p : ℕ) → None ≡ part_to F p 0
+unfolding entries_to
+part_start F p = refl
 
 not_empty : (l : List ℕ) (x : ℕ) → is_empty (l ++ x ∷ []) ≡ false
 not_empty [] x = refl
 not_empty (y ∷ l) x = refl
 
-pub part_turn : (F : Field) (p k : ℕ) {s r : Part} → s ≡ part_to F p k → r ≡ part_with F p k s → r ≡ part_to F p (k + 1)
+pub part_turn : (F : Field) (p k : ℕ) {s r : Option Float} → s ≡ part_to F p k → r ≡ part_with F p k s → r ≡ part_to F p (k + 1)
 unfolding part_with entries_to
-part_turn F p k {s} {r} es er = er ∙ ap (part_with F p k) es ∙ go (eqb (place_of F k) p) (entries_to F p k) refl ∙ ap (part_to F p) (sym (add-one k))
+part_turn F p k {s} {r} es er = er ∙ ap (part_with F p k) es ∙ go (eqb (place_of F k) p) ∙ ap (part_to F p) (sym (add-one k))
   where
-    go : (b : Bool) (l : List ℕ) → entries_to F p k ≡ l
-        → cond b (part true (cond (not (is_empty (entries_to F p k))) (add binary64 (added (map (quad_of F) (entries_to F p k))) (quad_of F k)) (quad_of F k)))
-        (part (not (is_empty (entries_to F p k))) (added (map (quad_of F) (entries_to F p k))))
-        ≡ part (not (is_empty (cond b (entries_to F p k ++ k ∷ []) (entries_to F p k)))) (added (map (quad_of F) (cond b (entries_to F p k ++ k ∷ []) (entries_to F p k))))
-    go false l e = refl
-    go true l e = rw (not_empty (entries_to F p k) k, map-append (quad_of F) (entries_to F p k) (k ∷ []), added_last (map (quad_of F) (entries_to F p k)) (quad_of F k)) (same (entries_to F p k))
+    go : (b : Bool)
+        → cond b (Some (with_one (cond (is_empty (entries_to F p k)) None (Some (added (map (quad_of F) (entries_to F p k))))) (quad_of F k)))
+        (cond (is_empty (entries_to F p k)) None (Some (added (map (quad_of F) (entries_to F p k)))))
+        ≡ cond (is_empty (cond b (entries_to F p k ++ k ∷ []) (entries_to F p k))) None (Some (added (map (quad_of F) (cond b (entries_to F p k ++ k ∷ []) (entries_to F p k)))))
+    go false = refl
+    go true = rw (not_empty (entries_to F p k) k, map-append (quad_of F) (entries_to F p k) (k ∷ []), added_last (map (quad_of F) (entries_to F p k)) (quad_of F k)) (same (entries_to F p k) (added (map (quad_of F) (entries_to F p k))))
       where
-        same : (l : List ℕ)
-            → part true (cond (not (is_empty l)) (add binary64 (added (map (quad_of F) (entries_to F p k))) (quad_of F k)) (quad_of F k))
-            ≡ part true (cond (is_empty (map (quad_of F) l)) (quad_of F k) (add binary64 (added (map (quad_of F) (entries_to F p k))) (quad_of F k)))
-        same [] = refl
-        same (x ∷ l) = refl
+        same : (l : List ℕ) (y : Float)
+            → Some (with_one (cond (is_empty l) None (Some y)) (quad_of F k)) ≡ Some (cond (is_empty (map (quad_of F) l)) (quad_of F k) (add binary64 y (quad_of F k)))
+        same [] y = refl
+        same (x ∷ l) y = refl
 
-pub part_done : (F : Field) (p k : ℕ) {s : Part} → s ≡ part_to F p k → k ≡ entries F → s.sum ≡ sum_at F p
+total : (F : Field) (l : List ℕ) → unwrap_or (cond (is_empty l) None (Some (added (map (quad_of F) l)))) zero64 ≡ added (map (quad_of F) l)
+unfolding added
+total F [] = refl
+total F (x ∷ l) = refl
+
+pub part_done : (F : Field) (p k : ℕ) {s : Option Float} → s ≡ part_to F p k → k ≡ entries F → unwrap_or s zero64 ≡ sum_at F p
 unfolding sum_at
-part_done F p k e h = ap (λ (s : Part). s.sum) e ∙ ap (λ (i : ℕ). added (map (quad_of F) (entries_to F p i))) h
+part_done F p k e h =
+    ap (λ (s : Option Float). unwrap_or s zero64) e ∙ total F (entries_to F p k) ∙ ap (λ (i : ℕ). added (map (quad_of F) (entries_to F p i))) h
 
 -- one entry, as the code tests it
-module _ (F : Field) (p k : ℕ) (s : Part) where
+module _ (F : Field) (p k : ℕ) {s : Option Float} where
   pub part_other : place_of F k ≢ p → s ≡ part_with F p k s
   unfolding part_with
   part_other n = rw (ne_eqb (place_of F k) p n)
 
-  pub part_more : place_of F k ≡ p → s.found ≡ true → part true (add binary64 s.sum (quad_of F k)) ≡ part_with F p k s
+  pub part_more : place_of F k ≡ p → {y : Float} → s ≡ Some y → Some (add binary64 y (quad_of F k)) ≡ part_with F p k s
   unfolding part_with
   part_more e h = rw (eq-eqb (place_of F k) p e, h)
 
-  pub part_first : place_of F k ≡ p → s.found ≡ false → part true (quad_of F k) ≡ part_with F p k s
+  pub part_first : place_of F k ≡ p → s ≡ None → Some (quad_of F k) ≡ part_with F p k s
   unfolding part_with
   part_first e h = rw (eq-eqb (place_of F k) p e, h)
 

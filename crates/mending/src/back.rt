@@ -16,7 +16,7 @@ pub fn put_back(
 {
     let m = q.len();
     for t in 0..o {
-        let p = scratch::wide_word(u[m + t]);
+        let p = u[m + t] as usize;
         rows[t] = (p % n) as u16;
         cols[t] = (p / n) as u16;
         q[t] = f[m + t];

@@ -4,15 +4,17 @@ ghost use Rattle.field.specs.Field.{given, lent, entries};
 ghost use Rattle.field.specs.Faults.{Listed};
 ghost use Rattle.mending.specs.Places.{place_of};
 
+use field::FieldRef;
+
 // By column, then row; n * n where the entry lies outside the field.
-pub fn place_at(c: &[f64], rows: &[u16], cols: &[u16], q: &[f64], k: usize) -> usize
-    requires listed { Listed (lent c rows cols q) }
-    requires k_bound { k < entries (lent c rows cols q) }
-    ensures { result ≡ place_of (given c rows cols q) k }
+pub fn place_at(field: FieldRef, k: usize) -> usize
+    requires listed { Listed (lent field) }
+    requires k_bound { k < entries (lent field) }
+    ensures { result ≡ place_of (given field) k }
 {
-    let n = c.len();
-    let row = scratch::wide_short(rows[k]);
-    let col = scratch::wide_short(cols[k]);
+    let n = field.c.len();
+    let row = usize::from(field.rows[k]);
+    let col = usize::from(field.cols[k]);
     if row >= n {
         return n * n;
     }

@@ -9,11 +9,7 @@ fn step(mark: u32, k: usize) -> usize
     ensures value { result ≡ step_of mark k }
     ensures upper_bound { result ≤ 1 }
 {
-    if scratch::wide_word(mark) == 65536 + k {
-        0
-    } else {
-        1
-    }
+    if mark as usize == 65536 + k { 0 } else { 1 }
 }
 
 // How many of the m entries are changed, whose marks stand from word 2m on.
@@ -34,7 +30,7 @@ fn put_change(report: &mut [u16], at: usize, k: usize, mark: u32) -> usize
     requires { Puttable at k mark report.old }
     ensures { Puts at result (told_by mark k) report.old report.new }
 {
-    let wide = scratch::wide_word(mark);
+    let wide = mark as usize;
     if wide == 65536 + k {
         return at;
     }

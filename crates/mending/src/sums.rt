@@ -7,13 +7,7 @@ ghost use Rattle.mending.specs.Places.{sum_at, sums_finite as sums_finite_of};
 ghost use Rattle.mending.specs.Sums.{all_small as all_small_of, part_with as part_with_of, finite_at as finite_at_of};
 
 use crate::places::place_at;
-
-// The sum of a place over some first entries, and whether any of them is there.
-#[derive(Clone, Copy)]
-pub struct Part {
-    pub found: bool,
-    pub sum: f64,
-}
+use field::FieldRef;
 
 // Whether no weight is above 2^1008 in size: 32,768 of them add up to a finite sum.
 fn all_small(q: &[f64]) -> bool
@@ -21,91 +15,72 @@ fn all_small(q: &[f64]) -> bool
 {
     let limit = f64::from_bits(0x7ef0_0000_0000_0000);
     let mut small = true;
-    for k in 0..q.len() {
-        small = small & (weights::magnitude(q[k]) <= limit);
+    for &w in q {
+        small = small & (weights::magnitude(w) <= limit);
     }
     small
 }
 
-// One entry more.
-fn part_with(
-    c: &[f64],
-    rows: &[u16],
-    cols: &[u16],
-    q: &[f64],
-    p: usize,
-    k: usize,
-    part: Part,
-) -> Part
-    requires listed { Listed (lent c rows cols q) }
-    requires k_bound { k < entries (lent c rows cols q) }
-    ensures { result ≡ part_with_of (given c rows cols q) p k part }
+// The sum of a place over some first entries, none where none of them is there, with entry k.
+fn part_with(field: FieldRef, p: usize, k: usize, part: Option<f64>) -> Option<f64>
+    requires listed { Listed (lent field) }
+    requires k_bound { k < entries (lent field) }
+    ensures { result ≡ part_with_of (given field) p k part }
 {
-    if place_at(c, rows, cols, q, k) != p {
+    if place_at(field, k) != p {
         return part;
     }
-    if part.found {
-        return Part {
-            found: true,
-            sum: part.sum + q[k],
-        };
-    }
-    Part {
-        found: true,
-        sum: q[k],
+    match part {
+        Some(sum) => Some(sum + field.q[k]),
+        None => Some(field.q[k]),
     }
 }
 
 // The sum at place p, from the first weight on.
-fn sum_at(c: &[f64], rows: &[u16], cols: &[u16], q: &[f64], p: usize) -> f64
-    requires { Listed (lent c rows cols q) }
-    ensures { result ≡ sum_at (given c rows cols q) p }
+fn sum_at(field: FieldRef, p: usize) -> f64
+    requires { Listed (lent field) }
+    ensures { result ≡ sum_at (given field) p }
 {
-    let mut part = Part {
-        found: false,
-        sum: 0.0,
-    };
-    for k in 0..q.len() {
-        part = part_with(c, rows, cols, q, p, k, part);
+    let mut part: Option<f64> = None;
+    for k in 0..field.q.len() {
+        part = part_with(field, p, k, part);
     }
-    part.sum
+    part.unwrap_or(0.0)
 }
 
 // Whether entry k lies outside the field or its place has a finite sum.
-fn finite_at(c: &[f64], rows: &[u16], cols: &[u16], q: &[f64], k: usize) -> bool
-    requires listed { Listed (lent c rows cols q) }
-    requires k_bound { k < entries (lent c rows cols q) }
-    ensures { result ≡ finite_at_of (given c rows cols q) k }
+fn finite_at(field: FieldRef, k: usize) -> bool
+    requires listed { Listed (lent field) }
+    requires k_bound { k < entries (lent field) }
+    ensures { result ≡ finite_at_of (given field) k }
 {
-    let p = place_at(c, rows, cols, q, k);
-    if p >= c.len() * c.len() {
+    let p = place_at(field, k);
+    if p >= field.c.len() * field.c.len() {
         return true;
     }
-    weights::is_finite(sum_at(c, rows, cols, q, p))
+    weights::is_finite(sum_at(field, p))
 }
 
 // Entry by entry: m * m steps.
-fn each_finite(c: &[f64], rows: &[u16], cols: &[u16], q: &[f64]) -> bool
-    requires { Listed (lent c rows cols q) }
-    ensures { result ≡ all_below (finite_at_of (given c rows cols q)) (entries (given c rows cols q)) }
+fn each_finite(field: FieldRef) -> bool
+    requires { Listed (lent field) }
+    ensures { result ≡ all_below (finite_at_of (given field)) (entries (given field)) }
 {
-    let mut k: usize = 0;
-    while k < q.len() {
-        if !finite_at(c, rows, cols, q, k) {
+    for k in 0..field.q.len() {
+        if !finite_at(field, k) {
             return false;
         }
-        k += 1;
     }
     true
 }
 
 // One pass, unless the weights are near the largest that f64 has.
-pub fn sums_finite(c: &[f64], rows: &[u16], cols: &[u16], q: &[f64]) -> bool
-    requires { Listed (lent c rows cols q) }
-    ensures { result ≡ sums_finite_of (given c rows cols q) }
+pub fn sums_finite(field: FieldRef) -> bool
+    requires { Listed (lent field) }
+    ensures { result ≡ sums_finite_of (given field) }
 {
-    if all_small(q) {
+    if all_small(field.q) {
         return true;
     }
-    each_finite(c, rows, cols, q)
+    each_finite(field)
 }

@@ -92,20 +92,6 @@ pub record Starting (c : List Float) (f₀ f : List Float) (j : ℕ) : Type 0 wh
   pub long : length f ≡ length f₀
   pub parts : PartsAre (length c) (λ i. get_or c i nan) (λ i. magnitude (get_or c i nan)) f j
 
-pub starting : {c f : List Float} → length c + length c ≤ length f → Starting c f f 0
-starting {c} {f} room = record { within = omega arith; long = refl; parts = parts_none f room }
-
-pub starting_turn : {c f₀ f : List Float} {j : ℕ} {y : Float} → Starting c f₀ f j → j < length c → y ≡ magnitude (get_or c j nan)
-    → Starting c f₀ (set (set f j (get_or c j nan)) (length c + j) y) (j + 1)
-starting_turn {c} {f₀} {f} {j} {y} S l e = record {
-  within = omega arith;
-  long = stored_long f (length c) j (get_or c j nan) y S.parts.room l ∙ S.long;
-  parts = parts_put S.parts l refl e refl;
-}
-
-pub starting_done : {c f₀ f : List Float} {j : ℕ} → Starting c f₀ f j → length c ≤ j → PartsAre (length c) (λ i. get_or c i nan) (λ i. magnitude (get_or c i nan)) f (length c)
-starting_done {c} {f₀} {f} {j} S l = let e : j ≡ length c = omega (arith, S.within) in rw e at S.parts
-
 -- k entries are behind the pass
 pub record Passing (F : Field) (s : List ℕ) (f₀ f : List Float) (k : ℕ) : Type 0 where
   pub ready : Fillable F s f₀
@@ -118,14 +104,8 @@ module _ {F : Field} {s : List ℕ} where
   passing ready P = record { ready = ready; within = omega arith; long = refl; parts = P }
 
   module _ {f₀ f : List Float} {k : ℕ} (S : Passing F s f₀ f k) where
-    pub passing_ready : Fillable F s f
-    passing_ready = fillable_after F s S.ready S.long
-
     pub passing_turn : {f₁ : List Float} → k < entries F → f₁ ≡ add_both F s f k → length f₁ ≡ length f → Passing F s f₀ f₁ (k + 1)
     passing_turn l e q = record { ready = S.ready; within = omega arith; long = q ∙ S.long; parts = parted_turn F s S.ready S.parts l e }
-
-    pub passing_done : entries F ≤ k → Parted F s f (entries F)
-    passing_done l = let e : k ≡ entries F = omega (arith, S.within) in rw e at S.parts
 
 -- the parts at c and |c| are the model's after no entry
 pub parted_start : {F : Field} {s : List ℕ} {f₀ f : List Float} → Fillable F s f₀ → length f ≡ length f₀

@@ -1,9 +1,8 @@
 -- What the call `no_effect` answers and leaves, as one function of what it is given, for every input. Assumes nothing.
-use Rattle.std.specs.Prelude.{ℕ, ◌+◌, ◌*◌, ◌≤◌, Bool, List, [], ◌∷◌, ◌++◌, leb, length, get_or}
+use Rattle.std.specs.Prelude.{ℕ, ◌+◌, ◌*◌, ◌≤◌, Bool, List, [], ◌∷◌, ◌++◌, leb, length, get_or, Err}
 use Rattle.scratch.specs.Cleared.{cleared}
 use Rattle.scratch.specs.Over.{over}
 use Rattle.field.specs.declared.Counted.{Counted}
-use Rattle.field.specs.declared.Counted.TheVariants.{Counts, Refuses}
 use Rattle.field.specs.declared.Refusal.TheVariants.{Scratch, Room}
 use Rattle.field.specs.Field.{Field, variables, entries}
 use Rattle.field.specs.Table.{Test, test}
@@ -12,6 +11,7 @@ use Rattle.field.specs.Grade.{grade_of}
 use Rattle.calls.specs.Call as any
 use Rattle.calls.specs.Call.{called, stage, usual}
 use Rattle.no_effect.specs.Effect.{no_effect}
+use Rattle.field.specs.Answers.{Answer, counted_answer}
 
 -- What is lent to `no_effect`: the list of variables and the words.
 pub record Lent : Type 0 where
@@ -24,10 +24,10 @@ lent l u = record { list = l; words = u }
 
 -- The answer of `no_effect`, and its two lent lists afterwards.
 abbrev pub Left : Type 0
-Left = any.Left Counted Lent
+Left = any.Left (Answer Counted) Lent
 
 -- What the call `no_effect` leaves, made of its answer and its two lent lists.
-abbrev pub left : Counted → List ℕ → List ℕ → Left
+abbrev pub left : Answer Counted → List ℕ → List ℕ → Left
 left r l u = any.left r (lent l u)
 
 -- 1, 2, 14 to 17, and 5, and 8 of the u32 scratch alone, since there is no f64 scratch.
@@ -52,8 +52,8 @@ no_effect_tests F l words = word_tests F words ++ test Room (fits F l) ∷ []
 unfoldable pub no_effect_call : Field → List ℕ → List ℕ → Left
 no_effect_call F l u =
     called
-    (usual Refuses (lent l u) (word_tests F (length u)) (stage Room (fits F l) (lent (cleared 0 l) (cleared 0 u)) ∷ [])
-    (left (Counts (grade_of F) (length (no_effect F))) (over (no_effect F) l) (cleared 0 u)))
+    (usual Err (lent l u) (word_tests F (length u)) (stage Room (fits F l) (lent (cleared 0 l) (cleared 0 u)) ∷ [])
+    (left (counted_answer (grade_of F) (length (no_effect F))) (over (no_effect F) l) (cleared 0 u)))
 
 -- Item t of the list that `no_effect` leaves.
 abbrev pub item : Field → List ℕ → List ℕ → ℕ → ℕ

@@ -11,53 +11,40 @@ ghost use Rattle.no_effect.specs.Putting.{putting};
 ghost use Rattle.no_effect.specs.Effect.{found};
 ghost use Rattle.no_effect.specs.Call.{left, word_tests, no_effect_call};
 
-use field::{Checked, Counted, Refusal};
+use field::{Answer, Counted, FieldRef, Refusal};
 
 // 1, 2, 14 to 17 and 5, and 8 of the u32 scratch
-fn tests(c: &[f64], rows: &[u16], cols: &[u16], q: &[f64], words: usize) -> Checked
-    ensures { result ≡ tested (word_tests (given c rows cols q) words) }
+fn tests(field: FieldRef, words: usize) -> Answer<()>
+    ensures { result ≡ tested (word_tests (given field) words) }
 {
-    let loose = field::tests::loose(c, rows, cols, q);
-    if let Checked::Failed(refusal) = loose {
-        return Checked::Failed(refusal);
+    field::tests::loose(field)?;
+    if !field::tests::words_fit(field.c.len(), field.q.len(), words) {
+        return Err(Refusal::Scratch);
     }
-    if !field::tests::words_fit(c.len(), q.len(), words) {
-        return Checked::Failed(Refusal::Scratch);
-    }
-    Checked::Passed
+    Ok(())
 }
 
 // Puts the variables of no effect at the list's front, as far as it has places, and hands back how many there are.
-fn find(c: &[f64], rows: &[u16], cols: &[u16], q: &[f64], list: &mut [u16], u: &mut [u32]) -> usize
-    requires shaped { Shaped (lent c rows cols q) }
-    requires q_in_bounds { variables (lent c rows cols q) ≤ length u.old }
-    ensures { putting list.new result ≡ found (given c rows cols q) list.old }
+fn find(field: FieldRef, list: &mut [u16], u: &mut [u32]) -> usize
+    requires shaped { Shaped (lent field) }
+    requires q_in_bounds { variables (lent field) ≤ length u.old }
+    ensures { putting list.new result ≡ found (given field) list.old }
 {
-    marks::mark_ends(u, rows, cols, c.len());
-    putting::put_all(c, u, list)
+    marks::mark_ends(u, field.rows, field.cols, field.c.len());
+    putting::put_all(field.c, u, list)
 }
 
 // The variables with no entry and c = 0, rising, at the front of the list, and how many they are.
-pub fn no_effect(
-    c: &[f64],
-    rows: &[u16],
-    cols: &[u16],
-    q: &[f64],
-    list: &mut [u16],
-    u: &mut [u32],
-) -> Counted
-    ensures { left result list.new u.new ≡ no_effect_call (given c rows cols q) list.old u.old }
+pub fn no_effect(field: FieldRef, list: &mut [u16], u: &mut [u32]) -> Answer<Counted>
+    ensures { left result list.new u.new ≡ no_effect_call (given field) list.old u.old }
 {
-    let checked = tests(c, rows, cols, q, u.len());
-    if let Checked::Failed(refusal) = checked {
-        return Counted::Refuses(refusal);
-    }
-    let grade = field::grading::graded(c, rows, cols, q);
-    let count = find(c, rows, cols, q, list, u);
-    scratch::clear_words(u);
+    tests(field, u.len())?;
+    let grade = field::grading::graded(field);
+    let count = find(field, list, u);
+    u.fill(0);
     if count > list.len() {
-        scratch::clear_shorts(list);
-        return Counted::Refuses(Refusal::Room);
+        list.fill(0);
+        return Err(Refusal::Room);
     }
-    Counted::Counts(grade, count)
+    Ok(Counted { grade, count })
 }

@@ -11,8 +11,8 @@ fn mark(u: &mut [u32], rows: &[u16], cols: &[u16], n: usize)
     ensures { Marked n rows.now cols.now u.old u.new }
 {
     for k in 0..rows.len() {
-        let r = scratch::wide_short(rows[k]);
-        let c = scratch::wide_short(cols[k]);
+        let r = usize::from(rows[k]);
+        let c = usize::from(cols[k]);
         u[r] = 1;
         u[c] = 1;
     }
@@ -24,6 +24,6 @@ pub fn mark_ends(u: &mut [u32], rows: &[u16], cols: &[u16], n: usize)
     requires n_in_bounds { n ≤ length u.old }
     ensures { Marked n rows.now cols.now u.old u.new }
 {
-    scratch::clear_words(&mut u[..n]);
+    u[..n].fill(0);
     mark(u, rows, cols, n);
 }

@@ -8,16 +8,12 @@ fn put_at(c: &[f64], u: &[u32], list: &mut [u16], i: usize, count: usize) -> usi
     requires { Puttable (length c.now) (length u.now) i count }
     ensures { putting list.new result ≡ put_at (idle c.now u.now i) i (putting list.old count) }
 {
-    if u[i] != 0 {
+    if u[i] != 0 || c[i] != 0.0 {
         return count;
     }
-    if c[i] != 0.0 {
-        return count;
+    if count < list.len() {
+        list[count] = i as u16;
     }
-    if count >= list.len() {
-        return count + 1;
-    }
-    list[count] = i as u16;
     count + 1
 }
 

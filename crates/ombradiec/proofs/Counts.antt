@@ -1,13 +1,10 @@
 -- Every count that a call answers has room in its number; a refusal's count is its position. Assumes nothing.
 use Prim.Native.Nat.{ℕ, zero, suc, ◌≤◌, ◌<◌}
-use mathlib.Core.Path.{◌≡◌, ap, ◌∙◌}
 use mathlib.Core.Bool.{Bool, true, false, cond}
 use mathlib.Core.List.{List, [], ◌∷◌}
 use native.Mathlib.Omega.{arith}
 use lib.ListN.{length, length-append, length-take}
 use lib.Ieee.{Float}
-use Rattle.field.specs.declared.Counted.{Counted}
-use Rattle.field.specs.declared.Counted.TheVariants.{Refuses}
 use Rattle.field.specs.Field.{Field, variables, entries}
 use Rattle.field.specs.Tests.{loose_tests, open_tests, ready_tests}
 use Rattle.field.proofs.Means.{loose_passes, admitted_passes, ready_passes}
@@ -23,32 +20,25 @@ use Rattle.no_effect.proofs.Laws.{word_passes}
 use Rattle.shift.specs.Closing.{kept_at, closed, closed_to}
 use Rattle.shift.specs.Call as shifting
 use Rattle.shift.proofs.Picked.{picked_few}
-use Rattle.sub_problem.specs.declared.Reduced.{Reduced}
-use Rattle.sub_problem.specs.declared.Reduced.TheVariants as reduced
 use Rattle.sub_problem.specs.Reduced.{stays_at}
 use Rattle.sub_problem.specs.Call as reducing
 use Rattle.sub_problem.proofs.Numbering.{back_few}
 use Rattle.mending.proofs.Marks.{places_few}
 use Rattle.mending.proofs.Accepted.{mended_long}
-use Rattle.mend.specs.declared.Mended.{Mended}
-use Rattle.mend.specs.declared.Mended.TheVariants as mended
 use Rattle.mend.specs.Call as mending
 use Rattle.mend.proofs.Laws.{mend_passes, changes_few}
 use Rattle.anchors.specs.Model.{new_at, anchor_at, anchors_to, anchors_of}
 use Rattle.anchors.specs.Call as anchoring
 use Rattle.anchors.proofs.Searching.{new_few}
-use Rattle.pairs.specs.declared.Paired.{Paired}
-use Rattle.pairs.specs.declared.Paired.TheVariants.{Refused}
 use Rattle.pairs.specs.Listing.{examined, free_pairs, allowed, found}
 use Rattle.pairs.specs.Call as pairing
 use Rattle.pairs.proofs.ListLaws.{few_found}
-use Rattle.reason.specs.declared.Reasoned.{Reasoned}
-use Rattle.reason.specs.declared.Reasoned.TheVariants as reasoned
 use Rattle.reason.specs.Call as reasoning
 use Rattle.reason.proofs.Laws.{list_few, unit_few}
-use Rattle.packing.specs.Layout.{count_of, paired_count, pairs_examined, reasoned_count, reasoned_unit, bound_after, new_entries, new_variables, constant_after, mended_entries, mended_changes}
+use Rattle.packing.specs.Layout.{count_of}
 use Rattle.ombradiec.specs.Reading.{Few, FewListed, FewLeft, FewMended}
 use Rattle.ombradiec.proofs.Positions.{word_near, mend_near}
+use Rattle.std.specs.Prelude.{Err}
 
 -- ---- closure: at most n
 
@@ -57,12 +47,9 @@ module _ (F : Field) (s : List ℕ) (f : List Float) (u : List ℕ) where
   pub closure_fits : count_of (closing.closure_call F s f u).answer < 0x1000_0000
   unfolding values_by
   closure_fits =
-      answer_has Refuses _ (ready_tests F s (length f) (length u)) [] _ (λ a. count_of a < 0x1000_0000) (λ r e. omega (arith, ready_near F s (length f) (length u) r e)) tt (λ e.
+      answer_has Err _ (ready_tests F s (length f) (length u)) [] _ (λ a. count_of a < 0x1000_0000) (λ r e. omega (arith, ready_near F s (length f) (length u) r e)) tt (λ e.
       let ready = ((ready_passes F s (length f) (length u)).0 e).sound in
       omega (arith, ready.shaped.few_variables, count_few F ready.start))
-
-  pub closure_few : {a : Counted} {s' : List ℕ} {f' : List Float} {u' : List ℕ} → closing.left a s' f' u' ≡ closing.closure_call F s f u → count_of a < 0x1000_0000
-  closure_few e = omega (arith, closure_fits, ap (λ (x : closing.Left). count_of x.answer) e)
 
 -- ---- no_effect: at most n
 
@@ -79,12 +66,8 @@ chosen_few p i (suc k) = go (p i) (chosen_few p (suc i) k)
 pub no_effect_fits : (F : Field) (l u : List ℕ) → count_of (effectless.no_effect_call F l u).answer < 0x1000_0000
 unfolding effectless.no_effect_call no_effect
 no_effect_fits F l u =
-    answer_has Refuses _ (effectless.word_tests F (length u)) _ _ (λ a. count_of a < 0x1000_0000) (λ r e. omega (arith, word_near F (length u) r e)) (omega arith, tt) (λ e.
+    answer_has Err _ (effectless.word_tests F (length u)) _ _ (λ a. count_of a < 0x1000_0000) (λ r e. omega (arith, word_near F (length u) r e)) (omega arith, tt) (λ e.
     omega (arith, ((word_passes F (length u)).0 e).loose.shaped.few_variables, chosen_few (has_no_effect F) 0 (variables F)))
-
--- the answer of a call is the one in what it leaves
-pub no_effect_few : (F : Field) (l u : List ℕ) {a : Counted} {l' u' : List ℕ} → effectless.left a l' u' ≡ effectless.no_effect_call F l u → count_of a < 0x1000_0000
-no_effect_few F l u e = omega (arith, no_effect_fits F l u, ap (λ (x : effectless.Left). count_of x.answer) e)
 
 -- ---- shift: at most m
 
@@ -92,10 +75,7 @@ no_effect_few F l u e = omega (arith, no_effect_fits F l u, ap (λ (x : effectle
 pub shift_fits : (F : Field) → count_of (shifting.shift_call F).answer < 0x1000_0000
 unfolding shifting.shift_call closed closed_to
 shift_fits F =
-    answer_has Refuses F (loose_tests F) [] _ (λ a. count_of a < 0x1000_0000) (λ r e. omega (arith, loose_near F r e)) tt (λ e. omega (arith, picked_few (kept_at F) (entries F), ((loose_passes F).0 e).shaped.few_entries))
-
-pub shift_few : (F : Field) {a : Counted} {G : Field} → shifting.left a G ≡ shifting.shift_call F → count_of a < 0x1000_0000
-shift_few F e = omega (arith, shift_fits F, ap (λ (x : shifting.Left). count_of x.answer) e)
+    answer_has Err F (loose_tests F) [] _ (λ a. count_of a < 0x1000_0000) (λ r e. omega (arith, loose_near F r e)) tt (λ e. omega (arith, picked_few (kept_at F) (entries F), ((loose_passes F).0 e).shaped.few_entries))
 
 -- ---- sub_problem: at most m entries and n variables
 
@@ -104,24 +84,13 @@ module _ (F : Field) (s l : List ℕ) (f : List Float) (u : List ℕ) where
   pub sub_problem_fits : FewLeft (reducing.sub_problem_call F s l f u).answer
   unfolding reducing.sub_problem_call reducing.finished
   sub_problem_fits =
-      answer_has reduced.Refused _ (open_tests F s (length f) (length u)) _ _ FewLeft
-      (λ r e. record { entries = omega (arith, open_near F s (length f) (length u) r e); variables = omega arith }) (record { entries = omega arith; variables = omega arith }, tt) (λ e.
+      answer_has Err _ (open_tests F s (length f) (length u)) _ _ FewLeft
+      (λ r e. record { count = omega (arith, open_near F s (length f) (length u) r e); more = omega arith }) (record { count = omega arith; more = omega arith }, tt) (λ e.
       let admitted = (admitted_passes F s (length f) (length u)).0 e in
       record {
-        entries = omega (arith, picked_few (stays_at F s) (entries F), admitted.shaped.few_entries);
-        variables = omega (arith, back_few s, admitted.start.long, admitted.shaped.few_variables);
+        count = omega (arith, picked_few (stays_at F s) (entries F), admitted.shaped.few_entries);
+        more = omega (arith, back_few s, admitted.start.long, admitted.shaped.few_variables);
       })
-
-  pub sub_problem_few : {a : Reduced} {G : Field} {l' : List ℕ} {f' : List Float} {u' : List ℕ} → reducing.left a G l' f' u' ≡ reducing.sub_problem_call F s l f u → FewLeft a
-  sub_problem_few e = record {
-    entries = omega (arith, sub_problem_fits.entries, ap (λ (x : reducing.Left). new_entries x.answer) e);
-    variables = omega (arith, sub_problem_fits.variables, ap (λ (x : reducing.Left). new_variables x.answer) e);
-  }
-
-  -- the constant that is given beside the number
-  pub constant_is : {a : Reduced} {G : Field} {l' : List ℕ} {f' : List Float} {u' : List ℕ} (x : Float) {y : Float} → reducing.left a G l' f' u' ≡ reducing.sub_problem_call F s l f u
-      → y ≡ constant_after a x → y ≡ constant_after (reducing.sub_problem_call F s l f u).answer x
-  constant_is x e p = p ∙ ap (λ (z : reducing.Left). constant_after z.answer x) e
 
 -- ---- mend: at most m entries and m changes
 
@@ -130,20 +99,13 @@ module _ (F : Field) (report : List ℕ) (f : List Float) (u : List ℕ) where
   pub mend_fits : FewMended (mending.mend_call F report f u).answer
   unfolding mending.mend_call
   mend_fits =
-      answer_has mended.Refused _ (mending.mend_tests F (length f) (length u)) _ _ FewMended
-      (λ r e. record { entries = omega (arith, mend_near F (length f) (length u) r e); changes = omega arith }) (record { entries = omega arith; changes = omega arith }, tt) (λ e.
+      answer_has Err _ (mending.mend_tests F (length f) (length u)) _ _ FewMended
+      (λ r e. record { count = omega (arith, mend_near F (length f) (length u) r e); more = omega arith }) (record { count = omega arith; more = omega arith }, tt) (λ e.
       let M = (mend_passes F (length f) (length u)).0 e in
       record {
-        entries = omega (arith, mended_long F, places_few F, M.listed.few_entries);
-        changes = omega (arith, changes_few F, M.listed.few_entries);
+        count = omega (arith, mended_long F, places_few F, M.listed.few_entries);
+        more = omega (arith, changes_few F, M.listed.few_entries);
       })
-
-  pub mend_few : {a : Mended} {rows' cols' : List ℕ} {q' : List Float} {report' : List ℕ} {f' : List Float} {u' : List ℕ}
-      → mending.left a rows' cols' q' report' f' u' ≡ mending.mend_call F report f u → FewMended a
-  mend_few e = record {
-    entries = omega (arith, mend_fits.entries, ap (λ (x : mending.Left). mended_entries x.answer) e);
-    changes = omega (arith, mend_fits.changes, ap (λ (x : mending.Left). mended_changes x.answer) e);
-  }
 
 -- ---- anchors: at most one from each start
 
@@ -159,11 +121,8 @@ module _ (F : Field) (s : List ℕ) (least : ℕ) (list : List ℕ) (f : List Fl
   pub anchors_fit : count_of (anchoring.anchors_call F s least list f u).answer < 0x1000_0000
   unfolding anchoring.anchors_call anchors_of
   anchors_fit =
-      answer_has Refuses _ (open_tests F s (length f) (length u)) _ _ (λ a. count_of a < 0x1000_0000) (λ r e. omega (arith, open_near F s (length f) (length u) r e)) (omega arith, tt) (λ e.
+      answer_has Err _ (open_tests F s (length f) (length u)) _ _ (λ a. count_of a < 0x1000_0000) (λ r e. omega (arith, open_near F s (length f) (length u) r e)) (omega arith, tt) (λ e.
       omega (arith, ((admitted_passes F s (length f) (length u)).0 e).shaped.few_variables, anchors_within F s least (variables F)))
-
-  pub anchors_few : {a : Counted} {l' : List ℕ} {f' : List Float} {u' : List ℕ} → anchoring.left a l' f' u' ≡ anchoring.anchors_call F s least list f u → count_of a < 0x1000_0000
-  anchors_few e = omega (arith, anchors_fit, ap (λ (x : anchoring.Left). count_of x.answer) e)
 
 -- ---- pairs: at most 250,000, and one record of each
 
@@ -179,15 +138,9 @@ module _ (F : Field) (s : List ℕ) (limit : ℕ) (l : List ℕ) (f : List Float
   pub pairs_fit : Few (pairing.pairs_call F s limit l f u).answer
   unfolding pairing.pairs_call
   pairs_fit =
-      answer_has Refused _ (ready_tests F s (length f) (length u)) _ _ Few
-      (λ r e. record { count = omega (arith, ready_near F s (length f) (length u) r e); pairs = omega arith }) (record { count = omega arith; pairs = omega arith }, tt) (λ e.
-      record { count = omega (arith, found_few F s limit); pairs = omega (arith, examined_few limit s) })
-
-  pub pairs_few : {a : Paired} {l' : List ℕ} {f' : List Float} {u' : List ℕ} → pairing.left a l' f' u' ≡ pairing.pairs_call F s limit l f u → Few a
-  pairs_few e = record {
-    count = omega (arith, pairs_fit.count, ap (λ (x : pairing.Left). paired_count x.answer) e);
-    pairs = omega (arith, pairs_fit.pairs, ap (λ (x : pairing.Left). pairs_examined x.answer) e);
-  }
+      answer_has Err _ (ready_tests F s (length f) (length u)) _ _ Few
+      (λ r e. record { count = omega (arith, ready_near F s (length f) (length u) r e); more = omega arith }) (record { count = omega arith; more = omega arith }, tt) (λ e.
+      record { count = omega (arith, found_few F s limit); more = omega (arith, examined_few limit s) })
 
 -- ---- reason: at most n, and a unit of the 41
 
@@ -196,18 +149,7 @@ module _ (F : Field) (s : List ℕ) (i : ℕ) (l : List ℕ) (f : List Float) (u
   pub reason_fits : FewListed (reasoning.reason_call F s i l f u).answer
   unfolding reasoning.reason_call
   reason_fits =
-      answer_has reasoned.Refuses _ (ready_tests F s (length f) (length u)) _ _ FewListed
+      answer_has Err _ (ready_tests F s (length f) (length u)) _ _ FewListed
       (λ r e. record { count = omega (arith, ready_near F s (length f) (length u) r e); unit = omega arith })
       (record { count = omega arith; unit = omega arith }, (record { count = omega arith; unit = omega arith }, (record { count = omega arith; unit = omega arith }, tt))) (λ e.
       record { count = omega (arith, ((ready_passes F s (length f) (length u)).0 e).sound.shaped.few_variables, list_few F s i); unit = omega (arith, unit_few F) })
-
-  pub reason_few : {a : Reasoned} {l' : List ℕ} {f' : List Float} {u' : List ℕ} → reasoning.left a l' f' u' ≡ reasoning.reason_call F s i l f u → FewListed a
-  reason_few e = record {
-    count = omega (arith, reason_fits.count, ap (λ (x : reasoning.Left). reasoned_count x.answer) e);
-    unit = omega (arith, reason_fits.unit, ap (λ (x : reasoning.Left). reasoned_unit x.answer) e);
-  }
-
-  -- the bound that is given beside the number
-  pub bound_is : {a : Reasoned} {l' : List ℕ} {f' : List Float} {u' : List ℕ} (x : Float) {y : Float} → reasoning.left a l' f' u' ≡ reasoning.reason_call F s i l f u → y ≡ bound_after a x
-      → y ≡ bound_after (reasoning.reason_call F s i l f u).answer x
-  bound_is x e p = p ∙ ap (λ (z : reasoning.Left). bound_after z.answer x) e

@@ -1,16 +1,11 @@
 -- The position that a refusal names is below 32,768, and has room in the number of each call's answer. Assumes nothing.
 use Prim.Native.Nat.{ℕ, ◌≤◌, ◌<◌}
-use mathlib.Core.Path.{◌≡◌, ap}
 use mathlib.Core.Bool.{Bool, true, false, cond}
 use mathlib.Core.List.{List, []}
 use native.Mathlib.Omega.{arith}
 use lib.Dec.{ltb}
 use lib.ListN.{length}
 use lib.Ieee.{Float}
-use Rattle.field.specs.declared.Answer.{Answer}
-use Rattle.field.specs.declared.Checked.{Checked}
-use Rattle.field.specs.declared.Answer.TheVariants.{Refused}
-use Rattle.field.specs.declared.Checked.TheVariants.{Failed}
 use Rattle.field.specs.declared.Refusal.TheVariants.{Variables, Start, Argument, Scratch, Lists, Weights, Sum}
 use Rattle.field.specs.Field.{Field}
 use Rattle.field.specs.Tests.{ready_tests}
@@ -27,12 +22,12 @@ use Rattle.meaning.specs.Literal.{Implication}
 use Rattle.literals.specs.Ends.{rules}
 use Rattle.reaching.specs.Via.{reaches}
 use Rattle.reaching.proofs.Picked.{first_within}
-use Rattle.allow.specs.declared.Allowed.{Allowed}
-use Rattle.allow.specs.declared.Allowed.TheVariants as allow
+use Rattle.allow.specs.declared.Allowed.TheVariants.{Yes, No}
 use Rattle.allow.specs.Answer.{named, allowed_of}
 use Rattle.allow.specs.Call as allowing
 use Rattle.allow.proofs.Means.{ready_is}
 use Rattle.packing.specs.Layout.{checked_count, answer_count, allowed_count}
+use Rattle.std.specs.Prelude.{Ok, Err}
 
 -- ---- the tests of the calls that do not make those of `ready`
 
@@ -64,32 +59,23 @@ module _ (g : values.Values) (F : Field) (s : List ℕ) (f : List Float) (u : Li
   pub values_fit : answer_count (values.values_call g F s f u).answer < 0x1000_0000
   unfolding values.values_by
   values_fit =
-      answer_has Refused _ (ready_tests F s (length f) (length u)) [] _ (λ a. answer_count a < 0x1000_0000) (λ r e. omega (arith, ready_near F s (length f) (length u) r e)) tt (λ e. omega arith)
-
-  pub values_few : {a : Answer} {s' : List ℕ} {f' : List Float} {u' : List ℕ} → values.left a s' f' u' ≡ values.values_call g F s f u → answer_count a < 0x1000_0000
-  values_few e = omega (arith, values_fit, ap (λ (x : values.Left). answer_count x.answer) e)
+      answer_has Err _ (ready_tests F s (length f) (length u)) [] _ (λ a. answer_count a < 0x1000_0000) (λ r e. omega (arith, ready_near F s (length f) (length u) r e)) tt (λ e. omega arith)
 
 module _ (F : Field) (s : List ℕ) (i v : ℕ) (t : List ℕ) (f : List Float) (u : List ℕ) where
   -- Theorem. The position that a refusal names has room in the number of `probe_one`.
   pub probe_one_fits : answer_count (probing.probe_one_call F s i v t f u).answer < 0x1000_0000
   unfolding probing.probe_one_by
   probe_one_fits =
-      answer_has Refused _ (probing.probe_tests F s i v (length f) (length u)) _ _ (λ a. answer_count a < 0x1000_0000)
+      answer_has Err _ (probing.probe_tests F s i v (length f) (length u)) _ _ (λ a. answer_count a < 0x1000_0000)
       (λ r e. omega (arith, probe_near F s i v (length f) (length u) r e)) (omega arith, tt) (λ e. omega arith)
-
-  pub probe_one_few : {a : Answer} {t' : List ℕ} {f' : List Float} {u' : List ℕ} → probing.left a t' f' u' ≡ probing.probe_one_call F s i v t f u → answer_count a < 0x1000_0000
-  probe_one_few e = omega (arith, probe_one_fits, ap (λ (x : probing.Left). answer_count x.answer) e)
 
 module _ (s list u : List ℕ) where
   -- Theorem. The position that a refusal names has room in the number of `propagate`.
   pub propagate_fits : checked_count (propagating.propagate_call s list u).answer < 0x1000_0000
   unfolding propagating.propagate_call
   propagate_fits =
-      answer_has Failed _ (propagation_tests s list (length u)) _ _ (λ a. checked_count a < 0x1000_0000) (λ r e. omega (arith, propagation_near s list (length u) r e)) (omega arith, tt)
+      answer_has Err _ (propagation_tests s list (length u)) _ _ (λ a. checked_count a < 0x1000_0000) (λ r e. omega (arith, propagation_near s list (length u) r e)) (omega arith, tt)
       (λ e. omega arith)
-
-  pub propagate_few : {a : Checked} {s' u' : List ℕ} → propagating.left a s' u' ≡ propagating.propagate_call s list u → checked_count a < 0x1000_0000
-  propagate_few e = omega (arith, propagate_fits, ap (λ (x : propagating.Left). checked_count x.answer) e)
 
 -- ---- what constraints allow: a no names a variable
 
@@ -98,11 +84,11 @@ unfolding allowing.allow_tests
 allow_near n list longs words =
     near_test Variables _ _ (omega arith) (near_test Argument _ _ (omega arith) (near_test Scratch _ _ (omega arith) (near_test Scratch _ _ (omega arith) near_none)))
 
-named_few : (E : List Implication) (n : ℕ) → allowed_count (allowed_of E n) ≤ n
+named_few : (E : List Implication) (n : ℕ) → allowed_count (Ok (allowed_of E n)) ≤ n
 unfolding allowed_of
 named_few E n = go (ltb (named E n) n)
   where
-    go : (b : Bool) → allowed_count (cond b (allow.No (named E n)) allow.Yes) ≤ n
+    go : (b : Bool) → allowed_count (Ok (cond b (No (named E n)) Yes)) ≤ n
     go true = first_within (reaches E n) n
     go false = omega arith
 
@@ -111,8 +97,5 @@ module _ (n : ℕ) (list a c w u : List ℕ) where
   pub allow_fits : allowed_count (allowing.allow_call n list a c w u).answer < 0x1000_0000
   unfolding allowing.allow_call
   allow_fits =
-      answer_has allow.Refuses _ (allowing.allow_tests n list (length w) (length u)) _ _ (λ x. allowed_count x < 0x1000_0000) (λ r e. omega (arith, allow_near n list (length w) (length u) r e)) (omega arith, tt)
+      answer_has Err _ (allowing.allow_tests n list (length w) (length u)) _ _ (λ x. allowed_count x < 0x1000_0000) (λ r e. omega (arith, allow_near n list (length w) (length u) r e)) (omega arith, tt)
       (λ e. omega (arith, named_few (rules list) n, ((ready_is n list (length w) (length u)).0 e).few))
-
-  pub allow_few : {x : Allowed} {a' c' w' u' : List ℕ} → allowing.left x a' c' w' u' ≡ allowing.allow_call n list a c w u → allowed_count x < 0x1000_0000
-  allow_few e = omega (arith, allow_fits, ap (λ (z : allowing.Left). allowed_count z.answer) e)

@@ -1,6 +1,5 @@
 -- What probes count has room in its number: at most n records of each of at most n candidates. Assumes nothing.
 use Prim.Native.Nat.{ℕ, zero, suc, ◌+◌, ◌*◌, ◌≤◌, ◌<◌}
-use mathlib.Core.Path.{◌≡◌, ap}
 use mathlib.Core.List.{List}
 use native.Mathlib.Nat.{suc-mul, mul_comm, mul-le-mul_right}
 use native.Mathlib.Omega.{arith}
@@ -9,8 +8,6 @@ use lib.Ieee.{Float}
 use Rattle.meaning.specs.Free.{free_to}
 use Rattle.meaning.proofs.Free.{free_few}
 use Rattle.meaning.specs.Records.{Record}
-use Rattle.field.specs.declared.Counted.{Counted}
-use Rattle.field.specs.declared.Counted.TheVariants.{Refuses}
 use Rattle.field.specs.Field.{Field, variables}
 use Rattle.field.specs.Tests.{ready_tests}
 use Rattle.field.proofs.Means.{ready_passes}
@@ -21,8 +18,9 @@ use Rattle.sorting.proofs.Numbers.{merged_length}
 use Rattle.ranking.specs.Ranking.{ranks, ahead, mass_of}
 use Rattle.ranking.proofs.Ordered.{ordered_length}
 use Rattle.finding.specs.Finds.{added, finding, records_to, records_of, records_found_by}
-use Rattle.probes.specs.Call.{all_records_by, Left, left, candidates_call, candidates_by, probe_call, probe_by, probe_limited_call, probe_limited_by}
+use Rattle.probes.specs.Call.{all_records_by, candidates_call, candidates_by, probe_call, probe_by, probe_limited_call, probe_limited_by}
 use Rattle.packing.specs.Layout.{count_of}
+use Rattle.std.specs.Prelude.{Err}
 
 -- ---- the records of some candidates
 
@@ -60,7 +58,7 @@ module _ (F : Field) (s cands t k : List ℕ) (f : List Float) (u : List ℕ) (f
   candidates_fit : count_of (candidates_call F s cands t k f u).answer < 0x1000_0000
   unfolding candidates_by all_records_by
   candidates_fit =
-      answer_has Refuses _ (ready_tests F s (length f) (length u)) _ _ (λ a. count_of a < 0x1000_0000) (λ r e. omega (arith, ready_near F s (length f) (length u) r e)) (omega arith, tt) (λ e.
+      answer_has Err _ (ready_tests F s (length f) (length u)) _ _ (λ a. count_of a < 0x1000_0000) (λ r e. omega (arith, ready_near F s (length f) (length u) r e)) (omega arith, tt) (λ e.
       let small = ((ready_passes F s (length f) (length u)).0 e).sound.shaped.few_variables in
       omega (arith, merged_length (records_of F s cands (length cands)), of_all F s cands (length cands), few_by_few (length cands) (variables F) few small))
 
@@ -74,10 +72,3 @@ module _ (F : Field) (s t k : List ℕ) (f : List Float) (u : List ℕ) where
   pub probe_limited_fits : (limit : ℕ) → count_of (probe_limited_call F s limit t k f u).answer < 0x1000_0000
   unfolding probe_limited_by
   probe_limited_fits limit = candidates_fit F s (take limit (ranks F s)) t k f u (ranks_few F s limit)
-
-  module _ {a : Counted} {t' k' : List ℕ} {f' : List Float} {u' : List ℕ} where
-    pub probe_few : left a t' k' f' u' ≡ probe_call F s t k f u → count_of a < 0x1000_0000
-    probe_few e = omega (arith, probe_fits, ap (λ (x : Left). count_of x.answer) e)
-
-    pub probe_limited_few : (limit : ℕ) → left a t' k' f' u' ≡ probe_limited_call F s limit t k f u → count_of a < 0x1000_0000
-    probe_limited_few limit e = omega (arith, probe_limited_fits limit, ap (λ (x : Left). count_of x.answer) e)

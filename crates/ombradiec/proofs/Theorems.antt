@@ -3,8 +3,9 @@ use Prim.Native.Nat.{ℕ}
 use mathlib.Core.Path.{◌≡◌, refl, sym, ap, ◌∙◌}
 use mathlib.Core.List.{List}
 use lib.Ieee.{Float}
-use Rattle.field.specs.Answers.{checked_number}
+use Rattle.field.specs.Answers.{answer_number, Answer}
 use Rattle.field.specs.Field.{Field}
+use Rattle.calls.specs.Call as any
 use Rattle.calls.specs.Values as values
 use Rattle.closure.specs.Call as closing
 use Rattle.components.specs.Small.{small_parts}
@@ -45,6 +46,10 @@ module _ {A L : Type 0} {packed : A → ℕ} (answer_in : L → A) {left : A →
   pub leaves_is : Exported packed left r call → left (answer_in call) ≡ call
   leaves_is e = ap left (sym (answer_is e)) ∙ e.leaves
 
+-- the same where a call leaves an answer and what was lent
+pub number_from : {A L : Type 0} {packed : Answer A → ℕ} {l : L} {r : ℕ} {x : any.Left (Answer A) L} → Exported packed (λ a. any.left a l) r x → r ≡ packed x.answer
+number_from {A} {L} e = number_is (λ (x : any.Left (Answer A) L). x.answer) (λ a. refl) e
+
 -- any two results that the promise permits are equal: the number, and what is left
 module _ {A L : Type 0} {packed : A → ℕ} (answer_in : L → A) {left left' : A → L} (back : (a : A) → answer_in (left a) ≡ a) (back' : (a : A) → answer_in (left' a) ≡ a) {r r' : ℕ} {call : L} where
   -- Theorem. Any two results that the promise of an exported call permits have the same number.
@@ -60,70 +65,70 @@ module _ {A L : Type 0} {packed : A → ℕ} (answer_in : L → A) {left left' :
 module _ (F : Field) (s : List ℕ) (f : List Float) (u : List ℕ) {s' : List ℕ} {f' : List Float} {u' : List ℕ} {r : ℕ} where
   -- Theorem. What is read from the number of `closure` is the refusal, the grade and the count of its model.
   pub closure_reads : Exported packed_counted (λ a. closing.left a s' f' u') r (closing.closure_call F s f u) → CountRead (closing.closure_call F s f u).answer r
-  closure_reads e = rw (number_is (λ (x : closing.Left). x.answer) (λ a. refl) e) (counted_reads (closing.closure_call F s f u).answer (closure_fits F s f u))
+  closure_reads e = rw (number_from e) (counted_reads _ (closure_fits F s f u))
 
   pub components_reads : Exported packed_answer (λ a. values.left a s' f' u') r (components.components_call F s f u) → AnswerRead (components.components_call F s f u).answer r
-  components_reads e = rw (number_is (λ (x : values.Left). x.answer) (λ a. refl) e) (answer_reads (components.components_call F s f u).answer (values_fit small_parts F s f u))
+  components_reads e = rw (number_from e) (answer_reads _ (values_fit small_parts F s f u))
 
   pub preprocess_reads : Exported packed_answer (λ a. values.left a s' f' u') r (preprocess.preprocess_call F s f u) → AnswerRead (preprocess.preprocess_call F s f u).answer r
-  preprocess_reads e = rw (number_is (λ (x : values.Left). x.answer) (λ a. refl) e) (answer_reads (preprocess.preprocess_call F s f u).answer (values_fit working.preprocess F s f u))
+  preprocess_reads e = rw (number_from e) (answer_reads _ (values_fit working.preprocess F s f u))
 
   pub heavy_reads : Exported packed_answer (λ a. values.left a s' f' u') r (heavy.heavy_call F s f u) → AnswerRead (heavy.heavy_call F s f u).answer r
-  heavy_reads e = rw (number_is (λ (x : values.Left). x.answer) (λ a. refl) e) (answer_reads (heavy.heavy_call F s f u).answer (values_fit rounding.heavy F s f u))
+  heavy_reads e = rw (number_from e) (answer_reads _ (values_fit rounding.heavy F s f u))
 
   pub probe_one_reads : (i v : ℕ) (t : List ℕ) → Exported packed_answer (λ a. probing.left a s' f' u') r (probing.probe_one_call F s i v t f u)
       → AnswerRead (probing.probe_one_call F s i v t f u).answer r
-  probe_one_reads i v t e = rw (number_is (λ (x : probing.Left). x.answer) (λ a. refl) e) (answer_reads (probing.probe_one_call F s i v t f u).answer (probe_one_fits F s i v t f u))
+  probe_one_reads i v t e = rw (number_from e) (answer_reads _ (probe_one_fits F s i v t f u))
 
   pub probe_reads : (t k : List ℕ) {k' : List ℕ} → Exported packed_counted (λ a. searching.left a s' k' f' u') r (searching.probe_call F s t k f u)
       → CountRead (searching.probe_call F s t k f u).answer r
-  probe_reads t k e = rw (number_is (λ (x : searching.Left). x.answer) (λ a. refl) e) (counted_reads (searching.probe_call F s t k f u).answer (probe_fits F s t k f u))
+  probe_reads t k e = rw (number_from e) (counted_reads _ (probe_fits F s t k f u))
 
   pub probe_limited_reads : (limit : ℕ) (t k : List ℕ) {k' : List ℕ} → Exported packed_counted (λ a. searching.left a s' k' f' u') r (searching.probe_limited_call F s limit t k f u)
       → CountRead (searching.probe_limited_call F s limit t k f u).answer r
   probe_limited_reads limit t k e =
-      rw (number_is (λ (x : searching.Left). x.answer) (λ a. refl) e) (counted_reads (searching.probe_limited_call F s limit t k f u).answer (probe_limited_fits F s t k f u limit))
+      rw (number_from e) (counted_reads _ (probe_limited_fits F s t k f u limit))
 
   pub anchors_reads : (least : ℕ) (l : List ℕ) → Exported packed_counted (λ a. anchoring.left a s' f' u') r (anchoring.anchors_call F s least l f u)
       → CountRead (anchoring.anchors_call F s least l f u).answer r
   anchors_reads least l e =
-      rw (number_is (λ (x : anchoring.Left). x.answer) (λ a. refl) e) (counted_reads (anchoring.anchors_call F s least l f u).answer (anchors_fit F s least l f u))
+      rw (number_from e) (counted_reads _ (anchors_fit F s least l f u))
 
   pub pairs_reads : (limit : ℕ) (l : List ℕ) → Exported packed_paired (λ a. pairing.left a s' f' u') r (pairing.pairs_call F s limit l f u)
-      → let a = (pairing.pairs_call F s limit l f u).answer in Reads r (pairing.paired_number a) (paired_grade a) (paired_count a) (pairs_examined a)
+      → let a = (pairing.pairs_call F s limit l f u).answer in Reads r (answer_number a) (paired_grade a) (paired_count a) (pairs_examined a)
   pairs_reads limit l e =
-      rw (number_is (λ (x : pairing.Left). x.answer) (λ a. refl) e) (paired_reads (pairing.pairs_call F s limit l f u).answer (pairs_fit F s limit l f u).count)
+      rw (number_from e) (paired_reads _ (pairs_fit F s limit l f u).count)
 
 -- of a reason, with the unit and the ground in one part
 pub reason_reads : (F : Field) (s : List ℕ) (i : ℕ) (l : List ℕ) (f : List Float) (u : List ℕ) {l' : List ℕ} {f' : List Float} {u' : List ℕ} {r : ℕ}
     → Exported packed_reasoned (λ a. reasoning.left a l' f' u') r (reasoning.reason_call F s i l f u) → ReasonRead (reasoning.reason_call F s i l f u).answer r
-reason_reads F s i l f u e = rw (number_is (λ (x : reasoning.Left). x.answer) (λ a. refl) e) (reasoned_reads (reasoning.reason_call F s i l f u).answer (reason_fits F s i l f u).count)
+reason_reads F s i l f u e = rw (number_from e) (reasoned_reads _ (reason_fits F s i l f u).count)
 
 pub no_effect_reads : (F : Field) (l u : List ℕ) {l' u' : List ℕ} {r : ℕ} → Exported packed_counted (λ a. effectless.left a l' u') r (effectless.no_effect_call F l u)
     → CountRead (effectless.no_effect_call F l u).answer r
-no_effect_reads F l u e = rw (number_is (λ (x : effectless.Left). x.answer) (λ a. refl) e) (counted_reads (effectless.no_effect_call F l u).answer (no_effect_fits F l u))
+no_effect_reads F l u e = rw (number_from e) (counted_reads _ (no_effect_fits F l u))
 
 pub shift_reads : (F : Field) {G : Field} {r : ℕ} → Exported packed_counted (λ a. shifting.left a G) r (shifting.shift_call F) → CountRead (shifting.shift_call F).answer r
-shift_reads F e = rw (number_is (λ (x : shifting.Left). x.answer) (λ a. refl) e) (counted_reads (shifting.shift_call F).answer (shift_fits F))
+shift_reads F e = rw (number_from e) (counted_reads _ (shift_fits F))
 
 -- Theorem. What is read from the number of `sub_problem` is the refusal, the grade, the new m and the new n of its model.
 pub sub_problem_reads : (F : Field) (s l : List ℕ) (f : List Float) (u : List ℕ) {G : Field} {l' : List ℕ} {f' : List Float} {u' : List ℕ} {r : ℕ}
     → Exported packed_reduced (λ a. reducing.left a G l' f' u') r (reducing.sub_problem_call F s l f u)
-    → let a = (reducing.sub_problem_call F s l f u).answer in Reads r (reducing.reduced_number a) (reduced_grade a) (new_entries a) (new_variables a)
+    → let a = (reducing.sub_problem_call F s l f u).answer in Reads r (answer_number a) (reduced_grade a) (new_entries a) (new_variables a)
 sub_problem_reads F s l f u e =
-    rw (number_is (λ (x : reducing.Left). x.answer) (λ a. refl) e) (reduced_reads (reducing.sub_problem_call F s l f u).answer (sub_problem_fits F s l f u).entries)
+    rw (number_from e) (reduced_reads _ (sub_problem_fits F s l f u).count)
 
 -- Theorem. What is read from the number of `mend` is the refusal, the grade, the new m and the changes of its model.
 pub mend_reads : (F : Field) (report : List ℕ) (f : List Float) (u : List ℕ) {rows' cols' : List ℕ} {q' : List Float} {report' : List ℕ} {f' : List Float} {u' : List ℕ} {r : ℕ}
     → Exported packed_mended (λ a. mending.left a rows' cols' q' report' f' u') r (mending.mend_call F report f u)
-    → let a = (mending.mend_call F report f u).answer in Reads r (mending.mended_number a) (mended_grade a) (mended_entries a) (mended_changes a)
-mend_reads F report f u e = rw (number_is (λ (x : mending.Left). x.answer) (λ a. refl) e) (mended_reads (mending.mend_call F report f u).answer (mend_fits F report f u).entries)
+    → let a = (mending.mend_call F report f u).answer in Reads r (answer_number a) (mended_grade a) (mended_entries a) (mended_changes a)
+mend_reads F report f u e = rw (number_from e) (mended_reads _ (mend_fits F report f u).count)
 
 pub propagate_reads : (s list u : List ℕ) {s' u' : List ℕ} {r : ℕ} → Exported packed_checked (λ a. propagating.left a s' u') r (propagating.propagate_call s list u)
-    → let a = (propagating.propagate_call s list u).answer in Reads r (checked_number a) 0 (checked_count a) 0
-propagate_reads s list u e = rw (number_is (λ (x : propagating.Left). x.answer) (λ a. refl) e) (checked_reads (propagating.propagate_call s list u).answer (propagate_fits s list u))
+    → let a = (propagating.propagate_call s list u).answer in Reads r (answer_number a) 0 (checked_count a) 0
+propagate_reads s list u e = rw (number_from e) (checked_reads _ (propagate_fits s list u))
 
 -- Theorem. What is read from the number of `allow` is its refusal, yes as 1 in place of the grade, and the variable that a no names.
 pub allow_reads : (n : ℕ) (list a c w u : List ℕ) {a' c' w' u' : List ℕ} {r : ℕ} → Exported packed_allowed (λ x. allowing.left x a' c' w' u') r (allowing.allow_call n list a c w u)
-    → let x = (allowing.allow_call n list a c w u).answer in Reads r (allowing.allowed_number x) (allowed_grade x) (allowed_count x) 0
-allow_reads n list a c w u e = rw (number_is (λ (z : allowing.Left). z.answer) (λ x. refl) e) (allowed_reads (allowing.allow_call n list a c w u).answer (allow_fits n list a c w u))
+    → let x = (allowing.allow_call n list a c w u).answer in Reads r (answer_number x) (allowed_grade x) (allowed_count x) 0
+allow_reads n list a c w u e = rw (number_from e) (allowed_reads _ (allow_fits n list a c w u))

@@ -1,8 +1,9 @@
 // The public calls for programs in C and Rust: each exported function is the call of its crate, and answers with one number.
+// C lends a field as four lists and a record of values as three, so each function takes them one by one.
 #![tactic(auto)]
 
 ghost use Rattle.std.specs.Prelude.{◌≡◌};
-ghost use Rattle.field.specs.Field.{field_of, given};
+ghost use Rattle.field.specs.Field.{field_of};
 ghost use Rattle.calls.specs.Values.{left};
 ghost use Rattle.closure.specs.Call as closing;
 ghost use Rattle.components.specs.Call as components;
@@ -26,10 +27,8 @@ ghost use Rattle.allow.specs.Call as allowing;
 ghost use Rattle.packing.specs.Layout.{packed_checked, packed_answer, packed_counted, packed_paired, packed_reasoned, bound_after as bound_after_of, packed_reduced, constant_after as constant_after_of, packed_mended, packed_allowed};
 ghost use Rattle.ombradiec.specs.Exported.{Exported};
 
-use packing::{
-    bound_after, constant_after, pack_allowed, pack_answer, pack_checked, pack_counted,
-    pack_mended, pack_paired, pack_reasoned, pack_reduced,
-};
+use field::FieldRef;
+use packing::{bound_after, constant_after, pack};
 
 // The gradient closure, and how many free variables have a flat row at its end.
 #[unsafe(no_mangle)]
@@ -42,9 +41,10 @@ pub extern "C" fn ombradiec_closure(
     f: &mut [f64],
     u: &mut [u32],
 ) -> u64
-    ensures { Exported packed_counted (λ a. closing.left a start.new f.new u.new) result (closing.closure_call (given c rows cols q) start.old f.old u.old) }
+    ensures { Exported packed_counted (λ a. closing.left a start.new f.new u.new) result (closing.closure_call (field_of c.now rows.now cols.now q.now) start.old f.old u.old) }
 {
-    pack_counted(closure::closure(c, rows, cols, q, start, f, u))
+    let field = FieldRef { c, rows, cols, q };
+    pack(closure::closure(field, start, f, u))
 }
 
 // The values of all small components.
@@ -58,9 +58,10 @@ pub extern "C" fn ombradiec_components(
     f: &mut [f64],
     u: &mut [u32],
 ) -> u64
-    ensures { Exported packed_answer (λ a. left a start.new f.new u.new) result (components.components_call (given c rows cols q) start.old f.old u.old) }
+    ensures { Exported packed_answer (λ a. left a start.new f.new u.new) result (components.components_call (field_of c.now rows.now cols.now q.now) start.old f.old u.old) }
 {
-    pack_answer(components::components(c, rows, cols, q, start, f, u))
+    let field = FieldRef { c, rows, cols, q };
+    pack(components::components(field, start, f, u))
 }
 
 // The closure, the small components and the variables of no effect.
@@ -74,9 +75,10 @@ pub extern "C" fn ombradiec_preprocess(
     f: &mut [f64],
     u: &mut [u32],
 ) -> u64
-    ensures { Exported packed_answer (λ a. left a start.new f.new u.new) result (preprocess.preprocess_call (given c rows cols q) start.old f.old u.old) }
+    ensures { Exported packed_answer (λ a. left a start.new f.new u.new) result (preprocess.preprocess_call (field_of c.now rows.now cols.now q.now) start.old f.old u.old) }
 {
-    pack_answer(preprocess::preprocess(c, rows, cols, q, start, f, u))
+    let field = FieldRef { c, rows, cols, q };
+    pack(preprocess::preprocess(field, start, f, u))
 }
 
 // Preprocess and probes, round after round.
@@ -90,9 +92,10 @@ pub extern "C" fn ombradiec_heavy(
     f: &mut [f64],
     u: &mut [u32],
 ) -> u64
-    ensures { Exported packed_answer (λ a. left a start.new f.new u.new) result (heavy.heavy_call (given c rows cols q) start.old f.old u.old) }
+    ensures { Exported packed_answer (λ a. left a start.new f.new u.new) result (heavy.heavy_call (field_of c.now rows.now cols.now q.now) start.old f.old u.old) }
 {
-    pack_answer(heavy::heavy(c, rows, cols, q, start, f, u))
+    let field = FieldRef { c, rows, cols, q };
+    pack(heavy::heavy(field, start, f, u))
 }
 
 // The variables of no effect.
@@ -105,9 +108,10 @@ pub extern "C" fn ombradiec_no_effect(
     list: &mut [u16],
     u: &mut [u32],
 ) -> u64
-    ensures { Exported packed_counted (λ a. effectless.left a list.new u.new) result (effectless.no_effect_call (given c rows cols q) list.old u.old) }
+    ensures { Exported packed_counted (λ a. effectless.left a list.new u.new) result (effectless.no_effect_call (field_of c.now rows.now cols.now q.now) list.old u.old) }
 {
-    pack_counted(no_effect::no_effect(c, rows, cols, q, list, u))
+    let field = FieldRef { c, rows, cols, q };
+    pack(no_effect::no_effect(field, list, u))
 }
 
 // The diagonal into the linear weights.
@@ -120,7 +124,7 @@ pub extern "C" fn ombradiec_shift(
 ) -> u64
     ensures { Exported packed_counted (λ a. shifting.left a (left_behind c rows cols q)) result (shifting.shift_call (field_of c.old rows.old cols.old q.old)) }
 {
-    pack_counted(shift::shift(c, rows, cols, q))
+    pack(shift::shift(c, rows, cols, q))
 }
 
 // The field without its given variables; the constant goes into `constant`, which a refusal leaves.
@@ -141,7 +145,7 @@ pub extern "C" fn ombradiec_sub_problem(
 {
     let answer = sub_problem::sub_problem(c, rows, cols, q, start, map, f, u);
     *constant = constant_after(answer, *constant);
-    pack_reduced(answer)
+    pack(answer)
 }
 
 // The entry list mended in place; the number of changes stands where other calls have the pairs examined.
@@ -157,7 +161,7 @@ pub extern "C" fn ombradiec_mend(
 ) -> u64
     ensures { Exported packed_mended (λ a. mending.left a rows.new cols.new q.new report.new f.new u.new) result (mending.mend_call (field_of c.now rows.old cols.old q.old) report.old f.old u.old) }
 {
-    pack_mended(mend::mend(c, rows, cols, q, report, f, u))
+    pack(mend::mend(c, rows, cols, q, report, f, u))
 }
 
 // The anchors of components of at least `least` variables.
@@ -173,9 +177,10 @@ pub extern "C" fn ombradiec_anchors(
     f: &mut [f64],
     u: &mut [u32],
 ) -> u64
-    ensures { Exported packed_counted (λ a. anchoring.left a list.new f.new u.new) result (anchoring.anchors_call (given c rows cols q) start.now least list.old f.old u.old) }
+    ensures { Exported packed_counted (λ a. anchoring.left a list.new f.new u.new) result (anchoring.anchors_call (field_of c.now rows.now cols.now q.now) start.now least list.old f.old u.old) }
 {
-    pack_counted(anchors::anchors(c, rows, cols, q, start, least, list, f, u))
+    let field = FieldRef { c, rows, cols, q };
+    pack(anchors::anchors(field, start, least, list, f, u))
 }
 
 // The constraints of the first `limit` free pairs.
@@ -191,9 +196,10 @@ pub extern "C" fn ombradiec_pairs(
     f: &mut [f64],
     u: &mut [u32],
 ) -> u64
-    ensures { Exported packed_paired (λ a. pairing.left a constraints.new f.new u.new) result (pairing.pairs_call (given c rows cols q) start.now limit constraints.old f.old u.old) }
+    ensures { Exported packed_paired (λ a. pairing.left a constraints.new f.new u.new) result (pairing.pairs_call (field_of c.now rows.now cols.now q.now) start.now limit constraints.old f.old u.old) }
 {
-    pack_paired(pairs::pairs(c, rows, cols, q, start, limit, constraints, f, u))
+    let field = FieldRef { c, rows, cols, q };
+    pack(pairs::pairs(field, start, limit, constraints, f, u))
 }
 
 // What one value forces, over remembered rows.
@@ -210,9 +216,10 @@ pub extern "C" fn ombradiec_probe_one(
     f: &mut [f64],
     u: &mut [u32],
 ) -> u64
-    ensures { Exported packed_answer (λ a. probing.left a values.new f.new u.new) result (probing.probe_one_call (given c rows cols q) start.now variable value values.old f.old u.old) }
+    ensures { Exported packed_answer (λ a. probing.left a values.new f.new u.new) result (probing.probe_one_call (field_of c.now rows.now cols.now q.now) start.now variable value values.old f.old u.old) }
 {
-    pack_answer(probes::probe_one(c, rows, cols, q, start, variable, value, values, f, u))
+    let field = FieldRef { c, rows, cols, q };
+    pack(probes::probe_one(field, start, variable, value, values, f, u))
 }
 
 // The same with rows made afresh.
@@ -229,9 +236,10 @@ pub extern "C" fn ombradiec_cold_probe_one(
     f: &mut [f64],
     u: &mut [u32],
 ) -> u64
-    ensures { Exported packed_answer (λ a. probing.left a values.new f.new u.new) result (probing.probe_one_call (given c rows cols q) start.now variable value values.old f.old u.old) }
+    ensures { Exported packed_answer (λ a. probing.left a values.new f.new u.new) result (probing.probe_one_call (field_of c.now rows.now cols.now q.now) start.now variable value values.old f.old u.old) }
 {
-    pack_answer(probe::cold_probe_one(c, rows, cols, q, start, variable, value, values, f, u))
+    let field = FieldRef { c, rows, cols, q };
+    pack(probe::cold_probe_one(field, start, variable, value, values, f, u))
 }
 
 // Why a variable has its value in the closure; the bound goes into `bound`, which a refusal leaves.
@@ -248,12 +256,13 @@ pub extern "C" fn ombradiec_reason(
     f: &mut [f64],
     u: &mut [u32],
 ) -> u64
-    ensures exported { Exported packed_reasoned (λ a. reasoning.left a list.new f.new u.new) result (reasoning.reason_call (given c rows cols q) start.now variable list.old f.old u.old) }
-    ensures bound_value { bound.new ≡ bound_after_of (reasoning.reason_call (given c rows cols q) start.now variable list.old f.old u.old).answer bound.old }
+    ensures exported { Exported packed_reasoned (λ a. reasoning.left a list.new f.new u.new) result (reasoning.reason_call (field_of c.now rows.now cols.now q.now) start.now variable list.old f.old u.old) }
+    ensures bound_value { bound.new ≡ bound_after_of (reasoning.reason_call (field_of c.now rows.now cols.now q.now) start.now variable list.old f.old u.old).answer bound.old }
 {
-    let answer = reason::reason(c, rows, cols, q, start, variable, list, f, u);
+    let field = FieldRef { c, rows, cols, q };
+    let answer = reason::reason(field, start, variable, list, f, u);
     *bound = bound_after(answer, *bound);
-    pack_reasoned(answer)
+    pack(answer)
 }
 
 // What both probes of every free variable find.
@@ -269,9 +278,10 @@ pub extern "C" fn ombradiec_probe(
     f: &mut [f64],
     u: &mut [u32],
 ) -> u64
-    ensures { Exported packed_counted (λ a. searching.left a values.new constraints.new f.new u.new) result (searching.probe_call (given c rows cols q) start.now values.old constraints.old f.old u.old) }
+    ensures { Exported packed_counted (λ a. searching.left a values.new constraints.new f.new u.new) result (searching.probe_call (field_of c.now rows.now cols.now q.now) start.now values.old constraints.old f.old u.old) }
 {
-    pack_counted(probes::probe(c, rows, cols, q, start, values, constraints, f, u))
+    let field = FieldRef { c, rows, cols, q };
+    pack(probes::probe(field, start, values, constraints, f, u))
 }
 
 // The same of up to `candidates` free variables, those of the greatest edge mass.
@@ -288,20 +298,10 @@ pub extern "C" fn ombradiec_probe_limited(
     f: &mut [f64],
     u: &mut [u32],
 ) -> u64
-    ensures { Exported packed_counted (λ a. searching.left a values.new constraints.new f.new u.new) result (searching.probe_limited_call (given c rows cols q) start.now candidates values.old constraints.old f.old u.old) }
+    ensures { Exported packed_counted (λ a. searching.left a values.new constraints.new f.new u.new) result (searching.probe_limited_call (field_of c.now rows.now cols.now q.now) start.now candidates values.old constraints.old f.old u.old) }
 {
-    pack_counted(probes::probe_limited(
-        c,
-        rows,
-        cols,
-        q,
-        start,
-        candidates,
-        values,
-        constraints,
-        f,
-        u,
-    ))
+    let field = FieldRef { c, rows, cols, q };
+    pack(probes::probe_limited(field, start, candidates, values, constraints, f, u))
 }
 
 // What both probes of every free variable find, with rows made afresh for each probe.
@@ -317,9 +317,10 @@ pub extern "C" fn ombradiec_cold_probe(
     f: &mut [f64],
     u: &mut [u32],
 ) -> u64
-    ensures { Exported packed_counted (λ a. searching.left a values.new constraints.new f.new u.new) result (searching.probe_call (given c rows cols q) start.now values.old constraints.old f.old u.old) }
+    ensures { Exported packed_counted (λ a. searching.left a values.new constraints.new f.new u.new) result (searching.probe_call (field_of c.now rows.now cols.now q.now) start.now values.old constraints.old f.old u.old) }
 {
-    pack_counted(cold::cold_probe(c, rows, cols, q, start, values, constraints, f, u))
+    let field = FieldRef { c, rows, cols, q };
+    pack(cold::cold_probe(field, start, values, constraints, f, u))
 }
 
 // The same of the first candidates by edge mass.
@@ -336,20 +337,10 @@ pub extern "C" fn ombradiec_cold_probe_limited(
     f: &mut [f64],
     u: &mut [u32],
 ) -> u64
-    ensures { Exported packed_counted (λ a. searching.left a values.new constraints.new f.new u.new) result (searching.probe_limited_call (given c rows cols q) start.now candidates values.old constraints.old f.old u.old) }
+    ensures { Exported packed_counted (λ a. searching.left a values.new constraints.new f.new u.new) result (searching.probe_limited_call (field_of c.now rows.now cols.now q.now) start.now candidates values.old constraints.old f.old u.old) }
 {
-    pack_counted(cold::cold_probe_limited(
-        c,
-        rows,
-        cols,
-        q,
-        start,
-        candidates,
-        values,
-        constraints,
-        f,
-        u,
-    ))
+    let field = FieldRef { c, rows, cols, q };
+    pack(cold::cold_probe_limited(field, start, candidates, values, constraints, f, u))
 }
 
 // What constraints imply.
@@ -357,7 +348,7 @@ pub extern "C" fn ombradiec_cold_probe_limited(
 pub extern "C" fn ombradiec_propagate(start: &mut [u8], constraints: &[u16], u: &mut [u32]) -> u64
     ensures { Exported packed_checked (λ a. propagating.left a start.new u.new) result (propagating.propagate_call start.old constraints.now u.old) }
 {
-    pack_checked(propagation::propagate(start, constraints, u))
+    pack(propagation::propagate(start, constraints, u))
 }
 
 // The record of the values: every free variable's bounds, and the number of strict rows.
@@ -373,9 +364,10 @@ pub extern "C" fn ombradiec_keep(
     f: &mut [f64],
     u: &mut [u32],
 ) -> u64
-    ensures { Exported packed_answer (λ a. keeping.left a bounds.new strict.new f.new u.new) result (keeping.make_call (given c rows cols q) values.now bounds.old strict.old f.old u.old) }
+    ensures { Exported packed_answer (λ a. keeping.left a bounds.new strict.new f.new u.new) result (keeping.make_call (field_of c.now rows.now cols.now q.now) values.now bounds.old strict.old f.old u.old) }
 {
-    pack_answer(kept::make(c, rows, cols, q, values, bounds, strict, f, u))
+    let field = FieldRef { c, rows, cols, q };
+    pack(kept::make(field, values, bounds, strict, f, u))
 }
 
 // A free variable takes a value in the record.
@@ -391,9 +383,10 @@ pub extern "C" fn ombradiec_pin(
     variable: usize,
     value: u8,
 ) -> u64
-    ensures { Exported packed_checked (λ a. any.left a (kept values.new bounds.new strict.new)) result (keeping.pin_call (given c rows cols q) (kept values.old bounds.old strict.old) variable value) }
+    ensures { Exported packed_checked (λ a. any.left a (kept values.new bounds.new strict.new)) result (keeping.pin_call (field_of c.now rows.now cols.now q.now) (kept values.old bounds.old strict.old) variable value) }
 {
-    pack_checked(kept::pin(c, rows, cols, q, values, bounds, strict, variable, value))
+    let field = FieldRef { c, rows, cols, q };
+    pack(kept::pin(field, values, bounds, strict, variable, value))
 }
 
 // A variable that has a value is free again in the record.
@@ -408,9 +401,10 @@ pub extern "C" fn ombradiec_release(
     strict: &mut u32,
     variable: usize,
 ) -> u64
-    ensures { Exported packed_checked (λ a. any.left a (kept values.new bounds.new strict.new)) result (keeping.release_call (given c rows cols q) (kept values.old bounds.old strict.old) variable) }
+    ensures { Exported packed_checked (λ a. any.left a (kept values.new bounds.new strict.new)) result (keeping.release_call (field_of c.now rows.now cols.now q.now) (kept values.old bounds.old strict.old) variable) }
 {
-    pack_checked(kept::release(c, rows, cols, q, values, bounds, strict, variable))
+    let field = FieldRef { c, rows, cols, q };
+    pack(kept::release(field, values, bounds, strict, variable))
 }
 
 // The closure from the record, and how many free variables have a flat row at its end.
@@ -426,9 +420,10 @@ pub extern "C" fn ombradiec_close(
     f: &mut [f64],
     u: &mut [u32],
 ) -> u64
-    ensures { Exported packed_counted (λ a. keeping.closed a list.new f.new u.new) result (keeping.close_call (given c rows cols q) values.now bounds.now list.old f.old u.old) }
+    ensures { Exported packed_counted (λ a. keeping.closed a list.new f.new u.new) result (keeping.close_call (field_of c.now rows.now cols.now q.now) values.now bounds.now list.old f.old u.old) }
 {
-    pack_counted(kept::close(c, rows, cols, q, values, bounds, list, f, u))
+    let field = FieldRef { c, rows, cols, q };
+    pack(kept::close(field, values, bounds, list, f, u))
 }
 
 // Whether the records allow any assignment, the least one, and how many literals each literal reaches.
@@ -443,5 +438,5 @@ pub extern "C" fn ombradiec_allow(
 ) -> u64
     ensures { Exported packed_allowed (λ a. allowing.left a assignment.new counts.new w.new u.new) result (allowing.allow_call variables constraints.now assignment.old counts.old w.old u.old) }
 {
-    pack_allowed(allow::allow(variables, constraints, assignment, counts, w, u))
+    pack(allow::allow(variables, constraints, assignment, counts, w, u))
 }

@@ -9,7 +9,6 @@ use lib.Seq.{get_or-take, get_or-drop, take-take}
 use lib.Ieee.{Float, nan}
 use Rattle.weights.specs.Worth.{zero64}
 use Rattle.scratch.specs.Cleared.{cleared}
-use Rattle.field.specs.declared.Checked.TheVariants.{Passed, Failed}
 use Rattle.field.specs.declared.Grade.{Grade}
 use Rattle.field.specs.declared.Refusal.{Refusal}
 use Rattle.field.specs.declared.Refusal.TheVariants.{Room}
@@ -17,38 +16,25 @@ use Rattle.field.specs.Field.{Field, variables, entries}
 use Rattle.field.specs.Table.{tested}
 use Rattle.field.specs.Tests.{ready_tests, Ready}
 use Rattle.field.specs.Grade.{grade_of}
-use Rattle.places.specs.Places.{Built}
 use Rattle.places.proofs.Slices.{front_get_d}
-use Rattle.rows.specs.Stored.{Fillable}
 use Rattle.margins.specs.Merge.{Listed}
 use Rattle.constraints.specs.Record.{room, filled}
-use Rattle.pairs.specs.declared.Paired.TheVariants.{Done, Refused}
 use Rattle.pairs.specs.declared.listing.Tally.{Tally}
 use Rattle.neighbours.specs.Parts.{Parted}
-use Rattle.neighbours.specs.Rows.{ends_at, keys_at, weights_at, size, Laid, Kept, Merged}
+use Rattle.neighbours.specs.Rows.{ends_at, keys_at, weights_at, size, Kept, Merged}
 use Rattle.calls.proofs.Usual as usual
 use Rattle.pairs.specs.Listing.{examined, found}
 use Rattle.pairs.specs.Walk.{Prepared, free_at, Freed, Walked}
 use Rattle.pairs.specs.Call.{Left, left, pairs_call}
 use Rattle.pairs.proofs.ListLaws.{written_filled, length_written}
 use Rattle.neighbours.proofs.PushLaws.{laid_after}
+use Rattle.field.specs.Answers.{passed}
+use Rattle.std.specs.Prelude.{Err}
+use Rattle.pairs.specs.Answers.{paired_answer}
 
 -- ---- the work
 
 module _ {F : Field} {s : List ℕ} (f : List Float) (u : List ℕ) (R : Ready F s (length f) (length u)) where
-  pub work_fillable : Fillable F s f
-  work_fillable = record { shaped = R.sound.shaped; values_long = R.sound.start.long; room = omega (arith, R.floats_room) }
-
-  pub work_laid : {f' : List Float} {u' : List ℕ} → Built (variables F) F.rows F.cols u u' → length f' ≡ length f → Laid F s f' u'
-  work_laid B e = record {
-    shaped = R.sound.shaped;
-    standard = R.sound.standard;
-    values = R.sound.start;
-    adjacent = B.adjacent;
-    words = omega (arith, B.long, R.words_room, R.sound.shaped.rows_long);
-    floats = omega (arith, R.floats_room, R.sound.shaped.rows_long);
-  }
-
   -- there is room for the free variables behind the keys
   pub free_room : {k : ℕ} → k ≡ length u → free_at (variables F) (size F) + length s ≤ k
   free_room e = omega (arith, R.words_room, R.sound.shaped.rows_long, R.sound.start.long)
@@ -113,13 +99,13 @@ work_freed E = record { long = refl; front = refl; many = E.many; at = E.at }
 module _ (F : Field) (s : List ℕ) (limit : ℕ) (l : List ℕ) (f : List Float) (u : List ℕ) where
   -- what the call answers and leaves when it is done
   abbrev pub done_left : Left
-  done_left = left (Done (grade_of F) (length (found F s limit)) (length (examined limit s))) (filled (found F s limit) l) (cleared zero64 f) (cleared 0 u)
+  done_left = left (paired_answer (grade_of F) (length (found F s limit)) (length (examined limit s))) (filled (found F s limit) l) (cleared zero64 f) (cleared 0 u)
 
-  pub refused_call : {r : Refusal} → tested (ready_tests F s (length f) (length u)) ≡ Failed r → left (Refused r) l f u ≡ pairs_call F s limit l f u
+  pub refused_call : {r : Refusal} → tested (ready_tests F s (length f) (length u)) ≡ Err r → left (Err r) l f u ≡ pairs_call F s limit l f u
   unfolding pairs_call
-  refused_call e = usual.refused_call Refused _ _ _ _ e
+  refused_call e = usual.refused_call Err _ _ _ _ e
 
-  module _ {f' : List Float} {u' : List ℕ} {l₁ : List ℕ} {x : Tally} (a b : ℕ) (passed : tested (ready_tests F s (length f) (length u)) ≡ Passed) (W : Walked F s limit l l₁ x)
+  module _ {f' : List Float} {u' : List ℕ} {l₁ : List ℕ} {x : Tally} (a b : ℕ) (passed : tested (ready_tests F s (length f) (length u)) ≡ passed) (W : Walked F s limit l l₁ x)
       (ef : f' ≡ replicate a zero64) (lf : a ≡ length f) (eu : u' ≡ replicate b 0) (lu : b ≡ length u) where
     same_room : room l₁ ≡ room l
     same_room = ap room_of (ap length W.list ∙ length_written (found F s limit) l)
@@ -127,15 +113,15 @@ module _ (F : Field) (s : List ℕ) (limit : ℕ) (l : List ℕ) (f : List Float
         room_of : ℕ → ℕ
         room_of k = k / 3
 
-    pub done_call : {g : Grade} → g ≡ grade_of F → x.items ≤ room l₁ → left (Done g x.items x.pairs) l₁ f' u' ≡ pairs_call F s limit l f u
+    pub done_call : {g : Grade} → g ≡ grade_of F → x.items ≤ room l₁ → left (paired_answer g x.items x.pairs) l₁ f' u' ≡ pairs_call F s limit l f u
     unfolding pairs_call
     done_call eg h =
         let enough : length (found F s limit) ≤ room l = omega (arith, W.items, same_room) in
-        rw (eg, W.items, W.pairs, W.list, written_filled (found F s limit) l enough, ef, lf, eu, lu) (usual.last_passes Refused _ _ Room _ _ passed (le-leb _ _ enough))
+        rw (eg, W.items, W.pairs, W.list, written_filled (found F s limit) l enough, ef, lf, eu, lu) (usual.last_passes Err _ _ Room _ _ passed (le-leb _ _ enough))
 
-    pub full_call : {l₂ : List ℕ} (c : ℕ) → room l₁ < x.items → l₂ ≡ replicate c 0 → c ≡ length l₁ → left (Refused Room) l₂ f' u' ≡ pairs_call F s limit l f u
+    pub full_call : {l₂ : List ℕ} (c : ℕ) → room l₁ < x.items → l₂ ≡ replicate c 0 → c ≡ length l₁ → left (Err Room) l₂ f' u' ≡ pairs_call F s limit l f u
     unfolding pairs_call
     full_call c h el lc =
         let over : room l < length (found F s limit) = omega (arith, W.items, same_room) in
         let long : length l₁ ≡ length l = ap length W.list ∙ length_written (found F s limit) l in
-        rw (el, lc, long, ef, lf, eu, lu) (usual.last_refuses Refused _ _ Room _ _ passed (lt-leb _ _ over))
+        rw (el, lc, long, ef, lf, eu, lu) (usual.last_refuses Err _ _ Room _ _ passed (lt-leb _ _ over))

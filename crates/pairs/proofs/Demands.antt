@@ -49,12 +49,15 @@ use Rattle.margins.proofs.Verdict.{kind_means, kind_sound, kind_pattern, kind_st
 use Rattle.constraints.specs.Record.{room, records, filled, Fit}
 use Rattle.constraints.proofs.Records.{filled_rest, records_filled}
 use Rattle.pairs.specs.declared.Paired.{Paired}
-use Rattle.pairs.specs.declared.Paired.TheVariants.{Done, Refused}
 use Rattle.pairs.specs.Listing.{allowed, examined, pair_count, pair_records, found_in, found}
 use Rattle.pairs.specs.Call.{Left, left, fits, pairs_table, pairs_call, listed, DoneSays, Ruled}
 use Rattle.pairs.proofs.Examined.{examined_count, longer, FreePair, examined_free, examined_rise, still_examined}
 use Rattle.pairs.proofs.CallLaws.{done_left}
 use Rattle.pairs.proofs.Found.{Gives, Ordered, found_gives, gives_found, found_proper, found_on, found_rising, not_full}
+use Rattle.field.specs.Answers.{Answer}
+use Rattle.pairs.specs.Answers.{paired_answer}
+use Rattle.std.specs.Prelude.{Err}
+use Rattle.calls.proofs.Answers.{done_apart, same_refused, same_done}
 
 -- Theorem. Any two results that the promise permits are equal.
 pub one_result : (F : Field) (s : List ℕ) (limit : ℕ) (l : List ℕ) (f : List Float) (u : List ℕ) (x y : Left) → x ≡ pairs_call F s limit l f u → y ≡ pairs_call F s limit l f u → x ≡ y
@@ -106,35 +109,29 @@ pattern_forbids false false = refl
 
 -- ---- the answer
 
-same_refused : (r t : Refusal) → Refused r ≡ Refused t → r ≡ t
-same_refused r t e = cc
-
-done_apart : {A : Type 0} {g : Grade} {items pairs : ℕ} (r : Refusal) → Done g items pairs ≡ Refused r → A
-done_apart r e = let z : ◌≡◌ {A = ℕ} 0 1 = cc in absurd (omega arith)
-
 module _ (F : Field) (s : List ℕ) (limit : ℕ) (l : List ℕ) (f : List Float) (u : List ℕ) where
   -- Theorem. DEMAND 1. Refused with r exactly if the tests before r's own pass, and its own fails: 9 is the last.
-  pub refused_when : (r : Refusal) → ((pairs_call F s limit l f u).answer ≡ Refused r) ↔ FirstToFail (pairs_table F s limit l (length f) (length u)) r
+  pub refused_when : (r : Refusal) → ((pairs_call F s limit l f u).answer ≡ Err r) ↔ FirstToFail (pairs_table F s limit l (length f) (length u)) r
   unfolding pairs_call table
-  refused_when = usual.refused_when Refused _ _ _ _ same_refused done_apart refl
+  refused_when = usual.refused_when Err _ _ _ _ same_refused done_apart refl
 
   -- Theorem. A refusal 1 to 8 changes nothing lent.
-  pub refused_leaves : (r : Refusal) → r ≢ Room → (pairs_call F s limit l f u).answer ≡ Refused r → pairs_call F s limit l f u ≡ left (Refused r) l f u
+  pub refused_leaves : (r : Refusal) → r ≢ Room → (pairs_call F s limit l f u).answer ≡ Err r → pairs_call F s limit l f u ≡ left (Err r) l f u
   unfolding pairs_call
-  refused_leaves r n e = usual.refused_leaves Refused _ _ _ _ same_refused done_apart r (other_stage n no_stage) e
+  refused_leaves r n e = usual.refused_leaves Err _ _ _ _ same_refused done_apart r (other_stage n no_stage) e
 
   -- Theorem. It is 9 exactly if all tests pass and there are more constraints than room.
-  pub room_when : ((pairs_call F s limit l f u).answer ≡ Refused Room) ↔ (Ready F s (length f) (length u) × (room l < length (found F s limit)))
+  pub room_when : ((pairs_call F s limit l f u).answer ≡ Err Room) ↔ (Ready F s (length f) (length u) × (room l < length (found F s limit)))
   unfolding pairs_call
   room_when =
-      let t = usual.last_when Refused _ _ Room _ _ same_refused done_apart (never_room F s (length f) (length u)) (fits F s limit l) in
+      let t = usual.last_when Err _ _ Room _ _ same_refused done_apart (never_room F s (length f) (length u)) (fits F s limit l) in
       let p = ready_passes F s (length f) (length u) in
       ((λ e. (p.0 (t.0 e).0, leb-false _ _ (t.0 e).1)), λ h. t.1 (p.1 h.0, lt-leb _ _ h.1))
 
   -- Theorem. On 9 the list and both scratches are all zeros.
-  pub room_leaves : (pairs_call F s limit l f u).answer ≡ Refused Room → pairs_call F s limit l f u ≡ left (Refused Room) (cleared 0 l) (cleared zero64 f) (cleared 0 u)
+  pub room_leaves : (pairs_call F s limit l f u).answer ≡ Err Room → pairs_call F s limit l f u ≡ left (Err Room) (cleared 0 l) (cleared zero64 f) (cleared 0 u)
   unfolding pairs_call
-  room_leaves e = usual.later_leaves Refused _ _ _ _ same_refused done_apart Room _ (never_room F s (length f) (length u)) (this_stage no_stage) e
+  room_leaves e = usual.later_leaves Err _ _ _ _ same_refused done_apart Room _ (never_room F s (length f) (length u)) (this_stage no_stage) e
 
   -- what the call answers and leaves when it is done
   abbrev result : Left
@@ -143,33 +140,34 @@ module _ (F : Field) (s : List ℕ) (limit : ℕ) (l : List ℕ) (f : List Float
   passed : ((pairs_call F s limit l f u).answer ≡ result.answer) ↔ (Ready F s (length f) (length u) × (length (found F s limit) ≤ room l))
   unfolding pairs_call table
   passed =
-      usual.done_when Refused _ _ _ _ same_refused done_apart
+      usual.done_when Err _ _ _ _ same_refused done_apart
       (group_is (ready_tests F s (length f) (length u)) _ (ready_passes F s (length f) (length u)) (last_is Room _ (le_is (length (found F s limit)) (room l))))
 
-  ended : {g : Grade} {items pairs : ℕ} → (pairs_call F s limit l f u).answer ≡ Done g items pairs → pairs_call F s limit l f u ≡ result
+  ended : {g : Grade} {items pairs : ℕ} → (pairs_call F s limit l f u).answer ≡ paired_answer g items pairs → pairs_call F s limit l f u ≡ result
   unfolding pairs_call
-  ended e = usual.done_leaves Refused _ _ _ _ same_refused done_apart (λ r z. done_apart r (sym e ∙ z))
+  ended e = usual.done_leaves Err _ _ _ _ same_refused done_apart (λ r z. done_apart r (sym e ∙ z))
 
   -- Theorem. The call is done exactly if every test passes and the list has room, and then gives the grade, the number of constraints and the number of pairs by the formula.
-  pub done_when : (g : Grade) (items pairs : ℕ) → ((pairs_call F s limit l f u).answer ≡ Done g items pairs) ↔ DoneSays F s limit l f u g items pairs
+  pub done_when : (g : Grade) (items pairs : ℕ) → ((pairs_call F s limit l f u).answer ≡ paired_answer g items pairs) ↔ DoneSays F s limit l f u g items pairs
   done_when g items pairs = (
     λ e.
         let w : result.answer ≡ (pairs_call F s limit l f u).answer = ap (λ (x : Left). x.answer) (sym (ended e)) in
-        let q : result.answer ≡ Done g items pairs = w ∙ e in
+        let q : result.answer ≡ paired_answer g items pairs = w ∙ e in
         let p = passed.0 (sym w) in
-        let eg : g ≡ grade_of F = cc in
-        let ei : items ≡ length (found F s limit) = cc in
-        let ep : pairs ≡ length (examined limit s) = cc in
+        let z = same_done q in
+        let eg : g ≡ grade_of F = sym (ap (λ (x : Paired). x.grade) z) in
+        let ei : items ≡ length (found F s limit) = sym (ap (λ (x : Paired). x.items) z) in
+        let ep : pairs ≡ length (examined limit s) = sym (ap (λ (x : Paired). x.pairs) z) in
         record { ready = p.0; enough = p.1; graded = eg; counted = ei; pairs_counted = ep ∙ examined_count limit s },
     λ h. rw (h.graded, h.counted, h.pairs_counted, sym (examined_count limit s)) (passed.1 (h.ready, h.enough)),
   )
 
-  module _ (g : Grade) (items pairs : ℕ) (e : (pairs_call F s limit l f u).answer ≡ Done g items pairs) where
+  module _ (g : Grade) (items pairs : ℕ) (e : (pairs_call F s limit l f u).answer ≡ paired_answer g items pairs) where
     -- Theorem. Then the records are at the front of the list, and both scratches are all zeros.
-    pub done_leaves : pairs_call F s limit l f u ≡ left (Done g items pairs) (filled (found F s limit) l) (cleared zero64 f) (cleared 0 u)
+    pub done_leaves : pairs_call F s limit l f u ≡ left (paired_answer g items pairs) (filled (found F s limit) l) (cleared zero64 f) (cleared 0 u)
     done_leaves =
-        let q : result.answer ≡ Done g items pairs = ap (λ (x : Left). x.answer) (sym (ended e)) ∙ e in
-        ended e ∙ ap (λ (a : Paired). left a (filled (found F s limit) l) (cleared zero64 f) (cleared 0 u)) q
+        let q : result.answer ≡ paired_answer g items pairs = ap (λ (x : Left). x.answer) (sym (ended e)) ∙ e in
+        ended e ∙ ap (λ (a : Answer Paired). left a (filled (found F s limit) l) (cleared zero64 f) (cleared 0 u)) q
 
     -- Theorem. The first records of the list are those that the rule gives, no more and no fewer, and elements past the last of them are unchanged.
     pub list_holds : listed items (pairs_call F s limit l f u) ≡ found F s limit
@@ -205,13 +203,13 @@ module _ (F : Field) (s : List ℕ) (limit : ℕ) (l : List ℕ) (f : List Float
 -- Theorem. DEMAND 3. A larger limit keeps each record and only lengthens the list: where both calls are done, the records of the smaller limit stand at the front of those of the larger.
 pub longer_list : (F : Field) (s : List ℕ) (limit more : ℕ) → limit ≤ more
     → (l l' : List ℕ) (f f' : List Float) (u u' : List ℕ) (g g' : Grade) (items items' pairs pairs' : ℕ)
-    → (pairs_call F s limit l f u).answer ≡ Done g items pairs → (pairs_call F s more l' f' u').answer ≡ Done g' items' pairs'
+    → (pairs_call F s limit l f u).answer ≡ paired_answer g items pairs → (pairs_call F s more l' f' u').answer ≡ paired_answer g' items' pairs'
     → (rest : List Record) × (listed items' (pairs_call F s more l' f' u') ≡ listed items (pairs_call F s limit l f u) ++ rest)
 longer_list F s limit more h l l' f f' u u' g g' items items' pairs pairs' e e' =
     let z = longer_found F s limit more h in
     (z.0, list_holds F s more l' f' u' g' items' pairs' e' ∙ z.1 ∙ ap (λ (x : List Record). x ++ z.0) (sym (list_holds F s limit l f u g items pairs e)))
 
-module _ (F : Field) (s : List ℕ) (limit : ℕ) (l : List ℕ) (f : List Float) (u : List ℕ) (items pairs : ℕ) (e : (pairs_call F s limit l f u).answer ≡ Done ExactGrade items pairs) where
+module _ (F : Field) (s : List ℕ) (limit : ℕ) (l : List ℕ) (f : List Float) (u : List ℕ) (items pairs : ℕ) (e : (pairs_call F s limit l f u).answer ≡ paired_answer ExactGrade items pairs) where
   -- what an answer of done with the grade exact says of the field and the start values
   exact_in : {unit : ℕ} → Serves unit F → Exact unit F
   exact_in v = record { unit = omega (arith, v.to); exact = v.exact; shaped = ((done_when F s limit l f u ExactGrade items pairs).0 e).ready.sound.shaped }
@@ -298,7 +296,7 @@ module _ (F : Field) (s : List ℕ) (limit : ℕ) (l : List ℕ) (f : List Float
       best_meets g.is_pair g.gives v x best g.forbids
 
   -- Theorem. A forbidden pair stays with further start values that fix neither of its variables, in a call with the same limit.
-  pub further_keep : (s' l' : List ℕ) (f' : List Float) (u' : List ℕ) (items' pairs' : ℕ) → (pairs_call F s' limit l' f' u').answer ≡ Done ExactGrade items' pairs' → Extends s s'
+  pub further_keep : (s' l' : List ℕ) (f' : List Float) (u' : List ℕ) (items' pairs' : ℕ) → (pairs_call F s' limit l' f' u').answer ≡ paired_answer ExactGrade items' pairs' → Extends s s'
       → (i j : ℕ) (p : Pair) → get_or s' i 0 ≡ 2 → get_or s' j 0 ≡ 2 → Bans (listed items (pairs_call F s limit l f u)) i j p → Bans (listed items' (pairs_call F s' limit l' f' u')) i j p
   further_keep s' l' f' u' items' pairs' e' more i j p fi fj b =
       let g = given_by F s limit (rw holds at b) in

@@ -62,9 +62,6 @@ pub freeing_turn : {s : List ℕ} {base i count w : ℕ} {u₀ u : List ℕ} →
     → Freeing s base (i + 1) u₀ (set u (base + count) i) (count + w)
 freeing_turn E l room e = record { within = omega arith; freed = freed_turn E.freed (omega (arith, freeing_few E)) e }
 
-pub freeing_done : {s : List ℕ} {base i count : ℕ} {u₀ u : List ℕ} → Freeing s base i u₀ u count → length s ≤ i → Freed s base (length s) u₀ u count
-freeing_done {s} {base} {i} {count} {u₀} {u} E l = let e : i ≡ length s = omega (arith, E.within) in rw e at E.freed
-
 -- what the walk reads
 module _ {s : List ℕ} {base k : ℕ} {u₀ u : List ℕ} (E : Freed s base (length s) u₀ u k) {a i : ℕ} (h : a < k) (e : i ≡ get_or u (base + a) 0) where
   pub free_is : i ≡ get_or (free_of s) a 0

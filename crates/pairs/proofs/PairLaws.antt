@@ -1,5 +1,5 @@
 -- One pair from what is prepared: the two rows, the weight between its variables, and what the walk says. Assumes nothing.
-use Prim.Native.Nat.{ℕ, ◌+◌, ◌-◌, ◌<◌, ◌≤◌}
+use Prim.Native.Nat.{ℕ, ◌-◌, ◌<◌, ◌≤◌}
 use mathlib.Core.Path.{◌≡◌, refl, ◌∙◌}
 use mathlib.Core.Bool.{true}
 use mathlib.Core.List.{List}
@@ -10,8 +10,8 @@ use lib.Ieee.{Float, nan}
 use Rattle.meaning.specs.Free.{is_free}
 use Rattle.field.specs.Field.{Field, variables}
 use Rattle.margins.specs.declared.bounds.Bounds.{Bounds}
-use Rattle.margins.specs.Model.{start_from, bounds_to, merged_weight, tolerance, tolerance_from, signs_of, pair_signs}
-use Rattle.margins.specs.Merge.{rows_of, Fit, Rises, Looked, Listed, walk_all}
+use Rattle.margins.specs.Model.{start_from, bounds_to, merged_weight, tolerance, signs_of, pair_signs}
+use Rattle.margins.specs.Merge.{rows_of, Rises, Looked, Listed, walk_all}
 use Rattle.margins.proofs.Search.{looked_weight}
 use Rattle.margins.proofs.Merged.{walk_is}
 use Rattle.neighbours.specs.Rows.{keys_at, weights_at, end_of, size}
@@ -37,10 +37,6 @@ module _ {F : Field} {s : List ℕ} {f : List Float} {u : List ℕ} (P : Prepare
   abbrev weights : List Float
   weights = onward (weights_at (variables F)) f
 
-  -- the tolerance is worked from the masses
-  pub tolerance_is : {i j : ℕ} {t : Float} → i < variables F → j < variables F → t ≡ tolerance_from (get_or f (variables F + i) nan) (get_or f (variables F + j) nan) → t ≡ tolerance F i j
-  tolerance_is {i} {j} hi hj e = e ∙ rw (P.parts.mass i hi, P.parts.mass j hj) refl
-
   module _ {t : ℕ} (h : t < variables F) (fr : is_free s t ≡ true) {a e : ℕ} (ea : a ≡ get_or u t 0) (ee : e ≡ end_of (variables F) (size F) u t) where
     row_of : Listed F s t keys weights a e
     row_of = rw (onward_is (keys_at n m) u, onward_is (weights_at n) f, ea, ee) (P.row t h fr)
@@ -54,17 +50,11 @@ module _ {F : Field} {s : List ℕ} {f : List Float} {u : List ℕ} (P : Prepare
     pub row_rises : Rises keys a e
     row_rises = row_of.rising
 
-    pub row_asks : Rises keys a e × ((e ≤ length keys) × (e ≤ length weights))
-    row_asks = (row_rises, (in_keys, in_weights))
-
     pub edge_is : {j : ℕ} {r : Float} → j < variables F → is_free s j ≡ true → Looked keys weights a e j r → r ≡ merged_weight F t j
     edge_is hj fj L = looked_weight row_of L hj fj
 
   module _ {i j : ℕ} (hi : i < variables F) (hj : j < variables F) (fi : is_free s i ≡ true) (fj : is_free s j ≡ true) {ai aj ei ej : ℕ}
       (eai : ai ≡ get_or u i 0) (eaj : aj ≡ get_or u j 0) (eei : ei ≡ end_of (variables F) (size F) u i) (eej : ej ≡ end_of (variables F) (size F) u j) {t : Float} where
-    pub walk_asks : Fit (rows_of keys weights ei ej i j t)
-    walk_asks = record { weight_i = in_weights hi fi eai eei; weight_j = in_weights hj fj eaj eej; in_i = in_keys hi fi eai eei; in_j = in_keys hj fj eaj eej }
-
     pub walk_says : {edge : Float} {b r : Bounds} → t ≡ tolerance F i j → edge ≡ merged_weight F i j → b ≡ start_from (get_or f i nan) (get_or f j nan) edge
         → r ≡ (walk_all (rows_of keys weights ei ej i j t) (record { left = ai; right = aj; bounds = b })).bounds → signs_of t r ≡ pair_signs F s i j
     unfolding bounds_to

@@ -1,5 +1,5 @@
 -- What the call `pairs` answers and leaves, as one function of what it is given, for every input. Assumes nothing.
-use Rattle.std.specs.Prelude.{ℕ, ◌≤◌, ◌≡◌, Bool, leb, length, take, Float}
+use Rattle.std.specs.Prelude.{ℕ, ◌≤◌, ◌≡◌, Bool, leb, length, take, Float, Err}
 use mathlib.Core.List.{List, [], ◌∷◌, ◌++◌, Memᴰ}
 use Rattle.weights.specs.Worth.{zero64}
 use Rattle.scratch.specs.Cleared.{cleared}
@@ -8,7 +8,7 @@ use Rattle.meaning.specs.Records.{Record}
 use Rattle.meaning.specs.Pair.{bit}
 use Rattle.field.specs.declared.Grade.{Grade}
 use Rattle.field.specs.declared.Refusal.TheVariants.{Room}
-use Rattle.field.specs.Answers.{number_of}
+use Rattle.field.specs.Answers.{Answer}
 use Rattle.field.specs.Field.{Field}
 use Rattle.field.specs.Table.{Test, test}
 use Rattle.field.specs.Tests.{ready_tests, Ready}
@@ -18,13 +18,8 @@ use Rattle.calls.specs.Call.{called, stage, usual}
 use Rattle.margins.specs.Dominance.{Dominates}
 use Rattle.constraints.specs.Record.{room, records, filled}
 use Rattle.pairs.specs.declared.Paired.{Paired}
-use Rattle.pairs.specs.declared.Paired.TheVariants.{Done, Refused}
 use Rattle.pairs.specs.Listing.{free_of, examined, pair_count, found}
-
--- The table's number of an answer of `pairs`: 0 when done, else that of the refusal.
-abbrev pub paired_number : Paired → ℕ
-paired_number (Done g items pairs) = 0
-paired_number (Refused r) = number_of r
+use Rattle.pairs.specs.Answers.{paired_answer}
 
 -- whether the list has room for every record (rule 3.7)
 abbrev pub fits : Field → List ℕ → ℕ → List ℕ → Bool
@@ -46,10 +41,10 @@ lent l f u = record { list = l; floats = f; words = u }
 
 -- The answer of `pairs`, and its three lent lists afterwards.
 abbrev pub Left : Type 0
-Left = any.Left Paired Lent
+Left = any.Left (Answer Paired) Lent
 
 -- What the call `pairs` leaves, made of its answer and its three lent lists.
-abbrev pub left : Paired → List ℕ → List Float → List ℕ → Left
+abbrev pub left : Answer Paired → List ℕ → List Float → List ℕ → Left
 left r l f u = any.left r (lent l f u)
 
 -- tests 1 to 6 and 8, then room, then the pairs: on 9 the list is all zeros, what stands behind the last item is as it was,
@@ -57,8 +52,8 @@ left r l f u = any.left r (lent l f u)
 unfoldable pub pairs_call : Field → List ℕ → ℕ → List ℕ → List Float → List ℕ → Left
 pairs_call F s limit l f u =
     called
-    (usual Refused (lent l f u) (ready_tests F s (length f) (length u)) (stage Room (fits F s limit l) (lent (cleared 0 l) (cleared zero64 f) (cleared 0 u)) ∷ [])
-    (left (Done (grade_of F) (length (found F s limit)) (length (examined limit s))) (filled (found F s limit) l) (cleared zero64 f) (cleared 0 u)))
+    (usual Err (lent l f u) (ready_tests F s (length f) (length u)) (stage Room (fits F s limit l) (lent (cleared 0 l) (cleared zero64 f) (cleared 0 u)) ∷ [])
+    (left (paired_answer (grade_of F) (length (found F s limit)) (length (examined limit s))) (filled (found F s limit) l) (cleared zero64 f) (cleared 0 u)))
 
 -- the first `items` records of the list that a call leaves
 abbrev pub listed : ℕ → Left → List Record

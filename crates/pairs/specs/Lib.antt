@@ -1,3 +1,4 @@
+pub mod Answers
+pub mod Call
 pub mod Listing
 pub mod Walk
-pub mod Call

@@ -9,9 +9,9 @@ ghost use Rattle.pairs.specs.Walk.{Prepared, free_at, Freed, next_of, is_left as
 
 use constraints::Kind;
 use constraints::keys::{key, put_key};
+use field::FieldRef;
 use margins::bounds::{Bounds, Sign, judged, tolerance};
 use margins::walking::{Walk, walk_rows, weight_of};
-use scratch::wide_word;
 
 // Two positions in the list of free variables.
 #[derive(Clone, Copy)]
@@ -32,7 +32,7 @@ fn counted(value: u8) -> usize
     ensures value { result ≡ cond (eqb value 2) 1 0 }
     ensures upper_bound { result ≤ 1 }
 {
-    if value == 2 { 1 } else { 0 }
+    usize::from(value == 2)
 }
 
 // The free variables, rising, from `base` on; how many there are.
@@ -42,19 +42,16 @@ pub fn list_free(values: &[u8], u: &mut [u32], base: usize) -> usize
     ensures { Freed values.now base (length values.now) u.old u.new result }
 {
     let mut count = 0;
-    for i in 0..values.len() {
+    for (i, value) in values.iter().enumerate() {
         u[base + count] = i as u32;
-        count = count + counted(values[i]);
+        count += counted(*value);
     }
     count
 }
 
 // The bounds of the pair, or those at which no constraint was possible any more.
 fn pair_bounds(
-    c: &[f64],
-    rows: &[u16],
-    cols: &[u16],
-    q: &[f64],
+    field: FieldRef,
     values: &[u8],
     f: &[f64],
     u: &[u32],
@@ -62,22 +59,22 @@ fn pair_bounds(
     j: usize,
     t: f64,
 ) -> Bounds
-    requires prepared { Prepared (lent c rows cols q) values.now f.now u.now }
-    requires i_bound { (i < variables (lent c rows cols q)) × (j < variables (lent c rows cols q)) }
+    requires prepared { Prepared (lent field) values.now f.now u.now }
+    requires i_bound { (i < variables (lent field)) × (j < variables (lent field)) }
     requires i_value { (is_free values.now i ≡ true) × (is_free values.now j ≡ true) }
-    requires t_value { t ≡ tolerance_of (lent c rows cols q) i j }
-    ensures { signs_of t result ≡ pair_signs (given c rows cols q) values.now i j }
+    requires t_value { t ≡ tolerance_of (lent field) i j }
+    ensures { signs_of t result ≡ pair_signs (given field) values.now i j }
 {
-    let n = c.len();
-    let ends = n + 1 + 2 * rows.len();
+    let n = field.c.len();
+    let ends = n + 1 + 2 * field.rows.len();
     let base = ends + n;
     let top = n + n;
     let keys = &u[base..];
     let weights = &f[top..];
-    let left = wide_word(u[i]);
-    let right = wide_word(u[j]);
-    let ei = wide_word(u[ends + i]);
-    let ej = wide_word(u[ends + j]);
+    let left = u[i] as usize;
+    let right = u[j] as usize;
+    let ei = u[ends + i] as usize;
+    let ej = u[ends + j] as usize;
     let edge = weight_of(keys, weights, left, ei, j);
     let bounds = Bounds::start(f[i], f[j], edge);
     walk_rows(
@@ -140,10 +137,7 @@ fn diff_key(i: u16, j: u16, sign: Sign) -> u32
 
 // One pair: what it gives goes behind what is there, in one record; the number of the next.
 fn append_pair(
-    c: &[f64],
-    rows: &[u16],
-    cols: &[u16],
-    q: &[f64],
+    field: FieldRef,
     values: &[u8],
     f: &[f64],
     u: &[u32],
@@ -152,15 +146,15 @@ fn append_pair(
     i: usize,
     j: usize,
 ) -> usize
-    requires prepared { Prepared (lent c rows cols q) values.now f.now u.now }
-    requires i_bound { (i < variables (lent c rows cols q)) × (j < variables (lent c rows cols q)) }
+    requires prepared { Prepared (lent field) values.now f.now u.now }
+    requires i_bound { (i < variables (lent field)) × (j < variables (lent field)) }
     requires i_value { (is_free values.now i ≡ true) × (is_free values.now j ≡ true) }
     requires at_bound { at ≤ 250000 }
-    ensures { Appended (pair_records (given c rows cols q) values.now (pair i j)) list.old at list.new result }
+    ensures { Appended (pair_records (given field) values.now (pair i j)) list.old at list.new result }
 {
-    let n = c.len();
+    let n = field.c.len();
     let t = tolerance(f[n + i], f[n + j]);
-    let bounds = pair_bounds(c, rows, cols, q, values, f, u, i, j, t);
+    let bounds = pair_bounds(field, values, f, u, i, j, t);
     let sum = judged(bounds.sumLow, bounds.sumHigh, t);
     let diff = judged(bounds.diffLow, bounds.diffHigh, t);
     let a = sum_key(i as u16, j as u16, sum);
@@ -178,14 +172,15 @@ impl Cursor {
         let first = self.first;
         let second = self.second;
         if second + 1 < k {
-            return Cursor {
+            Cursor {
                 first,
                 second: second + 1,
-            };
-        }
-        Cursor {
-            first: first + 1,
-            second: first + 2,
+            }
+        } else {
+            Cursor {
+                first: first + 1,
+                second: first + 2,
+            }
         }
     }
 }
@@ -194,26 +189,19 @@ impl Cursor {
 fn is_left(pairs: usize, most: usize, k: usize, x: Cursor) -> bool
     ensures { result ≡ is_left_of pairs most k x }
 {
-    let second = x.second;
-    if pairs < most {
-        return second < k;
-    }
-    false
+    pairs < most && x.second < k
 }
 
 // Limits above 250,000 act as 250,000.
 fn capped(limit: usize) -> usize
     ensures { result ≡ allowed limit }
 {
-    if limit < 250000 { limit } else { 250000 }
+    limit.min(250000)
 }
 
 // The free pairs in rising order, up to the limit, which is 250,000 at most; how many were examined, and how many records they gave.
 pub fn walk_pairs(
-    c: &[f64],
-    rows: &[u16],
-    cols: &[u16],
-    q: &[f64],
+    field: FieldRef,
     values: &[u8],
     f: &[f64],
     u: &[u32],
@@ -221,25 +209,24 @@ pub fn walk_pairs(
     limit: usize,
     list: &mut [u16],
 ) -> Tally
-    requires prepared { Prepared (lent c rows cols q) values.now f.now u.now }
-    requires freed { Freed values.now (free_at (length c.now) (length rows.now)) (length values.now) u.now u.now k }
-    requires values_in_bounds { free_at (length c.now) (length rows.now) + length values.now ≤ length u.now }
-    ensures { Walked (given c rows cols q) values.now limit list.old list.new result }
+    requires prepared { Prepared (lent field) values.now f.now u.now }
+    requires freed { Freed values.now (free_at (variables (lent field)) (length (lent field).rows)) (length values.now) u.now u.now k }
+    requires values_in_bounds { free_at (variables (lent field)) (length (lent field).rows) + length values.now ≤ length u.now }
+    ensures { Walked (given field) values.now limit list.old list.new result }
 {
     let most = capped(limit);
-    let base = c.len() + 1 + 2 * rows.len() + c.len() + 2 * rows.len();
+    let base = field.c.len() + 1 + 2 * field.rows.len() + field.c.len() + 2 * field.rows.len();
     let mut pairs = 0;
     let mut items = 0;
     let mut x = Cursor {
         first: 0,
         second: 1,
     };
+    // The cursor moves over two positions, and the limit may end it in front of the last pair.
     while is_left(pairs, most, k, x) {
-        let first = x.first;
-        let second = x.second;
-        let i = wide_word(u[base + first]);
-        let j = wide_word(u[base + second]);
-        items = append_pair(c, rows, cols, q, values, f, u, list, items, i, j);
+        let i = u[base + x.first] as usize;
+        let j = u[base + x.second] as usize;
+        items = append_pair(field, values, f, u, list, items, i, j);
         pairs += 1;
         x = x.after(k);
     }

@@ -40,9 +40,6 @@ unfolding opened
 opened_free [] = refl
 opened_free (x ∷ s) = ap (λ (l : List ℕ). x ∷ l) (opened_free s)
 
-pub mark_start : {base : ℕ} (all : Bool) {s u : List ℕ} → base + length s ≤ length u → Marking base all s u u 0
-mark_start {base} all {s} {u} h = record { room = h; within = omega arith; words = paste-zero u base (opened all s) }
-
 module _ {base : ℕ} {all : Bool} {s u₀ u : List ℕ} {i : ℕ} (M : Marking base all s u₀ u i) where
   pub mark_long : length u ≡ length u₀
   mark_long = ap length M.words ∙ length-paste u₀ base (opened all s) i (omega (arith, M.room, M.within)) (omega (arith, M.within, opened_long all s))
@@ -58,9 +55,6 @@ module _ {base : ℕ} {all : Bool} {s u₀ u : List ℕ} {i : ℕ} (M : Marking 
     words = rw (M.words, e ∙ sym (get_or-map (mark_of all) s i 0), add-one)
         (paste-suc u₀ base (opened all s) i (mark_of all 0) (omega (arith, M.room)) (omega (arith, opened_long all s)));
   }
-
-  pub mark_done : length s ≤ i → u ≡ paste u₀ base (opened all s) (length s)
-  mark_done h = let e : i ≡ length s = omega (arith, M.within) in rw e at M.words
 
 -- ---- what `begin` leaves
 

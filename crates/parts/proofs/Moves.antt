@@ -2,12 +2,12 @@
 use Prim.Native.Nat.{ℕ, ◌+◌, ◌<◌}
 use mathlib.Core.Path.{◌≡◌, sym, ap, ◌∙◌}
 use mathlib.Core.Logic.{◌≢◌}
-use mathlib.Core.Bool.{Bool, true, false, not}
+use mathlib.Core.Bool.{Bool, true, false}
 use mathlib.Core.List.{List, ◌∷◌}
 use native.Mathlib.Numerals.{add-one}
 use native.Mathlib.Decide.{ℕ_discrete}
 use native.Mathlib.Omega.{arith}
-use borrow.Author.Tests.{eq-eqb, ne_eqb, not-true, not-false}
+use borrow.Author.Tests.{eq-eqb, ne_eqb}
 use lib.ListN.{length, get_or, set, take, drop, length-set}
 use lib.Seq.{lt-length-set, take-set-le, drop-set-lt, get_or-set_same, get_or-set_other}
 use Rattle.scratch.proofs.Region.{region_at, region_set, region_above}
@@ -16,7 +16,7 @@ use Rattle.meaning.proofs.Free.{frees_set}
 use Rattle.field.specs.Field.{Field, variables, entries, quad_of}
 use Rattle.places.specs.Places.{other_end}
 use Rattle.places.proofs.Walk.{adjacent_front}
-use Rattle.parts.specs.Walk.{search, joins_by, push, visit, visit_at}
+use Rattle.parts.specs.Walk.{joins_by, push, visit, visit_at}
 use Rattle.parts.specs.Cells.{Cells, cells, base, stack_base, members_base, marks_in, stack_in, search_in, Placed, Does}
 use Rattle.parts.proofs.Cells.{stack_same, does_same, does_as}
 

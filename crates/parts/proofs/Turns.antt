@@ -139,12 +139,6 @@ module _ {F : Field} {zeros : Bool} {s₀ : Cells} {u : List ℕ} {last count : 
     pub next_within : count < variables F
     next_within = omega (arith, S.room)
 
-    pub from_index : stack_base F + (last - 1) < length u
-    from_index = omega (arith, S.room, S.placed.words_room)
-
-    pub to_index : members_base F + count < length u
-    to_index = omega (arith, S.room, S.placed.words_room)
-
     module _ {i : ℕ} {u₁ : List ℕ} (ei : i ≡ get_or u (stack_base F + (last - 1)) 0) (eu : u₁ ≡ set (set u (stack_base F + (last - 1)) 0) (members_base F + count) i) where
       pub pop_ready : Placed F (cells u₁ (last - 1)) × (i < variables F)
       pop_ready = (rw eu (popped_placed (last - 1) count next_placed next_within ei), popped_below (last - 1) count next_placed next_within ei)

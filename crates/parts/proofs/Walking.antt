@@ -11,7 +11,7 @@ use lib.Seq.{append_snoc}
 use Rattle.meaning.specs.Free.{frees}
 use Rattle.meaning.proofs.Free.{frees_le}
 use Rattle.field.specs.Field.{Field, Shaped, variables}
-use Rattle.parts.specs.Walk.{Search, search, push, visit, Walk, turn_on_of, turn, turns, walk, members_from, marks_from}
+use Rattle.parts.specs.Walk.{Search, search, push, visit, Walk, turn_on_of, turns, walk, members_from, marks_from}
 use Rattle.parts.specs.Part.{has, Open, Joined, Reaches, here, there, Component}
 use Rattle.parts.proofs.Listed.{has_there, has_last}
 use Rattle.parts.proofs.Going.{Going, Taken, bool_cases, going_start, visit_going, serve_going, serve_closes, serve_visited, visited}

@@ -4,7 +4,7 @@ use mathlib.Core.List.{List, [], ◌∷◌, map}
 use Prim.Native.Nat.{ℕ, suc, ◌+◌, ◌*◌, ◌-◌, ◌<◌, ◌≤◌}
 use native.Mathlib.Numerals.{add-one}
 use native.Mathlib.Omega.{arith}
-use lib.ListN.{length, get_or, set, take, length-set, length-map}
+use lib.ListN.{length, get_or, set, take, length-set}
 use lib.Seq.{slice, slice-cons, slice_empty, take-set-le, get_or-drop, get_or-take}
 use Rattle.places.specs.Places.{Adjacent, places, degree, start, Touches, other_end, entry_in, end_in, word_of, Word}
 use Rattle.places.proofs.Slices.{front_get_d, front_slice}

@@ -14,7 +14,7 @@ pub fn build(u: &mut [u32], rows: &[u16], cols: &[u16], n: usize)
     requires rows_in_bounds { n + 1 + 2 * length rows.now ≤ length u.old }
     ensures { Built n rows.now cols.now u.old u.new }
 {
-    scratch::clear_words(&mut u[..n]);
+    u[..n].fill(0);
     counting::count(u, rows, cols, n);
     counting::sums(u, n);
     placing::place(u, rows, cols, n);
@@ -40,7 +40,7 @@ pub fn other_end(rows: &[u16], cols: &[u16], i: usize, k: usize) -> usize
     requires k_in_bounds_2 { k < length cols.now }
     ensures { result ≡ other_end_of rows.now cols.now i k }
 {
-    let r = scratch::wide_short(rows[k]);
-    let c = scratch::wide_short(cols[k]);
+    let r = usize::from(rows[k]);
+    let c = usize::from(cols[k]);
     if r == i { c } else { r }
 }

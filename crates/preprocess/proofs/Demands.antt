@@ -13,7 +13,6 @@ use Rattle.meaning.proofs.Values.{extends_trans}
 use Rattle.meaning.proofs.Safe.{safe_trans}
 use Rattle.weights.specs.Worth.{zero64}
 use Rattle.scratch.specs.Cleared.{cleared}
-use Rattle.field.specs.declared.Answer.TheVariants.{Done, Refused}
 use Rattle.field.specs.declared.Grade.{Grade}
 use Rattle.field.specs.declared.Grade.TheVariants.{Exact}
 use Rattle.field.specs.declared.Refusal.{Refusal}
@@ -33,6 +32,7 @@ use Rattle.preprocess.specs.Working.{with_no_effect, preprocess}
 use Rattle.preprocess.specs.Call.{preprocess_call}
 use Rattle.preprocess.proofs.Idle.{idle_start, idle_extends, idle_stands, closure_stays}
 use Rattle.preprocess.proofs.Zeroed.{idle_zero}
+use Rattle.std.specs.Prelude.{Ok, Err}
 
 -- ---- the model
 
@@ -71,20 +71,20 @@ module _ (F : Field) (s : List ℕ) (f : List Float) (u : List ℕ) where
   one_result = values.one_result _ F s f u
 
   -- Theorem. The call is refused with r exactly if the tests before r's own pass, and its own fails.
-  pub refused_when : (r : Refusal) → ((preprocess_call F s f u).answer ≡ Refused r) ↔ FirstToFail (ready_tests F s (length f) (length u)) r
+  pub refused_when : (r : Refusal) → ((preprocess_call F s f u).answer ≡ Err r) ↔ FirstToFail (ready_tests F s (length f) (length u)) r
   refused_when = values.refused_when _ F s f u
 
   -- Theorem. A refusal changes nothing lent.
-  pub refused_leaves : (r : Refusal) → (preprocess_call F s f u).answer ≡ Refused r → preprocess_call F s f u ≡ left (Refused r) s f u
+  pub refused_leaves : (r : Refusal) → (preprocess_call F s f u).answer ≡ Err r → preprocess_call F s f u ≡ left (Err r) s f u
   refused_leaves = values.refused_leaves _ F s f u
 
   -- Theorem. It is done exactly if the field, the start values and both scratches are as the table asks, and then gives the grade.
-  pub done_when : ((preprocess_call F s f u).answer ≡ Done (grade_of F)) ↔ Ready F s (length f) (length u)
+  pub done_when : ((preprocess_call F s f u).answer ≡ Ok (grade_of F)) ↔ Ready F s (length f) (length u)
   done_when = values.done_when _ F s f u
 
-  module _ (g : Grade) (e : (preprocess_call F s f u).answer ≡ Done g) where
+  module _ (g : Grade) (e : (preprocess_call F s f u).answer ≡ Ok g) where
     -- Theorem. Then the values are in the start values, and both scratches are all zeros.
-    pub done_leaves : preprocess_call F s f u ≡ left (Done (grade_of F)) (preprocess F s) (cleared zero64 f) (cleared 0 u)
+    pub done_leaves : preprocess_call F s f u ≡ left (Ok (grade_of F)) (preprocess F s) (cleared zero64 f) (cleared 0 u)
     done_leaves = values.done_leaves _ F s f u g e
 
     pub values_are : (preprocess_call F s f u).lent.values ≡ preprocess F s
@@ -107,7 +107,7 @@ module _ (F : Field) (s : List ℕ) (f : List Float) (u : List ℕ) where
     closure_among = rw values_are (preprocess_closes F sound.shaped sound.start)
 
 -- Theorem. DEMAND 3. On an exact field some best completion of the start values agrees with all values.
-pub some_best_agrees : (F : Field) (s : List ℕ) (f : List Float) (u : List ℕ) → (preprocess_call F s f u).answer ≡ Done Exact
+pub some_best_agrees : (F : Field) (s : List ℕ) (f : List Float) (u : List ℕ) → (preprocess_call F s f u).answer ≡ Ok Exact
     → {unit : ℕ} → Serves unit F → Safe (whole_of unit F) s (preprocess_call F s f u).lent.values
 some_best_agrees F s f u e v =
     let x = values.exact_field _ F s f u e in

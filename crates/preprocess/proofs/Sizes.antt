@@ -10,7 +10,6 @@ use lib.Dec.{eqb}
 use lib.ListN.{length, get_or}
 use lib.Ieee.{Float}
 use Rattle.meaning.proofs.Values.{inside}
-use Rattle.field.specs.declared.Answer.TheVariants.{Done}
 use Rattle.field.specs.declared.Grade.{Grade}
 use Rattle.field.specs.Field.{Field, variables, Shaped, StartFor}
 use Rattle.calls.proofs.Values as values
@@ -25,6 +24,7 @@ use Rattle.preprocess.specs.Call.{preprocess_call}
 use Rattle.preprocess.proofs.Blind.{ends_touch, closure_blind, closure_leaves}
 use Rattle.preprocess.proofs.Idle.{idle_start, idle_extends, idle_passes}
 use Rattle.preprocess.proofs.Demands.{preprocess_idle, values_are}
+use Rattle.std.specs.Prelude.{Ok}
 
 -- ---- what a variable reaches
 
@@ -107,7 +107,7 @@ module _ {F : Field} (S : Shaped F) {s : List ℕ} (start : StartFor (variables 
 
 -- ---- the call
 
-module _ (F : Field) (s : List ℕ) (f : List Float) (u : List ℕ) (g : Grade) (e : (preprocess_call F s f u).answer ≡ Done g)
+module _ (F : Field) (s : List ℕ) (f : List Float) (u : List ℕ) (g : Grade) (e : (preprocess_call F s f u).answer ≡ Ok g)
     {i : ℕ} (free : Open (closure F s) i) {mine : List ℕ} (C : Component F true (closure F s) i mine) where
   -- Theorem. A variable that the closure leaves free has a value where its component has at most 10 of them.
   pub small_valued : length mine ≤ 10 → get_or (preprocess_call F s f u).lent.values i 0 < 2

@@ -11,7 +11,6 @@ use lib.Dec.{eqb}
 use lib.ListN.{get_or}
 use lib.Ieee.{Float}
 use Rattle.meaning.proofs.Values.{inside}
-use Rattle.field.specs.declared.Answer.TheVariants.{Done}
 use Rattle.field.specs.declared.Grade.{Grade}
 use Rattle.field.specs.Field.{Field, variables, Shaped, StartFor}
 use Rattle.calls.proofs.Values as values
@@ -27,6 +26,7 @@ use Rattle.preprocess.proofs.Blind.{ends_touch, closure_blind, closure_leaves}
 use Rattle.preprocess.proofs.Idle.{idle_start, idle_extends, idle_passes}
 use Rattle.preprocess.proofs.Zeroed.{idle_zero}
 use Rattle.preprocess.proofs.Demands.{values_are}
+use Rattle.std.specs.Prelude.{Ok}
 
 -- none of them is free where the work begins
 pub idle_given : (F : Field) {s : List ℕ} → StartFor (variables F) s → (i : ℕ) → has_no_effect F i ≡ true → get_or (with_no_effect F s) i 0 ≢ 2
@@ -81,7 +81,7 @@ frees_alike {F} S {s} {s'} start start' E i = by (has_no_effect F i) refl
 
 -- Theorem. The other variables end the same, whether those of no effect are free, 0 or 1 at the start.
 pub idle_unseen : (F : Field) (s s' : List ℕ) (f f' : List Float) (u u' : List ℕ) (g g' : Grade)
-    → (preprocess_call F s f u).answer ≡ Done g → (preprocess_call F s' f' u').answer ≡ Done g'
+    → (preprocess_call F s f u).answer ≡ Ok g → (preprocess_call F s' f' u').answer ≡ Ok g'
     → SameElsewhere F s s' → SameElsewhere F (preprocess_call F s f u).lent.values (preprocess_call F s' f' u').lent.values
 idle_unseen F s s' f f' u u' g g' e e' E =
     let A = (values.ready _ F s f u g e).sound in

@@ -7,9 +7,9 @@ use mathlib.Core.List.{List}
 use native.Mathlib.Nat.{le_antisymm}
 use native.Mathlib.Numerals.{add-one}
 use native.Mathlib.Omega.{arith}
-use borrow.Author.Tests.{eq-eqb, ne_eqb, not-true, not-false}
+use borrow.Author.Tests.{eq-eqb, ne_eqb}
 use lib.ListN.{length, get_or, set, length-set}
-use lib.Ieee.{Float, nan, ne}
+use lib.Ieee.{Float, nan, eq}
 use Rattle.weights.specs.Worth.{zero64}
 use Rattle.scratch.proofs.All.{and_yes, and_no}
 use Rattle.meaning.specs.Free.{is_free}
@@ -26,13 +26,11 @@ module _ (c : List Float) (u : List ℕ) (i : ℕ) where
   pub placed_not : get_or u i 0 ≢ get_or u (i + 1) 0 → idle c u i ≡ false
   placed_not n = sym (and_no _ (ne_eqb (get_or u i 0) (get_or u (i + 1) 0) n))
 
-  pub weighs_not : get_or u i 0 ≡ get_or u (i + 1) 0 → ne (get_or c i nan) zero64 ≡ true → idle c u i ≡ false
-  unfolding ne
-  weighs_not z e = sym (and_yes (eq-eqb (get_or u i 0) (get_or u (i + 1) 0) z) (sym (not-true _ e)))
+  pub weighs_not : get_or u i 0 ≡ get_or u (i + 1) 0 → eq (get_or c i nan) zero64 ≡ false → idle c u i ≡ false
+  weighs_not z e = sym (and_yes (eq-eqb (get_or u i 0) (get_or u (i + 1) 0) z) (sym e))
 
-  pub is_idle : get_or u i 0 ≡ get_or u (i + 1) 0 → ne (get_or c i nan) zero64 ≡ false → idle c u i ≡ true
-  unfolding ne
-  is_idle z e = sym (and_yes (eq-eqb (get_or u i 0) (get_or u (i + 1) 0) z) (sym (not-false _ e)))
+  pub is_idle : get_or u i 0 ≡ get_or u (i + 1) 0 → eq (get_or c i nan) zero64 ≡ true → idle c u i ≡ true
+  is_idle z e = sym (and_yes (eq-eqb (get_or u i 0) (get_or u (i + 1) 0) z) (sym e))
 
 module _ {b : Bool} (i : ℕ) (s : List ℕ) where
   pub not_meant : b ≡ false → s ≡ fix_at b i s

@@ -4,6 +4,8 @@ ghost use Rattle.field.specs.Field.{given, lent, variables, Shaped};
 ghost use Rattle.places.specs.Places.{Adjacent};
 ghost use Rattle.preprocess.specs.Working.{idle, fix_at as fix_at_of, with_no_effect};
 
+use field::FieldRef;
+
 // Variable i takes 0 if it is free and has no effect; it has no place where its offset is the next one's.
 fn fix_at(c: &[f64], u: &[u32], values: &mut [u8], i: usize)
     requires i_in_bounds { i < length c.now }
@@ -11,26 +13,19 @@ fn fix_at(c: &[f64], u: &[u32], values: &mut [u8], i: usize)
     requires i_in_bounds_3 { i < length values.old }
     ensures { values.new ≡ fix_at_of (idle c.now u.now i) i values.old }
 {
-    if u[i] != u[i + 1] {
-        return;
+    if u[i] == u[i + 1] && c[i] == 0.0 && values[i] == 2 {
+        values[i] = 0;
     }
-    if c[i] != 0.0 {
-        return;
-    }
-    if values[i] != 2 {
-        return;
-    }
-    values[i] = 0;
 }
 
 // Every free variable of no effect counts as 0.
-pub fn fix_idle(c: &[f64], rows: &[u16], cols: &[u16], q: &[f64], u: &[u32], values: &mut [u8])
-    requires shaped { Shaped (lent c rows cols q) }
-    requires values_len { length values.old ≡ variables (lent c rows cols q) }
-    requires adjacent { Adjacent (variables (lent c rows cols q)) rows.now cols.now u.now }
-    ensures { values.new ≡ with_no_effect (given c rows cols q) values.old }
+pub fn fix_idle(field: FieldRef, u: &[u32], values: &mut [u8])
+    requires shaped { Shaped (lent field) }
+    requires values_len { length values.old ≡ variables (lent field) }
+    requires adjacent { Adjacent (variables (lent field)) (lent field).rows (lent field).cols u.now }
+    ensures { values.new ≡ with_no_effect (given field) values.old }
 {
-    for i in 0..c.len() {
-        fix_at(c, u, values, i);
+    for i in 0..field.c.len() {
+        fix_at(field.c, u, values, i);
     }
 }

@@ -11,65 +11,38 @@ ghost use Rattle.places.specs.Places.{Adjacent};
 ghost use Rattle.preprocess.specs.Working.{Closes, Preprocesses};
 ghost use Rattle.preprocess.specs.Call.{preprocess_call};
 
-use field::{Answer, Checked};
+use field::{Answer, FieldRef, Grade};
 
 // The rows, and the run from them; the places stay.
-fn close(
-    c: &[f64],
-    rows: &[u16],
-    cols: &[u16],
-    q: &[f64],
-    values: &mut [u8],
-    f: &mut [f64],
-    u: &mut [u32],
-)
-    requires ready { Ready (lent c rows cols q) values.old (length f.old) (length u.old) }
-    requires adjacent { Adjacent (variables (lent c rows cols q)) rows.now cols.now u.old }
-    ensures { Closes (given c rows cols q) values.old u.old values.new u.new }
+fn close(field: FieldRef, values: &mut [u8], f: &mut [f64], u: &mut [u32])
+    requires ready { Ready (lent field) values.old (length f.old) (length u.old) }
+    requires adjacent { Adjacent (variables (lent field)) (lent field).rows (lent field).cols u.old }
+    ensures { Closes (given field) values.old u.old values.new u.new }
 {
-    rows::fill::fill(c, rows, cols, q, values, f);
-    run::propagate(c, rows, cols, q, values, f, u);
+    rows::fill::fill(field, values, f);
+    run::propagate(field, values, f, u);
 }
 
 // Variables of no effect first, then the closure, then the small components; the places stand, and stay.
-pub fn work(
-    c: &[f64],
-    rows: &[u16],
-    cols: &[u16],
-    q: &[f64],
-    values: &mut [u8],
-    f: &mut [f64],
-    u: &mut [u32],
-)
-    requires ready { Ready (lent c rows cols q) values.old (length f.old) (length u.old) }
-    requires adjacent { Adjacent (variables (lent c rows cols q)) rows.now cols.now u.old }
-    ensures { Preprocesses (given c rows cols q) values.old values.new u.new }
+pub fn work(field: FieldRef, values: &mut [u8], f: &mut [f64], u: &mut [u32])
+    requires ready { Ready (lent field) values.old (length f.old) (length u.old) }
+    requires adjacent { Adjacent (variables (lent field)) (lent field).rows (lent field).cols u.old }
+    ensures { Preprocesses (given field) values.old values.new u.new }
 {
-    fixing::fix_idle(c, rows, cols, q, u, values);
-    close(c, rows, cols, q, values, f, u);
-    components::solve(c, rows, cols, q, values, u);
+    fixing::fix_idle(field, u, values);
+    close(field, values, f, u);
+    components::solve(field, values, u);
 }
 
 // The values of closure, small components and no effect go into the start values; a refusal changes nothing.
-pub fn preprocess(
-    c: &[f64],
-    rows: &[u16],
-    cols: &[u16],
-    q: &[f64],
-    start: &mut [u8],
-    f: &mut [f64],
-    u: &mut [u32],
-) -> Answer
-    ensures { left result start.new f.new u.new ≡ preprocess_call (given c rows cols q) start.old f.old u.old }
+pub fn preprocess(field: FieldRef, start: &mut [u8], f: &mut [f64], u: &mut [u32]) -> Answer<Grade>
+    ensures { left result start.new f.new u.new ≡ preprocess_call (given field) start.old f.old u.old }
 {
-    let checked = field::tests::ready(c, rows, cols, q, start, f.len(), u.len());
-    if let Checked::Failed(refusal) = checked {
-        return Answer::Refused(refusal);
-    }
-    let grade = field::grading::graded(c, rows, cols, q);
-    places::build(u, rows, cols, c.len());
-    work(c, rows, cols, q, start, f, u);
-    scratch::clear_floats(f);
-    scratch::clear_words(u);
-    Answer::Done(grade)
+    field::tests::ready(field, start, f.len(), u.len())?;
+    let grade = field::grading::graded(field);
+    places::build(u, field.rows, field.cols, field.c.len());
+    work(field, start, f, u);
+    f.fill(0.0);
+    u.fill(0);
+    Ok(grade)
 }

@@ -10,7 +10,7 @@ fn answer_next(stdin: Stdin, stdout: Stdout) -> bool {
     if read_full(stdin, &mut head) < 2 {
         return false;
     }
-    let size = scratch::wide_short(endian::short(&head, 0));
+    let size = usize::from(endian::short(&head, 0));
     if size > 18179 {
         return false;
     }
@@ -25,9 +25,7 @@ fn answer_next(stdin: Stdin, stdout: Stdout) -> bool {
 }
 
 fn main(rt: HostRuntime) {
-    let mut left: usize = 1000;
-    while left > 0 {
-        left -= 1;
+    for _ in 0..1000 {
         if !answer_next(rt.stdin(), rt.stdout()) {
             return;
         }

@@ -17,7 +17,6 @@ use Rattle.meaning.specs.Steps.{Extends}
 use Rattle.meaning.specs.Field.{Best}
 use Rattle.meaning.proofs.Values.{inside, after_set, fixed}
 use Rattle.meaning.proofs.Probe.{best_has_probe}
-use Rattle.field.specs.declared.Answer.TheVariants.{Done, Refused}
 use Rattle.field.specs.declared.Grade.{Grade}
 use Rattle.field.specs.declared.Grade.TheVariants.{Exact}
 use Rattle.field.specs.declared.Refusal.{Refusal}
@@ -38,6 +37,7 @@ use Rattle.run.specs.Run.{closure}
 use Rattle.run.proofs.Theorems as run
 use Rattle.probe.specs.Call.{probe_tests, probe_table, Probable, new_at, new_only, probe_one, given_by, Gives, Left, left, probe_one_call, probe_one_by}
 use Rattle.probe.proofs.Laws.{probe_passes, never_room}
+use Rattle.std.specs.Prelude.{Ok, Err}
 
 -- Theorem. Any two results that the promise permits are equal.
 pub one_result : (F : Field) (s : List ℕ) (i v : ℕ) (t : List ℕ) (f : List Float) (u : List ℕ) (x y : Left)
@@ -48,49 +48,49 @@ module _ (F : Field) (s : List ℕ) (i v : ℕ) (t : List ℕ) (f : List Float) 
   -- ---- DEMAND 1
 
   -- Theorem. The call is refused with r exactly if the tests before r's own pass, and its own fails.
-  pub refused_when : (r : Refusal) → ((probe_one_call F s i v t f u).answer ≡ Refused r) ↔ FirstToFail (probe_table F s i v t (length f) (length u)) r
+  pub refused_when : (r : Refusal) → ((probe_one_call F s i v t f u).answer ≡ Err r) ↔ FirstToFail (probe_table F s i v t (length f) (length u)) r
   unfolding probe_one_by probe_table table
-  refused_when = usual.refused_when Refused _ _ _ _ same_refused done_apart refl
+  refused_when = usual.refused_when Err _ _ _ _ same_refused done_apart refl
 
   -- Theorem. A refusal from 1 to 8 changes nothing lent.
-  pub refused_leaves : (r : Refusal) → r ≢ Room → (probe_one_call F s i v t f u).answer ≡ Refused r → probe_one_call F s i v t f u ≡ left (Refused r) t f u
+  pub refused_leaves : (r : Refusal) → r ≢ Room → (probe_one_call F s i v t f u).answer ≡ Err r → probe_one_call F s i v t f u ≡ left (Err r) t f u
   unfolding probe_one_by
-  refused_leaves r n e = usual.refused_leaves Refused _ _ _ _ same_refused done_apart r (other_stage n no_stage) e
+  refused_leaves r n e = usual.refused_leaves Err _ _ _ _ same_refused done_apart r (other_stage n no_stage) e
 
   -- Theorem. Refusal 9 is given exactly if those tests pass and the list is not n long.
-  pub room_when : ((probe_one_call F s i v t f u).answer ≡ Refused Room) ↔ (Probable F s i v (length f) (length u) × (length t ≢ variables F))
+  pub room_when : ((probe_one_call F s i v t f u).answer ≡ Err Room) ↔ (Probable F s i v (length f) (length u) × (length t ≢ variables F))
   unfolding probe_one_by
   room_when =
-      let w = usual.last_when Refused _ _ Room _ _ same_refused done_apart (never_room F s i v (length f) (length u)) (eqb (length t) (variables F)) in
+      let w = usual.last_when Err _ _ Room _ _ same_refused done_apart (never_room F s i v (length f) (length u)) (eqb (length t) (variables F)) in
       let p = probe_passes F s i v (length f) (length u) in
       ((λ e. (p.0 (w.0 e).0, eqb-false _ _ (w.0 e).1)), λ h. w.1 (p.1 h.0, ne_eqb _ _ h.1))
 
   -- Theorem. On 9 the list and both scratches are all zeros.
-  pub room_leaves : (probe_one_call F s i v t f u).answer ≡ Refused Room → probe_one_call F s i v t f u ≡ left (Refused Room) (cleared 0 t) (cleared zero64 f) (cleared 0 u)
+  pub room_leaves : (probe_one_call F s i v t f u).answer ≡ Err Room → probe_one_call F s i v t f u ≡ left (Err Room) (cleared 0 t) (cleared zero64 f) (cleared 0 u)
   unfolding probe_one_by
-  room_leaves e = usual.later_leaves Refused _ _ _ _ same_refused done_apart Room _ (never_room F s i v (length f) (length u)) (this_stage no_stage) e
+  room_leaves e = usual.later_leaves Err _ _ _ _ same_refused done_apart Room _ (never_room F s i v (length f) (length u)) (this_stage no_stage) e
 
   -- Theorem. It is done exactly if the field, the start values, the variable, the value, both scratches and the list are as the table asks, and then gives the grade.
-  pub done_when : ((probe_one_call F s i v t f u).answer ≡ Done (grade_of F)) ↔ (Probable F s i v (length f) (length u) × (length t ≡ variables F))
+  pub done_when : ((probe_one_call F s i v t f u).answer ≡ Ok (grade_of F)) ↔ (Probable F s i v (length f) (length u) × (length t ≡ variables F))
   unfolding probe_one_by table
   done_when =
-      usual.done_when Refused _ _ _ _ same_refused done_apart
+      usual.done_when Err _ _ _ _ same_refused done_apart
       (group_is (probe_tests F s i v (length f) (length u)) _ (probe_passes F s i v (length f) (length u)) (last_is Room _ (eq_is (length t) (variables F))))
 
-  module _ (g : Grade) (e : (probe_one_call F s i v t f u).answer ≡ Done g) where
+  module _ (g : Grade) (e : (probe_one_call F s i v t f u).answer ≡ Ok g) where
     -- Theorem. Then the probe is in the list, and both scratches are all zeros.
-    pub done_leaves : probe_one_call F s i v t f u ≡ left (Done (grade_of F)) (probe_one F s i v) (cleared zero64 f) (cleared 0 u)
+    pub done_leaves : probe_one_call F s i v t f u ≡ left (Ok (grade_of F)) (probe_one F s i v) (cleared zero64 f) (cleared 0 u)
     unfolding probe_one_by
-    done_leaves = usual.done_leaves Refused _ _ _ _ same_refused done_apart (λ r z. done_apart r (sym e ∙ z))
+    done_leaves = usual.done_leaves Err _ _ _ _ same_refused done_apart (λ r z. done_apart r (sym e ∙ z))
 
-    answered : Done (grade_of F) ≡ (probe_one_call F s i v t f u).answer
+    answered : Ok (grade_of F) ≡ (probe_one_call F s i v t f u).answer
     answered = ap (λ (l : Left). l.answer) (sym done_leaves)
 
     pub probable : Probable F s i v (length f) (length u)
     probable = (done_when.0 (sym answered)).0
 
     graded : grade_of F ≡ g
-    graded = let a : Done (grade_of F) ≡ Done g = answered ∙ e in let z : grade_of F ≡ g = cc in z
+    graded = let a : Ok (grade_of F) ≡ Ok g = answered ∙ e in let z : grade_of F ≡ g = cc in z
 
     values_are : (probe_one_call F s i v t f u).lent.values ≡ probe_one F s i v
     values_are = ap (λ (l : Left). l.lent.values) done_leaves
@@ -132,12 +132,12 @@ module _ (F : Field) (s : List ℕ) (i v : ℕ) (t : List ℕ) (f : List Float) 
 
 -- ---- DEMAND 2. On an exact field it is the whole-number closure of the start values with the one value added.
 
-pub exact_field : (F : Field) (s : List ℕ) (i v : ℕ) (t : List ℕ) (f : List Float) (u : List ℕ) → (probe_one_call F s i v t f u).answer ≡ Done Exact → Shaped F × Serves (unit_of F) F
+pub exact_field : (F : Field) (s : List ℕ) (i v : ℕ) (t : List ℕ) (f : List Float) (u : List ℕ) → (probe_one_call F s i v t f u).answer ≡ Ok Exact → Shaped F × Serves (unit_of F) F
 exact_field F s i v t f u e =
     let shaped = (probable F s i v t f u Exact e).ready.sound.shaped in
     (shaped, (exact_means F shaped.rows_long).0 (graded F s i v t f u Exact e))
 
-module _ (F : Field) (s : List ℕ) (i v : ℕ) (t : List ℕ) (f : List Float) (u : List ℕ) (e : (probe_one_call F s i v t f u).answer ≡ Done Exact) where
+module _ (F : Field) (s : List ℕ) (i v : ℕ) (t : List ℕ) (f : List Float) (u : List ℕ) (e : (probe_one_call F s i v t f u).answer ≡ Ok Exact) where
   -- Theorem. The list is the closure over whole numbers, without the start values.
   pub probe_closes : {unit : ℕ} → Serves unit F → Gives (whole_of unit F) s i v (probe_one_call F s i v t f u).lent.values
   unfolding given_by

@@ -12,8 +12,6 @@ use lib.Seq.{get_or-set_same, get_or-set_other, ext_get_or}
 use lib.Ieee.{Float}
 use Rattle.weights.specs.Worth.{zero64}
 use Rattle.scratch.proofs.Means.{lt_is, le_is, eq_is, both_is}
-use Rattle.field.specs.declared.Answer.TheVariants.{Done, Refused}
-use Rattle.field.specs.declared.Checked.TheVariants.{Passed, Failed}
 use Rattle.field.specs.declared.Grade.{Grade}
 use Rattle.field.specs.declared.Refusal.{Refusal}
 use Rattle.field.specs.declared.Refusal.TheVariants.{Argument, Scratch, Room}
@@ -29,6 +27,8 @@ use Rattle.calls.proofs.Usual as usual
 use Rattle.rows.specs.Stored.{up_to}
 use Rattle.rows.proofs.Upto.{length_up_to, get_d_up_to}
 use Rattle.probe.specs.Call.{may_probe, probe_tests, Probable, probe_one, left, probe_one_call, probe_one_by}
+use Rattle.std.specs.Prelude.{Ok, Err}
+use Rattle.field.specs.Answers.{passed}
 
 -- ---- one value a turn
 
@@ -74,7 +74,7 @@ pub may_mean : (n : ℕ) (s : List ℕ) (i v : ℕ) → (may_probe n s i v ≡ t
 unfolding may_probe
 may_mean n s i v = both_is _ _ (lt_is i n) (both_is _ _ (eq_is _ 2) (le_is v 1))
 
-pub probe_passes : (F : Field) (s : List ℕ) (i v floats words : ℕ) → (tested (probe_tests F s i v floats words) ≡ Passed) ↔ Probable F s i v floats words
+pub probe_passes : (F : Field) (s : List ℕ) (i v floats words : ℕ) → (tested (probe_tests F s i v floats words) ≡ passed) ↔ Probable F s i v floats words
 unfolding probe_tests
 probe_passes F s i v floats words =
     let t = group_is (standard_tests F s) _ (standard_passes F s)
@@ -94,16 +94,16 @@ never_room F s i v floats words = rw (fault_other (variables F) F.rows F.cols 9 
 -- ---- the answer
 
 module _ (F : Field) (s : List ℕ) (i v : ℕ) (t : List ℕ) (f : List Float) (u : List ℕ) where
-  pub refused_call : {r : Refusal} → tested (probe_tests F s i v (length f) (length u)) ≡ Failed r → left (Refused r) t f u ≡ probe_one_call F s i v t f u
+  pub refused_call : {r : Refusal} → tested (probe_tests F s i v (length f) (length u)) ≡ Err r → left (Err r) t f u ≡ probe_one_call F s i v t f u
   unfolding probe_one_by
-  refused_call e = usual.refused_call Refused _ _ _ _ e
+  refused_call e = usual.refused_call Err _ _ _ _ e
 
-  module _ {t' : List ℕ} {f' : List Float} {u' : List ℕ} (k l : ℕ) (e : tested (probe_tests F s i v (length f) (length u)) ≡ Passed)
+  module _ {t' : List ℕ} {f' : List Float} {u' : List ℕ} (k l : ℕ) (e : tested (probe_tests F s i v (length f) (length u)) ≡ passed)
       (ef : f' ≡ replicate k zero64) (lf : k ≡ length f) (eu : u' ≡ replicate l 0) (lu : l ≡ length u) where
-    pub room_call : length t ≢ variables F → t' ≡ replicate (length t) 0 → left (Refused Room) t' f' u' ≡ probe_one_call F s i v t f u
+    pub room_call : length t ≢ variables F → t' ≡ replicate (length t) 0 → left (Err Room) t' f' u' ≡ probe_one_call F s i v t f u
     unfolding probe_one_by
-    room_call n et = rw (et, ef, lf, eu, lu) (usual.last_refuses Refused _ _ Room _ _ e (ne_eqb _ _ n))
+    room_call n et = rw (et, ef, lf, eu, lu) (usual.last_refuses Err _ _ Room _ _ e (ne_eqb _ _ n))
 
-    pub done_call : {g : Grade} → length t ≡ variables F → g ≡ grade_of F → t' ≡ probe_one F s i v → left (Done g) t' f' u' ≡ probe_one_call F s i v t f u
+    pub done_call : {g : Grade} → length t ≡ variables F → g ≡ grade_of F → t' ≡ probe_one F s i v → left (Ok g) t' f' u' ≡ probe_one_call F s i v t f u
     unfolding probe_one_by
-    done_call n eg et = rw (eg, et, ef, lf, eu, lu) (usual.last_passes Refused _ _ Room _ _ e (eq-eqb _ _ n))
+    done_call n eg et = rw (eg, et, ef, lf, eu, lu) (usual.last_passes Err _ _ Room _ _ e (eq-eqb _ _ n))

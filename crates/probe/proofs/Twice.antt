@@ -9,7 +9,6 @@ use lib.Ieee.{Float}
 use Rattle.meaning.specs.Field.{Best}
 use Rattle.meaning.specs.Kinds.{Constraint, Meets}
 use Rattle.meaning.specs.Probe.{Probed}
-use Rattle.field.specs.declared.Answer.TheVariants.{Done}
 use Rattle.field.specs.declared.Grade.TheVariants.{Exact}
 use Rattle.field.specs.Field.{Field, variables}
 use Rattle.field.specs.Grade.{Serves}
@@ -20,6 +19,7 @@ use Rattle.probe.specs.Call.{probe_one_call}
 use Rattle.probe.specs.Found.{nothing, value, constraint, found}
 use Rattle.probe.proofs.Found.{none_value, none_constraint, value_holds, constraint_holds}
 use Rattle.probe.proofs.Demands.{exact_field, probable, start_with, found_at, start_left_out}
+use Rattle.std.specs.Prelude.{Ok}
 
 -- where neither probe gives a value nothing is found
 none_found : (i j : ℕ) {v₀ v₁ : ℕ} → v₀ ≡ 2 → v₁ ≡ 2 → found i j v₀ v₁ ≡ nothing
@@ -27,7 +27,7 @@ unfolding found
 none_found i j e₀ e₁ = rw (e₀, e₁)
 
 module _ (F : Field) (s : List ℕ) (i : ℕ) (t₀ t₁ : List ℕ) (f₀ f₁ : List Float) (u₀ u₁ : List ℕ)
-    (e₀ : (probe_one_call F s i 0 t₀ f₀ u₀).answer ≡ Done Exact) (e₁ : (probe_one_call F s i 1 t₁ f₁ u₁).answer ≡ Done Exact)
+    (e₀ : (probe_one_call F s i 0 t₀ f₀ u₀).answer ≡ Ok Exact) (e₁ : (probe_one_call F s i 1 t₁ f₁ u₁).answer ≡ Ok Exact)
     {unit : ℕ} (serving : Serves unit F) {x : List ℕ} (best : Best (whole_of unit F) s x) (j : ℕ) (below : j < variables F) where
   probed₀ : Probed (whole_of unit F) s i 0 (closure F (set s i 0))
   probed₀ = let y = exact_field F s i 0 t₀ f₀ u₀ e₀ in run.closure_is_closure y.0 serving.exact (start_with F s i 0 t₀ f₀ u₀ Exact e₀)

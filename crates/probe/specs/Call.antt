@@ -1,12 +1,10 @@
 -- What a single probe answers and leaves, by either route, as one function of what it is given, for every input. Assumes nothing.
-use Rattle.std.specs.Prelude.{ℕ, ◌<◌, ◌≤◌, ◌≡◌, Bool, cond, ◌&&◌, List, [], ◌∷◌, ◌++◌, eqb, ltb, leb, length, get_or, set, Float}
+use Rattle.std.specs.Prelude.{ℕ, ◌<◌, ◌≤◌, ◌≡◌, Bool, cond, ◌&&◌, List, [], ◌∷◌, ◌++◌, eqb, ltb, leb, length, get_or, set, Float, Ok, Err}
 use Rattle.weights.specs.Worth.{zero64}
 use Rattle.scratch.specs.Cleared.{cleared}
 use Rattle.meaning.specs.Field as meaning
 use Rattle.meaning.specs.Free.{is_free}
 use Rattle.meaning.specs.Probe.{Probed}
-use Rattle.field.specs.declared.Answer.{Answer}
-use Rattle.field.specs.declared.Answer.TheVariants.{Done, Refused}
 use Rattle.field.specs.declared.Refusal.TheVariants.{Argument, Scratch, Room}
 use Rattle.field.specs.Field.{Field, variables, entries}
 use Rattle.field.specs.Table.{Test, test}
@@ -17,6 +15,8 @@ use Rattle.calls.specs.Values as values
 use Rattle.calls.specs.Values.{lent}
 use Rattle.rows.specs.Stored.{up_to}
 use Rattle.run.specs.Run.{closure}
+use Rattle.field.specs.Answers.{Answer}
+use Rattle.field.specs.declared.Grade.{Grade}
 
 -- ---- the tests
 
@@ -83,7 +83,7 @@ abbrev pub Left : Type 0
 Left = values.Left
 
 -- What a single probe leaves, made of its answer, the list of values and both scratches.
-abbrev pub left : Answer → List ℕ → List Float → List ℕ → Left
+abbrev pub left : Answer Grade → List ℕ → List Float → List ℕ → Left
 left r t f u = values.left r t f u
 
 -- tests 1 to 8, then 9, then the probe of i at v; t is the list that the values go into: 9 where it is not n long, and then it is
@@ -91,8 +91,8 @@ left r t f u = values.left r t f u
 unfoldable pub probe_one_by : Route → Field → List ℕ → ℕ → ℕ → List ℕ → List Float → List ℕ → Left
 probe_one_by R F s i v t f u =
     called
-    (usual Refused (lent t f u) (probe_tests F s i v (length f) (length u)) (stage Room (eqb (length t) (variables F)) (lent (cleared 0 t) (cleared zero64 f) (cleared 0 u)) ∷ [])
-    (left (Done (grade_of F)) (given_by R F s i v) (cleared zero64 f) (cleared 0 u)))
+    (usual Err (lent t f u) (probe_tests F s i v (length f) (length u)) (stage Room (eqb (length t) (variables F)) (lent (cleared 0 t) (cleared zero64 f) (cleared 0 u)) ∷ [])
+    (left (Ok (grade_of F)) (given_by R F s i v) (cleared zero64 f) (cleared 0 u)))
 
 -- the calls `probe_one` and `cold_probe_one`
 abbrev pub probe_one_call : Field → List ℕ → ℕ → ℕ → List ℕ → List Float → List ℕ → Left

@@ -11,14 +11,11 @@ ghost use Rattle.probe.specs.Call.{Probable, left, probe_one_call};
 
 use crate::testing::ready_to_probe;
 use crate::values::{assume, keep_new};
-use field::{Answer, Checked, Refusal};
+use field::{Answer, FieldRef, Grade, Refusal};
 
 // The closure of the start values with the one value added.
 fn work(
-    c: &[f64],
-    rows: &[u16],
-    cols: &[u16],
-    q: &[f64],
+    field: FieldRef,
     start: &[u8],
     variable: usize,
     value: u8,
@@ -26,43 +23,37 @@ fn work(
     f: &mut [f64],
     u: &mut [u32],
 )
-    requires probable { Probable (lent c rows cols q) start.now variable value (length f.old) (length u.old) }
-    requires values_len { length values.old ≡ variables (lent c rows cols q) }
-    ensures { values.new ≡ model.closure (given c rows cols q) (set start.now variable value) }
+    requires probable { Probable (lent field) start.now variable value (length f.old) (length u.old) }
+    requires values_len { length values.old ≡ variables (lent field) }
+    ensures { values.new ≡ model.closure (given field) (set start.now variable value) }
 {
     assume(start, variable, value, values);
-    run::close(c, rows, cols, q, values, f, u);
+    run::close(field, values, f, u);
 }
 
 // What the probe of a variable at a value finds, with rows made afresh, goes into the values; a refusal before 9 changes nothing.
 pub fn cold_probe_one(
-    c: &[f64],
-    rows: &[u16],
-    cols: &[u16],
-    q: &[f64],
+    field: FieldRef,
     start: &[u8],
     variable: usize,
     value: u8,
     values: &mut [u8],
     f: &mut [f64],
     u: &mut [u32],
-) -> Answer
-    ensures { left result values.new f.new u.new ≡ probe_one_call (given c rows cols q) start.now variable value values.old f.old u.old }
+) -> Answer<Grade>
+    ensures { left result values.new f.new u.new ≡ probe_one_call (given field) start.now variable value values.old f.old u.old }
 {
-    let checked = ready_to_probe(c, rows, cols, q, start, variable, value, f.len(), u.len());
-    if let Checked::Failed(refusal) = checked {
-        return Answer::Refused(refusal);
+    ready_to_probe(field, start, variable, value, f.len(), u.len())?;
+    if values.len() != field.c.len() {
+        values.fill(0);
+        f.fill(0.0);
+        u.fill(0);
+        return Err(Refusal::Room);
     }
-    if values.len() != c.len() {
-        scratch::clear_bytes(values);
-        scratch::clear_floats(f);
-        scratch::clear_words(u);
-        return Answer::Refused(Refusal::Room);
-    }
-    let grade = field::grading::graded(c, rows, cols, q);
-    work(c, rows, cols, q, start, variable, value, values, f, u);
+    let grade = field::grading::graded(field);
+    work(field, start, variable, value, values, f, u);
     keep_new(start, values);
-    scratch::clear_floats(f);
-    scratch::clear_words(u);
-    Answer::Done(grade)
+    f.fill(0.0);
+    u.fill(0);
+    Ok(grade)
 }

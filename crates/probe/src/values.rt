@@ -7,9 +7,7 @@ pub fn copy(start: &[u8], values: &mut [u8])
     requires { length values.old ≡ length start.now }
     ensures { values.new ≡ start.now }
 {
-    for i in 0..start.len() {
-        values[i] = start[i];
-    }
+    values.copy_from_slice(start);
 }
 
 // The start values with the one value added go into the values.
@@ -34,7 +32,7 @@ pub fn keep_new(start: &[u8], values: &mut [u8])
     requires { length values.old ≡ length start.now }
     ensures { values.new ≡ new_only start.now values.old }
 {
-    for i in 0..start.len() {
-        values[i] = new_at(start[i], values[i]);
+    for (i, value) in values.iter_mut().enumerate() {
+        *value = new_at(start[i], *value);
     }
 }

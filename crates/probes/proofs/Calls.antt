@@ -11,7 +11,6 @@ use Rattle.meaning.specs.Kinds.{Pair}
 use Rattle.meaning.specs.Records.{Record, AllProper, MeetsRecord, Bans}
 use Rattle.meaning.specs.Rising.{Rising}
 use Rattle.constraints.specs.Record.{Fit}
-use Rattle.field.specs.declared.Counted.TheVariants.{Counts}
 use Rattle.field.specs.declared.Grade.{Grade}
 use Rattle.field.specs.declared.Grade.TheVariants.{Exact}
 use Rattle.field.specs.Field.{Field, variables, Shaped, StartFor}
@@ -25,6 +24,7 @@ use Rattle.probes.specs.Says.{listed, value_at, DoneSays}
 use Rattle.probes.proofs.Gathered as gathered
 use Rattle.probes.proofs.Exact as exact
 use Rattle.probes.proofs.Demands.{done_when, done_leaves, list_holds}
+use Rattle.field.specs.Answers.{counted_answer}
 
 module _ (F : Field) (s cands t k : List ℕ) (f : List Float) (u : List ℕ) where
   abbrev call : Left
@@ -32,7 +32,7 @@ module _ (F : Field) (s cands t k : List ℕ) (f : List Float) (u : List ℕ) wh
 
   -- ---- on every field
 
-  module _ {g : Grade} {count : ℕ} (e : call.answer ≡ Counts g count) where
+  module _ {g : Grade} {count : ℕ} (e : call.answer ≡ counted_answer g count) where
     pub said : DoneSays F s cands t k f u g count
     said = (done_when F s cands t k f u g count).0 e
 
@@ -68,7 +68,7 @@ module _ (F : Field) (s cands t k : List ℕ) (f : List Float) (u : List ℕ) wh
 
   -- ---- on an exact field, over whole numbers
 
-  module _ (free : FreeCandidates s cands) {count : ℕ} (e : call.answer ≡ Counts Exact count) where
+  module _ (free : FreeCandidates s cands) {count : ℕ} (e : call.answer ≡ counted_answer Exact count) where
     pub shaped : Shaped F
     shaped = (said e).ready.sound.shaped
 

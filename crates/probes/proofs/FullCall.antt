@@ -15,7 +15,6 @@ use Rattle.meaning.specs.Records.{Record, AllProper, MeetsRecord, Bans}
 use Rattle.meaning.specs.Rising.{Rising}
 use Rattle.meaning.proofs.Values.{inside}
 use Rattle.constraints.specs.Record.{room, filled, Fit}
-use Rattle.field.specs.declared.Counted.TheVariants.{Counts, Refuses}
 use Rattle.field.specs.declared.Grade.{Grade}
 use Rattle.field.specs.declared.Grade.TheVariants.{Exact}
 use Rattle.field.specs.declared.Refusal.{Refusal}
@@ -31,6 +30,8 @@ use Rattle.probes.specs.Says.{listed, value_at, DoneSays}
 use Rattle.probes.proofs.Demands as any
 use Rattle.probes.proofs.Calls as call
 use Rattle.probes.proofs.Candidates.{in_free, full_free, greatest_gives, none_free_gives}
+use Rattle.field.specs.Answers.{counted_answer}
+use Rattle.std.specs.Prelude.{Err}
 
 -- what counts as a candidate may be said in another way
 given_as : {G : meaning.Field} {s : List ℕ} {C D : ℕ → Type 0} {i j : ℕ} {p : Pair} → ((i : ℕ) → C i → D i) → Given G s C i j p → Given G s D i j p
@@ -62,42 +63,42 @@ module _ (F : Field) (s t k : List ℕ) (f : List Float) (u : List ℕ) where
   -- ---- refusals
 
   -- Theorem. DEMAND 1. The call is refused with r exactly if the tests before r's own pass, and its own fails.
-  pub probe_refused_when : (r : Refusal) → ((probe_call F s t k f u).answer ≡ Refuses r) ↔ FirstToFail (candidates_table F s (free_to s (variables F)) t k (length f) (length u)) r
+  pub probe_refused_when : (r : Refusal) → ((probe_call F s t k f u).answer ≡ Err r) ↔ FirstToFail (candidates_table F s (free_to s (variables F)) t k (length f) (length u)) r
   unfolding probe_by
   probe_refused_when = any.refused_when F s free t k f u
 
   -- Theorem. A refusal from 1 to 8 changes nothing lent.
-  pub probe_refused_leaves : (r : Refusal) → r ≢ Room → (probe_call F s t k f u).answer ≡ Refuses r → probe_call F s t k f u ≡ left (Refuses r) t k f u
+  pub probe_refused_leaves : (r : Refusal) → r ≢ Room → (probe_call F s t k f u).answer ≡ Err r → probe_call F s t k f u ≡ left (Err r) t k f u
   unfolding probe_by
   probe_refused_leaves = any.refused_leaves F s free t k f u
 
   -- Theorem. 9 is given exactly if the tests before it pass, and the value list is not n long or the records, merged by pair, are more than the list has room for.
-  pub probe_room_when : ((probe_call F s t k f u).answer ≡ Refuses Room)
+  pub probe_room_when : ((probe_call F s t k f u).answer ≡ Err Room)
       ↔ (Ready F s (length f) (length u) × ((length t ≢ variables F) ⊎ (room k < length (all_records F s (free_to s (variables F))))))
   unfolding probe_by
   probe_room_when = any.room_when F s free t k f u
 
   -- Theorem. It leaves both answer lists and both scratches all zeros.
-  pub probe_room_leaves : (probe_call F s t k f u).answer ≡ Refuses Room
-      → probe_call F s t k f u ≡ left (Refuses Room) (cleared 0 t) (cleared 0 k) (cleared zero64 f) (cleared 0 u)
+  pub probe_room_leaves : (probe_call F s t k f u).answer ≡ Err Room
+      → probe_call F s t k f u ≡ left (Err Room) (cleared 0 t) (cleared 0 k) (cleared zero64 f) (cleared 0 u)
   unfolding probe_by
   probe_room_leaves = any.room_leaves F s free t k f u
 
   -- ---- done
 
   -- Theorem. The call is done exactly if every test passes, and then gives the grade and the number of records.
-  pub probe_done_when : (g : Grade) (count : ℕ) → ((probe_call F s t k f u).answer ≡ Counts g count) ↔ DoneSays F s (free_to s (variables F)) t k f u g count
+  pub probe_done_when : (g : Grade) (count : ℕ) → ((probe_call F s t k f u).answer ≡ counted_answer g count) ↔ DoneSays F s (free_to s (variables F)) t k f u g count
   unfolding probe_by
   probe_done_when = any.done_when F s free t k f u
 
-  module _ {g : Grade} {count : ℕ} (e : (probe_call F s t k f u).answer ≡ Counts g count) where
+  module _ {g : Grade} {count : ℕ} (e : (probe_call F s t k f u).answer ≡ counted_answer g count) where
     long : length s ≡ variables F
     unfolding probe_by
     long = (call.start F s free t k f u e).long
 
     -- Theorem. Then the probe values are in the value list, the records at the front of their list, and both scratches are all zeros.
     pub probe_done_leaves : probe_call F s t k f u
-        ≡ left (Counts g count) (all_values F s (free_to s (variables F))) (filled (all_records F s (free_to s (variables F))) k) (cleared zero64 f) (cleared 0 u)
+        ≡ left (counted_answer g count) (all_values F s (free_to s (variables F))) (filled (all_records F s (free_to s (variables F))) k) (cleared zero64 f) (cleared 0 u)
     unfolding probe_by
     probe_done_leaves = any.done_leaves F s free t k f u g count e
 
@@ -151,13 +152,13 @@ module _ (F : Field) (s t k : List ℕ) (f : List Float) (u : List ℕ) where
   -- ---- on an exact field
 
   -- Theorem. No record has a set of all four bits.
-  pub probe_no_full_set : {count : ℕ} → (probe_call F s t k f u).answer ≡ Counts Exact count → (r : Record) → Memᴰ r (listed count (probe_call F s t k f u)) → r.set ≢ 15
+  pub probe_no_full_set : {count : ℕ} → (probe_call F s t k f u).answer ≡ counted_answer Exact count → (r : Record) → Memᴰ r (listed count (probe_call F s t k f u)) → r.set ≢ 15
   unfolding probe_by
   probe_no_full_set e = call.no_full_set F s free t k f u are_free e
 
   -- ---- over whole numbers, in every unit that serves
 
-  module _ {count : ℕ} (e : (probe_call F s t k f u).answer ≡ Counts Exact count) {unit : ℕ} (serving : Serves unit F) where
+  module _ {count : ℕ} (e : (probe_call F s t k f u).answer ≡ counted_answer Exact count) {unit : ℕ} (serving : Serves unit F) where
     given_free : {i j : ℕ} {p : Pair} → Given (whole_of unit F) s (λ i. Memᴰ i free) i j p ↔ Given (whole_of unit F) s (λ i. get_or s i 0 ≡ 2) i j p
     given_free = (given_as are_free, given_as (λ i q. in_free s (variables F) i (omega (arith, inside s i q, long e)) q))
 

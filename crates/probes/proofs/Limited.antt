@@ -9,8 +9,6 @@ use lib.ListN.{length, take}
 use lib.Seq.{take_all}
 use lib.Ieee.{Float}
 use Rattle.meaning.specs.Free.{free_to}
-use Rattle.field.specs.declared.Checked.{Checked}
-use Rattle.field.specs.declared.Checked.TheVariants.{Passed, Failed}
 use Rattle.field.specs.Field.{Field, variables}
 use Rattle.field.specs.Table.{tested}
 use Rattle.field.specs.Tests.{ready_tests}
@@ -23,6 +21,8 @@ use Rattle.probes.specs.Standing.{settled}
 use Rattle.probes.proofs.Members.{at_in, every_in}
 use Rattle.probes.proofs.Gathered.{same_candidates}
 use Rattle.probes.proofs.Answers.{refused_call, settled_call}
+use Rattle.field.specs.Answers.{Answer}
+use Rattle.std.specs.Prelude.{Err, Ok}
 
 -- ---- the ranks are the free variables
 
@@ -68,9 +68,9 @@ unfolding run fits_by
 settled_same true F s cands other t k f u w e = rw (e, w) (record { answers = refl; lists = refl; both_floats = refl; both_words = refl })
 settled_same false F s cands other t k f u w e = rw (e, w) (record { answers = refl; lists = refl; both_floats = refl; both_words = refl })
 
-pub calls_same : (x : Checked) (F : Field) (s cands other t k : List ℕ) (f : List Float) (u : List ℕ) → x ≡ tested (ready_tests F s (length f) (length u))
+pub calls_same : (x : Answer Unit) (F : Field) (s cands other t k : List ℕ) (f : List Float) (u : List ℕ) → x ≡ tested (ready_tests F s (length f) (length u))
     → all_records F s cands ≡ all_records F s other → SameButValues (candidates_call F s cands t k f u) (candidates_call F s other t k f u)
-calls_same Passed F s cands other t k f u is e =
+calls_same (Ok _) F s cands other t k f u is e =
     rw (← settled_call F s cands t k f u is refl refl, ← settled_call F s other t k f u is refl refl) (settled_same (fits F s other t k) F s cands other t k f u refl e)
-calls_same (Failed r) F s cands other t k f u is e =
+calls_same (Err r) F s cands other t k f u is e =
     rw (← refused_call F s cands t k f u is refl, ← refused_call F s other t k f u is refl) (record { answers = refl; lists = refl; both_floats = refl; both_words = refl })

@@ -16,7 +16,6 @@ use Rattle.meaning.specs.Rising.{Rising, merged_list}
 use Rattle.meaning.proofs.Rising.{holder}
 use Rattle.constraints.specs.Record.{room, filled, Fit}
 use Rattle.constraints.proofs.Records.{filled_none}
-use Rattle.field.specs.declared.Counted.TheVariants.{Counts, Refuses}
 use Rattle.field.specs.declared.Grade.{Grade}
 use Rattle.field.specs.declared.Grade.TheVariants.{Exact}
 use Rattle.field.specs.declared.Refusal.{Refusal}
@@ -39,6 +38,8 @@ use Rattle.probes.proofs.Demands as any
 use Rattle.probes.proofs.Calls as call
 use Rattle.probes.proofs.Candidates.{limited_free, larger_finds}
 use Rattle.probes.proofs.Limited.{limit_all, calls_same}
+use Rattle.field.specs.Answers.{counted_answer}
+use Rattle.std.specs.Prelude.{Err}
 
 module _ (F : Field) (s : List ℕ) (limit : ℕ) (t k : List ℕ) (f : List Float) (u : List ℕ) where
   -- its candidates: the first of the free variables by falling edge mass, then rising index
@@ -56,38 +57,38 @@ module _ (F : Field) (s : List ℕ) (limit : ℕ) (t k : List ℕ) (f : List Flo
 
   -- Theorem. DEMAND 1. The call is refused with r exactly if the tests before r's own pass, and its own fails.
   pub limited_refused_when : (r : Refusal)
-      → ((probe_limited_call F s limit t k f u).answer ≡ Refuses r) ↔ FirstToFail (candidates_table F s (take limit (ranks F s)) t k (length f) (length u)) r
+      → ((probe_limited_call F s limit t k f u).answer ≡ Err r) ↔ FirstToFail (candidates_table F s (take limit (ranks F s)) t k (length f) (length u)) r
   unfolding probe_limited_by
   limited_refused_when = any.refused_when F s chosen t k f u
 
   -- Theorem. A refusal from 1 to 8 changes nothing lent.
-  pub limited_refused_leaves : (r : Refusal) → r ≢ Room → (probe_limited_call F s limit t k f u).answer ≡ Refuses r → probe_limited_call F s limit t k f u ≡ left (Refuses r) t k f u
+  pub limited_refused_leaves : (r : Refusal) → r ≢ Room → (probe_limited_call F s limit t k f u).answer ≡ Err r → probe_limited_call F s limit t k f u ≡ left (Err r) t k f u
   unfolding probe_limited_by
   limited_refused_leaves = any.refused_leaves F s chosen t k f u
 
   -- Theorem. 9 is given exactly if the tests before it pass, and the value list is not n long or the records, merged by pair, are more than the list has room for.
-  pub limited_room_when : ((probe_limited_call F s limit t k f u).answer ≡ Refuses Room)
+  pub limited_room_when : ((probe_limited_call F s limit t k f u).answer ≡ Err Room)
       ↔ (Ready F s (length f) (length u) × ((length t ≢ variables F) ⊎ (room k < length (all_records F s (take limit (ranks F s))))))
   unfolding probe_limited_by
   limited_room_when = any.room_when F s chosen t k f u
 
   -- Theorem. It leaves both answer lists and both scratches all zeros.
-  pub limited_room_leaves : (probe_limited_call F s limit t k f u).answer ≡ Refuses Room
-      → probe_limited_call F s limit t k f u ≡ left (Refuses Room) (cleared 0 t) (cleared 0 k) (cleared zero64 f) (cleared 0 u)
+  pub limited_room_leaves : (probe_limited_call F s limit t k f u).answer ≡ Err Room
+      → probe_limited_call F s limit t k f u ≡ left (Err Room) (cleared 0 t) (cleared 0 k) (cleared zero64 f) (cleared 0 u)
   unfolding probe_limited_by
   limited_room_leaves = any.room_leaves F s chosen t k f u
 
   -- ---- done
 
   -- Theorem. The call is done exactly if every test passes, and then gives the grade and the number of records.
-  pub limited_done_when : (g : Grade) (count : ℕ) → ((probe_limited_call F s limit t k f u).answer ≡ Counts g count) ↔ DoneSays F s (take limit (ranks F s)) t k f u g count
+  pub limited_done_when : (g : Grade) (count : ℕ) → ((probe_limited_call F s limit t k f u).answer ≡ counted_answer g count) ↔ DoneSays F s (take limit (ranks F s)) t k f u g count
   unfolding probe_limited_by
   limited_done_when = any.done_when F s chosen t k f u
 
-  module _ {g : Grade} {count : ℕ} (e : (probe_limited_call F s limit t k f u).answer ≡ Counts g count) where
+  module _ {g : Grade} {count : ℕ} (e : (probe_limited_call F s limit t k f u).answer ≡ counted_answer g count) where
     -- Theorem. Then the probe values are in the value list, the records at the front of their list, and both scratches are all zeros.
     pub limited_done_leaves : probe_limited_call F s limit t k f u
-        ≡ left (Counts g count) (all_values F s (take limit (ranks F s))) (filled (all_records F s (take limit (ranks F s))) k) (cleared zero64 f) (cleared 0 u)
+        ≡ left (counted_answer g count) (all_values F s (take limit (ranks F s))) (filled (all_records F s (take limit (ranks F s))) k) (cleared zero64 f) (cleared 0 u)
     unfolding probe_limited_by
     limited_done_leaves = any.done_leaves F s chosen t k f u g count e
 
@@ -142,14 +143,14 @@ module _ (F : Field) (s : List ℕ) (limit : ℕ) (t k : List ℕ) (f : List Flo
   -- ---- on an exact field
 
   -- Theorem. No record has a set of all four bits.
-  pub limited_no_full_set : {count : ℕ} → (probe_limited_call F s limit t k f u).answer ≡ Counts Exact count
+  pub limited_no_full_set : {count : ℕ} → (probe_limited_call F s limit t k f u).answer ≡ counted_answer Exact count
       → (r : Record) → Memᴰ r (listed count (probe_limited_call F s limit t k f u)) → r.set ≢ 15
   unfolding probe_limited_by
   limited_no_full_set e = call.no_full_set F s chosen t k f u are_free e
 
   -- ---- over whole numbers, in every unit that serves
 
-  module _ {count : ℕ} (e : (probe_limited_call F s limit t k f u).answer ≡ Counts Exact count) {unit : ℕ} (serving : Serves unit F) where
+  module _ {count : ℕ} (e : (probe_limited_call F s limit t k f u).answer ≡ counted_answer Exact count) {unit : ℕ} (serving : Serves unit F) where
     -- A list is ranked by edge mass exactly if it is the ranks.
     by_mass : (L : List ℕ) → (L ≡ ranks F s) ↔ RankedByMass (whole_of unit F) s L
     unfolding probe_limited_by
@@ -204,16 +205,16 @@ module _ (F : Field) (s : List ℕ) (limit : ℕ) (t k : List ℕ) (f : List Flo
 
 -- Theorem. A limit of 0 finds nothing: no record, every probe value 2, and the list of constraints as it was.
 pub limit_none : (F : Field) (s t k : List ℕ) (f : List Float) (u : List ℕ) → Ready F s (length f) (length u) → length t ≡ variables F
-    → probe_limited_call F s 0 t k f u ≡ left (Counts (grade_of F) 0) (replicate (variables F) 2) k (cleared zero64 f) (cleared 0 u)
+    → probe_limited_call F s 0 t k f u ≡ left (counted_answer (grade_of F) 0) (replicate (variables F) 2) k (cleared zero64 f) (cleared 0 u)
 unfolding probe_limited_by all_records_by records_found_by merged_list all_values_by values_found_by
 limit_none F s t k f u ready long =
     let done = (any.done_when F s [] t k f u (grade_of F) 0).1 (record { ready = ready; values_long = long; enough = omega arith; graded = refl; counted = refl }) in
-    any.done_leaves F s [] t k f u (grade_of F) 0 done ∙ ap (λ (z : List ℕ). left (Counts (grade_of F) 0) (replicate (variables F) 2) z (cleared zero64 f) (cleared 0 u)) (filled_none k)
+    any.done_leaves F s [] t k f u (grade_of F) 0 done ∙ ap (λ (z : List ℕ). left (counted_answer (grade_of F) 0) (replicate (variables F) 2) z (cleared zero64 f) (cleared 0 u)) (filled_none k)
 
 -- Theorem. A larger limit keeps or enlarges each record, where both are done.
 pub larger_limit : (F : Field) (s : List ℕ) (limit more : ℕ) → limit ≤ more
     → (t k : List ℕ) (f : List Float) (u t' k' : List ℕ) (f' : List Float) (u' : List ℕ) {g g' : Grade} {count count' : ℕ}
-    → (probe_limited_call F s limit t k f u).answer ≡ Counts g count → (probe_limited_call F s more t' k' f' u').answer ≡ Counts g' count'
+    → (probe_limited_call F s limit t k f u).answer ≡ counted_answer g count → (probe_limited_call F s more t' k' f' u').answer ≡ counted_answer g' count'
     → (r : Record) → Memᴰ r (listed count (probe_limited_call F s limit t k f u)) → KeptIn (listed count' (probe_limited_call F s more t' k' f' u')) r
 larger_limit F s limit more h t k f u t' k' f' u' {count = count} {count' = count'} e e' r m =
     let a = listed count (probe_limited_call F s limit t k f u) in

@@ -7,10 +7,6 @@ use native.Mathlib.Omega.{arith}
 use lib.Ieee.{Float}
 use lib.ListN.{length, get_or}
 use Rattle.meaning.specs.Records.{Record}
-use Rattle.field.specs.declared.Answer.TheVariants.{Refused}
-use Rattle.field.specs.declared.Checked.{Checked}
-use Rattle.field.specs.declared.Checked.TheVariants.{Passed, Failed}
-use Rattle.field.specs.declared.Counted.TheVariants.{Refuses}
 use Rattle.field.specs.Field.{Field, variables}
 use Rattle.field.specs.Table.{tested}
 use Rattle.field.specs.Tests.{ready_tests, Ready}
@@ -27,6 +23,8 @@ use Rattle.probes.specs.Route.{fast, Agrees}
 use Rattle.probes.specs.Rule.{FreeCandidates}
 use Rattle.probes.proofs.Members.{at_in}
 use Rattle.probes.proofs.Candidates.{full_free, limited_free}
+use Rattle.std.specs.Prelude.{Err}
+use Rattle.field.specs.Answers.{Answer, passed}
 
 -- Theorem. THE EQUATION, over the single probe: on every field, exact or not, a probe with remembered rows leaves what one with rows made afresh leaves.
 pub routes_agree : Agrees fast
@@ -50,9 +48,9 @@ module _ {R : Route} (agrees : Agrees R) where
   unfolding probe_one_by given_by
   one_by F s i v t f u = go (tested (probe_tests F s i v (length f) (length u))) refl
     where
-      go : (x : Checked) → tested (probe_tests F s i v (length f) (length u)) ≡ x → probe_one_by R F s i v t f u ≡ probe_one_by cold F s i v t f u
-      go (Failed r) e = sym (usual.refused_call Refused _ _ _ _ e) ∙ usual.refused_call Refused _ _ _ _ e
-      go Passed e =
+      go : (x : Answer Unit) → tested (probe_tests F s i v (length f) (length u)) ≡ x → probe_one_by R F s i v t f u ≡ probe_one_by cold F s i v t f u
+      go (Err r) e = sym (usual.refused_call Err _ _ _ _ e) ∙ usual.refused_call Err _ _ _ _ e
+      go passed e =
           let p = (probe_passes F s i v (length f) (length u)).0 e in
           rw (agrees F p.ready.sound.shaped s p.ready.sound.start i v p.free (omega (arith, p.small))) refl
 
@@ -91,9 +89,9 @@ module _ {R : Route} (agrees : Agrees R) where
   unfolding candidates_by fits_by
   candidates_by_lem F s cands t k f u free = go (tested (ready_tests F s (length f) (length u))) refl
     where
-      go : (x : Checked) → tested (ready_tests F s (length f) (length u)) ≡ x → candidates_by R F s cands t k f u ≡ candidates_by cold F s cands t k f u
-      go (Failed r) e = sym (usual.refused_call Refuses _ _ _ _ e) ∙ usual.refused_call Refuses _ _ _ _ e
-      go Passed e =
+      go : (x : Answer Unit) → tested (ready_tests F s (length f) (length u)) ≡ x → candidates_by R F s cands t k f u ≡ candidates_by cold F s cands t k f u
+      go (Err r) e = sym (usual.refused_call Err _ _ _ _ e) ∙ usual.refused_call Err _ _ _ _ e
+      go passed e =
           let ready = (ready_passes F s (length f) (length u)).0 e in
           rw (all_records_by_lem ready cands free, all_values_by_lem ready cands free) refl
 

@@ -10,8 +10,6 @@ use Rattle.probing.specs.declared.Known.{Known}
 use Rattle.scratch.specs.Region.{region}
 use Rattle.scratch.proofs.Region.{length_region, region_at}
 use Rattle.constraints.specs.Record.{room, filled}
-use Rattle.found.specs.declared.Merged.{Merged}
-use Rattle.found.specs.declared.Merged.TheVariants.{Holds, Full}
 use Rattle.field.specs.Field.{Field, variables}
 use Rattle.rows.specs.Stored.{up_to}
 use Rattle.rows.proofs.Upto.{length_up_to, get_d_up_to}
@@ -23,6 +21,7 @@ use Rattle.walking.specs.Walk.{candidates_at, Walkable, Walked, holds, full}
 use Rattle.walking.proofs.Turned.{values_long}
 use Rattle.probes.specs.Call.{all_records, all_records_by, all_values, all_values_by}
 use Rattle.probes.specs.Standing.{Noned, Bytes, Standing}
+use Rattle.std.specs.Prelude.{Option, Some, None}
 
 clash : {A : Type 0} → ◌≡◌ {A = ℕ} 0 1 → A
 clash z = absurd (omega arith)
@@ -104,12 +103,12 @@ pub record AllHeld (F : Field) (s cands list₀ : List ℕ) (held : ℕ) (list u
   pub values_are : region (values_at F) (variables F) u ≡ all_values F s cands
 
 module _ (F : Field) (s cands list₀ list u : List ℕ) where
-  pub all_held : {r : Merged} {held : ℕ} → Walked F s cands list₀ r list u → r ≡ Holds held → AllHeld F s cands list₀ held list u
+  pub all_held : {r : Option ℕ} {held : ℕ} → Walked F s cands list₀ r list u → r ≡ Some held → AllHeld F s cands list₀ held list u
   unfolding all_records_by all_values_by
   all_held (holds fits list values) e = record { count = cc; fits = fits; list_is = list; values_are = values }
   all_held (full more) e = clash (cc)
 
-  pub none_held : {r : Merged} → Walked F s cands list₀ r list u → r ≡ Full → room list₀ < length (all_records F s cands)
+  pub none_held : {r : Option ℕ} → Walked F s cands list₀ r list u → r ≡ None → room list₀ < length (all_records F s cands)
   unfolding all_records_by
   none_held (holds fits list values) e = clash (cc)
   none_held (full more) e = more

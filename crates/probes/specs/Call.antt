@@ -1,5 +1,5 @@
 -- What the probes of many candidates answer and leave, by either route, as one function of what they are given, for every input. Assumes nothing.
-use Rattle.std.specs.Prelude.{ℕ, Bool, ◌&&◌, List, [], ◌∷◌, ◌++◌, eqb, leb, length, take, Float}
+use Rattle.std.specs.Prelude.{ℕ, Bool, ◌&&◌, List, [], ◌∷◌, ◌++◌, eqb, leb, length, take, Float, Err}
 use Rattle.weights.specs.Worth.{zero64}
 use Rattle.scratch.specs.Cleared.{cleared}
 use Rattle.meaning.specs.Free.{free_to}
@@ -7,7 +7,6 @@ use Rattle.meaning.specs.Records.{Record}
 use Rattle.meaning.specs.Rising.{merged_list}
 use Rattle.constraints.specs.Record.{room, filled}
 use Rattle.field.specs.declared.Counted.{Counted}
-use Rattle.field.specs.declared.Counted.TheVariants.{Counts, Refuses}
 use Rattle.field.specs.declared.Refusal.TheVariants.{Room}
 use Rattle.field.specs.Field.{Field, variables}
 use Rattle.field.specs.Table.{Test, test}
@@ -18,6 +17,7 @@ use Rattle.calls.specs.Call.{Stage, stage, called, usual}
 use Rattle.ranking.specs.Ranking.{ranks}
 use Rattle.probe.specs.Call.{Route, cold}
 use Rattle.finding.specs.Finds.{records_found_by, values_found_by}
+use Rattle.field.specs.Answers.{Answer, counted_answer}
 
 -- ---- what the candidates find
 
@@ -52,10 +52,10 @@ lent t k f u = record { values = t; constraints = k; floats = f; words = u }
 
 -- The answer of a probe of many candidates, and its four lent lists afterwards.
 abbrev pub Left : Type 0
-Left = any.Left Counted Lent
+Left = any.Left (Answer Counted) Lent
 
 -- What a probe of many candidates leaves, made of its answer and its four lent lists.
-abbrev pub left : Counted → List ℕ → List ℕ → List Float → List ℕ → Left
+abbrev pub left : Answer Counted → List ℕ → List ℕ → List Float → List ℕ → Left
 left r t k f u = any.left r (lent t k f u)
 
 -- 9 exactly where the list of values is not n long or the merged records have no room (rule 7.8)
@@ -77,12 +77,12 @@ later_by R F s cands t k f u = stage Room (fits_by R F s cands t k) (lent (clear
 -- on 0 what stands behind the last record is as it was; past test 8 scratch ends as zeros
 abbrev pub result_by : Route → Field → List ℕ → List ℕ → List ℕ → List Float → List ℕ → Left
 result_by R F s cands k f u =
-    left (Counts (grade_of F) (length (all_records_by R F s cands))) (all_values_by R F s cands) (filled (all_records_by R F s cands) k) (cleared zero64 f) (cleared 0 u)
+    left (counted_answer (grade_of F) (length (all_records_by R F s cands))) (all_values_by R F s cands) (filled (all_records_by R F s cands) k) (cleared zero64 f) (cleared 0 u)
 
 -- The call over any list of candidates, by the route R: its tests, room, and what they find.
 unfoldable pub candidates_by : Route → Field → List ℕ → List ℕ → List ℕ → List ℕ → List Float → List ℕ → Left
 candidates_by R F s cands t k f u =
-    called (usual Refuses (lent t k f u) (ready_tests F s (length f) (length u)) (later_by R F s cands t k f u) (result_by R F s cands k f u))
+    called (usual Err (lent t k f u) (ready_tests F s (length f) (length u)) (later_by R F s cands t k f u) (result_by R F s cands k f u))
 
 -- The call over any list of candidates, with rows made afresh for each probe.
 abbrev pub candidates_call : Field → List ℕ → List ℕ → List ℕ → List ℕ → List Float → List ℕ → Left

@@ -1,7 +1,6 @@
 -- The workspace with its candidates, and what is handed over from it. Assumes nothing.
-use Rattle.std.specs.Prelude.{ℕ, ◌+◌, ◌<◌, ◌≤◌, ◌≡◌, List, Float, length, get_or, take}
+use Rattle.std.specs.Prelude.{ℕ, ◌+◌, ◌<◌, ◌≤◌, ◌≡◌, List, Float, length, get_or, take, Err}
 use Rattle.scratch.specs.Region.{region}
-use Rattle.field.specs.declared.Counted.TheVariants.{Refuses}
 use Rattle.field.specs.Field.{Field, variables}
 use Rattle.calls.specs.Call.{run}
 use Rattle.probing.specs.declared.Known.{Known}
@@ -41,4 +40,4 @@ pub record Chosen (F : Field) (s : List ℕ) (limit : ℕ) (f f' : List Float) (
 
 -- what is settled past test 8
 abbrev pub settled : Field → List ℕ → List ℕ → List ℕ → List ℕ → List Float → List ℕ → Left
-settled F s cands t k f u = run Refuses (later_by cold F s cands t k f u) (result_by cold F s cands k f u)
+settled F s cands t k f u = run Err (later_by cold F s cands t k f u) (result_by cold F s cands k f u)

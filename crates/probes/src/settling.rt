@@ -1,9 +1,8 @@
 // From the candidates to the answer: the walk, the probe values, and zeros in both scratches.
-ghost use Rattle.std.specs.Prelude.{◌≡◌, length};
+ghost use Rattle.std.specs.Prelude.{◌≡◌, length, Err};
 ghost use Rattle.weights.specs.Worth.{zero64};
 ghost use Rattle.scratch.specs.Cleared.{cleared};
 ghost use Rattle.scratch.specs.Region.{region};
-ghost use Rattle.field.specs.declared.Counted.TheVariants.{Refuses};
 ghost use Rattle.field.specs.declared.Refusal.TheVariants.{Room};
 ghost use Rattle.field.specs.Field.{lent, given};
 ghost use Rattle.walking.specs.Walk.{candidates_at, Walked};
@@ -11,19 +10,23 @@ ghost use Rattle.probes.specs.Call.{left};
 ghost use Rattle.probes.specs.Standing.{Bytes, Standing, settled};
 
 use crate::values::{set_none, take_values};
-use field::{Counted, Refusal};
-use found::Merged;
+use field::{Answer, Counted, FieldRef, Refusal};
 use probing::Known;
 
 // 9: zeros in both answer lists and both scratches.
-pub fn no_room(values: &mut [u8], constraints: &mut [u16], f: &mut [f64], u: &mut [u32]) -> Counted
-    ensures { left result values.new constraints.new f.new u.new ≡ left (Refuses Room) (cleared 0 values.old) (cleared 0 constraints.old) (cleared zero64 f.old) (cleared 0 u.old) }
+pub fn no_room(
+    values: &mut [u8],
+    constraints: &mut [u16],
+    f: &mut [f64],
+    u: &mut [u32],
+) -> Answer<Counted>
+    ensures { left result values.new constraints.new f.new u.new ≡ left (Err Room) (cleared 0 values.old) (cleared 0 constraints.old) (cleared zero64 f.old) (cleared 0 u.old) }
 {
-    scratch::clear_bytes(values);
-    scratch::clear_shorts(constraints);
-    scratch::clear_floats(f);
-    scratch::clear_words(u);
-    Counted::Refuses(Refusal::Room)
+    values.fill(0);
+    constraints.fill(0);
+    f.fill(0.0);
+    u.fill(0);
+    Err(Refusal::Room)
 }
 
 // The probe values go from the words into the values, and the scratches are cleared.
@@ -34,16 +37,13 @@ pub fn hand_over(values: &mut [u8], f: &mut [f64], u: &mut [u32], at: usize)
     ensures u_value { u.new ≡ cleared 0 u.old }
 {
     take_values(values, u, at);
-    scratch::clear_floats(f);
-    scratch::clear_words(u);
+    f.fill(0.0);
+    u.fill(0);
 }
 
 // Every probe value, and in front of them every value that a first probe gives, is 2 at first; then the candidates are walked.
 fn gather(
-    c: &[f64],
-    rows: &[u16],
-    cols: &[u16],
-    q: &[f64],
+    field: FieldRef,
     start: &[u8],
     values: &mut [u8],
     constraints: &mut [u16],
@@ -51,34 +51,19 @@ fn gather(
     u: &mut [u32],
     known: Known,
     count: usize,
-) -> Merged
-    requires standing { Standing (lent c rows cols q) start.now f.old u.old known count }
+) -> Option<usize>
+    requires standing { Standing (lent field) start.now f.old u.old known count }
     requires values_value { values.old ≡ start.now }
-    ensures { Walked (given c rows cols q) start.now (region (candidates_at (given c rows cols q)) count u.old) constraints.old result constraints.new u.new }
+    ensures { Walked (given field) start.now (region (candidates_at (given field)) count u.old) constraints.old result constraints.new u.new }
 {
-    let n = c.len();
-    set_none(u, n + 1 + 2 * rows.len() + n + n, n + n);
-    walking::walk(
-        c,
-        rows,
-        cols,
-        q,
-        start,
-        values,
-        constraints,
-        f,
-        u,
-        known,
-        count,
-    )
+    let n = field.c.len();
+    set_none(u, n + 1 + 2 * field.rows.len() + n + n, n + n);
+    walking::walk(field, start, values, constraints, f, u, known, count)
 }
 
 // What the candidates find goes into the answer lists, if there is room.
 pub fn settle(
-    c: &[f64],
-    rows: &[u16],
-    cols: &[u16],
-    q: &[f64],
+    field: FieldRef,
     start: &[u8],
     values: &mut [u8],
     constraints: &mut [u16],
@@ -86,30 +71,17 @@ pub fn settle(
     u: &mut [u32],
     known: Known,
     count: usize,
-) -> Counted
-    requires standing { Standing (lent c rows cols q) start.now f.old u.old known count }
+) -> Answer<Counted>
+    requires standing { Standing (lent field) start.now f.old u.old known count }
     requires values_value { values.old ≡ start.now }
-    ensures { left result values.new constraints.new f.new u.new ≡ settled (given c rows cols q) start.now (region (candidates_at (given c rows cols q)) count u.old) values.old constraints.old f.old u.old }
+    ensures { left result values.new constraints.new f.new u.new ≡ settled (given field) start.now (region (candidates_at (given field)) count u.old) values.old constraints.old f.old u.old }
 {
-    let n = c.len();
-    let at = n + 1 + 2 * rows.len() + n + n + n;
+    let n = field.c.len();
+    let at = n + 1 + 2 * field.rows.len() + n + n + n;
     let grade = known.grade;
-    let merged = gather(
-        c,
-        rows,
-        cols,
-        q,
-        start,
-        values,
-        constraints,
-        f,
-        u,
-        known,
-        count,
-    );
-    if let Merged::Holds(held) = merged {
-        hand_over(values, f, u, at);
-        return Counted::Counts(grade, held);
-    }
-    no_room(values, constraints, f, u)
+    let Some(held) = gather(field, start, values, constraints, f, u, known, count) else {
+        return no_room(values, constraints, f, u);
+    };
+    hand_over(values, f, u, at);
+    Ok(Counted { grade, count: held })
 }

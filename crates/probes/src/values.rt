@@ -8,9 +8,7 @@ pub fn set_none(u: &mut [u32], at: usize, n: usize)
     requires { at + n ≤ length u.old }
     ensures { Noned at n u.old u.new }
 {
-    for j in 0..n {
-        u[at + j] = 2;
-    }
+    u[at..at + n].fill(2);
 }
 
 // The words from `at` on go into the values.
@@ -18,7 +16,7 @@ pub fn take_values(values: &mut [u8], u: &[u32], at: usize)
     requires { Bytes at (length values.old) u.now }
     ensures { values.new ≡ region at (length values.old) u.now }
 {
-    for j in 0..values.len() {
-        values[j] = u[at + j] as u8;
+    for (j, value) in values.iter_mut().enumerate() {
+        *value = u[at + j] as u8;
     }
 }

@@ -20,7 +20,7 @@ use Rattle.run.specs.Run.{Run, no_row, with_row, moved, move_row}
 use Rattle.run.specs.Cells.{Cells, cells, run_in, Placed, Kept, Does}
 use Rattle.run.proofs.Moves.{put_does}
 use Rattle.run.proofs.Cells.{kept_same, kept_then, does_as}
-use Rattle.probing.specs.Remembered.{move_at, move_all, moves, fresh, exact_by, renewed}
+use Rattle.probing.specs.Remembered.{move_at, move_all, moves, fresh, renewed}
 
 -- ---- a place of the probed variable
 
@@ -56,20 +56,28 @@ module _ {F : Field} {i v end p : ℕ} {s₀ s : Cells} (S : Moves F i v end p s
 
 -- ---- which way is taken
 
--- the test of a grade is that of its field
-told : (F : Field) {g : Grade} {b : Bool} → b ≡ exact_by g → g ≡ grade_of F → is_exact_of F ≡ b
-unfolding exact_by grade_of
-told F {g} {b} eb eg = sym (eb ∙ rw eg (go (is_exact_of F)))
+-- the grade says whether the field is exact
+told_exact : (F : Field) {g : Grade} → g ≡ Exact → g ≡ grade_of F → is_exact_of F ≡ true
+unfolding grade_of
+told_exact F ex eg = go (is_exact_of F) (sym eg ∙ ex)
   where
-    go : (x : Bool) → exact_by (cond x Exact Inexact) ≡ x
-    go true = refl
-    go false = refl
+    go : (x : Bool) → cond x Exact Inexact ≡ Exact → x ≡ true
+    go true h = refl
+    go false h = cc h
 
-module _ {F : Field} {g : Grade} (graded : g ≡ grade_of F) {b : Bool} (test : b ≡ exact_by g) (i v : ℕ) {s s' : Cells} where
-  pub by_moves : b ≡ true → Does F (λ run. moves F v run i) s s' → Does F (λ run. renewed F v run i) s s'
-  unfolding renewed
-  by_moves e D = does_as (λ run. renewed F v run i) D (rw (told F test graded, e))
+told_inexact : (F : Field) {g : Grade} → g ≡ Inexact → g ≡ grade_of F → is_exact_of F ≡ false
+unfolding grade_of
+told_inexact F ex eg = go (is_exact_of F) (sym eg ∙ ex)
+  where
+    go : (x : Bool) → cond x Exact Inexact ≡ Inexact → x ≡ false
+    go true h = cc h
+    go false h = refl
 
-  pub by_fresh : b ≡ false → Does F (λ run. fresh F run i) s s' → Does F (λ run. renewed F v run i) s s'
+module _ {F : Field} {g : Grade} (graded : g ≡ grade_of F) where
+  pub by_moves : g ≡ Exact → (i v : ℕ) {s s' : Cells} → Does F (λ run. moves F v run i) s s' → Does F (λ run. renewed F v run i) s s'
   unfolding renewed
-  by_fresh e D = does_as (λ run. renewed F v run i) D (rw (told F test graded, e))
+  by_moves e i v D = does_as (λ run. renewed F v run i) D (rw (told_exact F e graded))
+
+  pub by_fresh : g ≡ Inexact → (i v : ℕ) {s s' : Cells} → Does F (λ run. fresh F run i) s s' → Does F (λ run. renewed F v run i) s s'
+  unfolding renewed
+  by_fresh e i v D = does_as (λ run. renewed F v run i) D (rw (told_inexact F e graded))

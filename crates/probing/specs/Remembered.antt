@@ -1,13 +1,11 @@
 -- A probe with remembered rows, as the source works it: the rows at the start values are kept, and only those of the probed variable's
 -- neighbours are made afresh, or on an exact field have its term moved. Executable on every field, float by float. Assumes nothing.
-use Rattle.std.specs.Prelude.{ℕ, ◌+◌, ◌<◌, ◌≤◌, ◌≡◌, Bool, true, false, cond, List, [], ◌∷◌, length, get_or, set, drop, Float}
+use Rattle.std.specs.Prelude.{ℕ, ◌+◌, ◌<◌, ◌≤◌, ◌≡◌, cond, List, [], ◌∷◌, length, get_or, set, drop, Float}
 use Rattle.std.specs.Float.{nan, binary64}
 use Rattle.std.specs.Float.Ieee.{mul}
 use Rattle.weights.specs.Worth.{half64}
 use Rattle.scratch.specs.Region.{region}
 use Rattle.field.specs.Field.{Field, variables, Shaped, Standard, StartFor}
-use Rattle.field.specs.declared.Grade.{Grade}
-use Rattle.field.specs.declared.Grade.TheVariants.{Exact, Inexact}
 use Rattle.field.specs.Grade.{is_exact_of, grade_of}
 use Rattle.rows.specs.declared.Row.{Row}
 use Rattle.rows.specs.Row.{add_term}
@@ -73,11 +71,6 @@ unfoldable pub moves : Field → ℕ → Run → ℕ → Run
 moves F v run i = move_all F i v run (places F.rows F.cols i)
 
 -- ---- a probe
-
--- Whether a grade is exact, as a test.
-unfoldable pub exact_by : Grade → Bool
-exact_by Exact = true
-exact_by Inexact = false
 
 -- the neighbours' rows after i took the value v: moved on an exact field, where no sum is rounded, and else made afresh
 unfoldable pub renewed : Field → ℕ → Run → ℕ → Run

@@ -10,7 +10,6 @@ use native.Mathlib.Decide.{dec_lt}
 use lib.Dec.{leb}
 use lib.ListN.{length, get_or, get_or-eq_default}
 use Rattle.scratch.proofs.Means.{lt_is, le_is, eq_is, both_is, every_is}
-use Rattle.field.specs.declared.Checked.TheVariants.{Passed}
 use Rattle.field.specs.declared.Refusal.TheVariants.{Variables, Start, Argument, Scratch}
 use Rattle.field.specs.Table.{tested}
 use Rattle.field.specs.Tests.{bytes_small, few_variables, start_fits, words_fit}
@@ -19,6 +18,7 @@ use Rattle.meaning.specs.Records.{Record}
 use Rattle.constraints.specs.Record.{room, record_at, Fit}
 use Rattle.literals.specs.Listed.{Listed, Ready}
 use Rattle.propagation.specs.Tests.{fits, all_fit, constraints_fit, propagation_tests}
+use Rattle.field.specs.Answers.{passed}
 
 -- Theorem. A record passes the test exactly if its set is 1 to 15, and its ends rise and are below n.
 pub fits_is : (n : ℕ) (x : Record) → (fits n x ≡ true) ↔ Fit n x
@@ -49,7 +49,7 @@ small_is s =
     )
 
 -- Theorem. 1, 6, 7 and 8 pass exactly if the start values, the records and the scratch are as the table asks.
-pub ready_is : (s list : List ℕ) (words : ℕ) → (tested (propagation_tests s list words) ≡ Passed) ↔ Ready s list words
+pub ready_is : (s list : List ℕ) (words : ℕ) → (tested (propagation_tests s list words) ≡ passed) ↔ Ready s list words
 unfolding propagation_tests few_variables words_fit
 ready_is s list words =
     let eight = last_is Scratch _ (le_is (16 * length s + 8 * room list + 16) words) in

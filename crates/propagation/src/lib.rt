@@ -7,7 +7,7 @@ ghost use Rattle.std.specs.Prelude.{◌≡◌, ◌≤◌, length, take};
 ghost use Rattle.literals.specs.Going.{Small};
 ghost use Rattle.propagation.specs.Call.{left, propagate_call};
 
-use field::{Checked, Refusal};
+use field::{Answer, Refusal};
 
 // Writes the values back.
 fn write_back(start: &mut [u8], u: &[u32])
@@ -21,18 +21,15 @@ fn write_back(start: &mut [u8], u: &[u32])
 }
 
 // Implied values go into the start values; a clash or a refusal leaves them as they are.
-pub fn propagate(start: &mut [u8], constraints: &[u16], u: &mut [u32]) -> Checked
+pub fn propagate(start: &mut [u8], constraints: &[u16], u: &mut [u32]) -> Answer<()>
     ensures { left result start.new u.new ≡ propagate_call start.old constraints.now u.old }
 {
-    let checked = tests::ready(start, constraints, u.len());
-    if let Checked::Failed(refusal) = checked {
-        return Checked::Failed(refusal);
-    }
+    tests::ready(start, constraints, u.len())?;
     if !literals::run(start, constraints, u) {
-        scratch::clear_words(u);
-        return Checked::Failed(Refusal::Clash);
+        u.fill(0);
+        return Err(Refusal::Clash);
     }
     write_back(start, u);
-    scratch::clear_words(u);
-    Checked::Passed
+    u.fill(0);
+    Ok(())
 }

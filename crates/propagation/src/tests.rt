@@ -4,7 +4,7 @@ ghost use Rattle.meaning.specs.Records.{record_on};
 ghost use Rattle.field.specs.Table.{tested};
 ghost use Rattle.propagation.specs.Tests.{fits as fits_in, all_fit, constraints_fit as constraints_fit_of, propagation_tests};
 
-use field::{Checked, Refusal};
+use field::{Answer, Refusal};
 
 // Whether three numbers are a record of two variables in rising order, with a set of one to four pairs.
 fn fits(n: usize, lower: usize, higher: usize, set: usize) -> bool
@@ -26,17 +26,14 @@ fn fits(n: usize, lower: usize, higher: usize, set: usize) -> bool
 fn all_fit(n: usize, list: &[u16]) -> bool
     ensures { result ≡ all_fit n list.now }
 {
-    let k = list.len() / 3;
-    let mut t: usize = 0;
-    while t < k {
-        let i = 3 * t;
-        let lower = scratch::wide_short(list[i]);
-        let higher = scratch::wide_short(list[i + 1]);
-        let set = scratch::wide_short(list[i + 2]);
+    let (records, _) = list.as_chunks::<3>();
+    for record in records {
+        let lower = usize::from(record[0]);
+        let higher = usize::from(record[1]);
+        let set = usize::from(record[2]);
         if !fits(n, lower, higher, set) {
             return false;
         }
-        t += 1;
     }
     true
 }
@@ -55,21 +52,21 @@ pub fn constraints_fit(n: usize, list: &[u16]) -> bool
 }
 
 // Makes tests 1, 6, 7 and 8 of `propagate`, in this order.
-pub fn ready(start: &[u8], list: &[u16], words: usize) -> Checked
+pub fn ready(start: &[u8], list: &[u16], words: usize) -> Answer<()>
     ensures { result ≡ tested (propagation_tests start.now list.now words) }
 {
     let n = start.len();
     if !field::tests::few_variables(n) {
-        return Checked::Failed(Refusal::Variables);
+        return Err(Refusal::Variables);
     }
     if !field::tests::start_fits(n, start) {
-        return Checked::Failed(Refusal::Start);
+        return Err(Refusal::Start);
     }
     if !constraints_fit(n, list) {
-        return Checked::Failed(Refusal::Argument);
+        return Err(Refusal::Argument);
     }
     if !field::tests::words_fit(n, list.len() / 3, words) {
-        return Checked::Failed(Refusal::Scratch);
+        return Err(Refusal::Scratch);
     }
-    Checked::Passed
+    Ok(())
 }

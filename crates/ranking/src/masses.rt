@@ -5,6 +5,8 @@ ghost use Rattle.weights.specs.Worth.{zero64};
 ghost use Rattle.scratch.specs.Cleared.{cleared};
 ghost use Rattle.ranking.specs.Masses.{added, add_entry as add_entry_of, Massable, Massed};
 
+use field::FieldRef;
+
 // Adds a to the mass at i.
 fn add_at(w: &mut [f64], i: usize, a: f64)
     requires { i < length w.old }
@@ -14,48 +16,40 @@ fn add_at(w: &mut [f64], i: usize, a: f64)
 }
 
 // Adds entry k's magnitude to the mass of each end, where both are free.
-fn add_entry(
-    c: &[f64],
-    rows: &[u16],
-    cols: &[u16],
-    q: &[f64],
-    start: &[u8],
-    w: &mut [f64],
-    k: usize,
-)
-    requires massable { Massable (lent c rows cols q) start.now w.old }
-    requires k_bound { k < entries (lent c rows cols q) }
-    ensures { w.new ≡ add_entry_of (given c rows cols q) start.now w.old k }
+fn add_entry(field: FieldRef, start: &[u8], w: &mut [f64], k: usize)
+    requires massable { Massable (lent field) start.now w.old }
+    requires k_bound { k < entries (lent field) }
+    ensures { w.new ≡ add_entry_of (given field) start.now w.old k }
 {
-    let i = scratch::wide_short(rows[k]);
-    let j = scratch::wide_short(cols[k]);
+    let i = usize::from(field.rows[k]);
+    let j = usize::from(field.cols[k]);
     if start[i] != 2 {
         return;
     }
     if start[j] != 2 {
         return;
     }
-    let a = weights::magnitude(q[k]);
+    let a = weights::magnitude(field.q[k]);
     add_at(w, i, a);
     add_at(w, j, a);
 }
 
 // Adds every entry, where the masses are zero.
-fn add_entries(c: &[f64], rows: &[u16], cols: &[u16], q: &[f64], start: &[u8], w: &mut [f64])
-    requires massable { Massable (lent c rows cols q) start.now w.old }
+fn add_entries(field: FieldRef, start: &[u8], w: &mut [f64])
+    requires massable { Massable (lent field) start.now w.old }
     requires w_value { w.old ≡ cleared zero64 w.old }
-    ensures { Massed (given c rows cols q) start.now w.new (entries (given c rows cols q)) }
+    ensures { Massed (given field) start.now w.new (entries (given field)) }
 {
-    for k in 0..q.len() {
-        add_entry(c, rows, cols, q, start, w, k);
+    for k in 0..field.q.len() {
+        add_entry(field, start, w, k);
     }
 }
 
 // The mass of each variable.
-pub fn fill(c: &[f64], rows: &[u16], cols: &[u16], q: &[f64], start: &[u8], w: &mut [f64])
-    requires { Massable (lent c rows cols q) start.now w.old }
-    ensures { Massed (given c rows cols q) start.now w.new (entries (given c rows cols q)) }
+pub fn fill(field: FieldRef, start: &[u8], w: &mut [f64])
+    requires { Massable (lent field) start.now w.old }
+    ensures { Massed (given field) start.now w.new (entries (given field)) }
 {
-    scratch::clear_floats(w);
-    add_entries(c, rows, cols, q, start, w);
+    w.fill(0.0);
+    add_entries(field, start, w);
 }

@@ -2,26 +2,23 @@
 use Prim.Native.Nat.{ℕ, ◌+◌, ◌<◌, ◌≤◌}
 use mathlib.Core.Path.{◌≡◌, refl, sym, ap, ◌∙◌}
 use mathlib.Core.Logic.{◌≢◌, ⊎_elim}
-use mathlib.Core.Bool.{Bool, true, false, cond, not}
+use mathlib.Core.Bool.{Bool, true, false, cond}
 use mathlib.Core.List.{List, [], ◌∷◌}
 use native.Mathlib.Omega.{arith}
 use borrow.Author.Tests.{eq-eqb, ne_eqb, eqb-true, eqb-false, ltb-true, ltb-false, lt-ltb, le-ltb, le-leb, lt-leb}
 use lib.Dec.{leb, ltb}
-use lib.ListN.{length, get_or, set, take, replicate, length-set, length-replicate}
+use lib.ListN.{length, get_or, take, replicate, length-set, length-replicate}
 use lib.Seq.{length-take-le}
 use lib.Ieee.{Float}
 use Rattle.weights.specs.Worth.{zero64}
 use Rattle.scratch.specs.Cleared.{cleared}
 use Rattle.scratch.specs.Over.{over}
-use Rattle.scratch.proofs.Means.{le_is}
 use Rattle.meaning.specs.Free.{is_free}
-use Rattle.field.specs.declared.Checked.{Checked}
-use Rattle.field.specs.declared.Checked.TheVariants.{Passed, Failed}
 use Rattle.field.specs.declared.Refusal.{Refusal}
 use Rattle.field.specs.declared.Refusal.TheVariants.{Inexact, Unforced, Room}
 use Rattle.field.specs.Field.{Field, field_of, variables, Shaped, StartFor}
 use Rattle.field.specs.Table.{tested}
-use Rattle.field.specs.Tests.{ready_tests, Ready, off_diagonal}
+use Rattle.field.specs.Tests.{ready_tests, Ready}
 use Rattle.field.specs.Grade.{coarsest, serves, unit_of, is_exact_of, grade_of, Serves}
 use Rattle.field.specs.Reading.{whole_of}
 use Rattle.field.proofs.Exact.{exact_means, unit_within}
@@ -35,37 +32,39 @@ use Rattle.run.proofs.Theorems.{closure_extends}
 use Rattle.reason.specs.declared.Ground.{Ground}
 use Rattle.reason.specs.declared.Ground.TheVariants.{Given, Lower, Upper}
 use Rattle.reason.specs.declared.Reasoned.{Reasoned}
-use Rattle.reason.specs.declared.Reasoned.TheVariants.{Because, Refuses}
 use Rattle.reason.specs.Until.{basis}
 use Rattle.reason.specs.Listed.{listed_of}
 use Rattle.reason.specs.Ground.{least_unit, ground_of, reason_of, reason_list, Says, above, below}
 use Rattle.reason.specs.Stages.{mark_all, marks_of, threes, Told, told, fitted, with_list, free_told, told_of, graded_told}
-use Rattle.reason.specs.Call.{Left, left, lent, has_value, fits, later_stages, because, reason_call}
+use Rattle.reason.specs.Call.{Left, left, has_value, fits, later_stages, because, reason_call}
 use Rattle.reason.proofs.Marks.{marks_listed, threes_listed}
 use Rattle.reason.proofs.Theorems.{basis_start, reason_says}
 use Rattle.reason.proofs.Unforced.{unforced_given}
+use Rattle.field.specs.Answers.{Answer, passed}
+use Rattle.std.specs.Prelude.{Err}
+use Rattle.reason.specs.Answers.{reasoned_answer}
 
 -- ---- fit and finish
 
-pub fit_full : (g : Ground) (k : ℕ) (l list : List ℕ) {list' : List ℕ} {count : ℕ} → count ≡ length l → length list < count → list' ≡ cleared 0 list → told (Refuses Room) list' ≡ fitted g k l list
+pub fit_full : (g : Ground) (k : ℕ) (l list : List ℕ) {list' : List ℕ} {count : ℕ} → count ≡ length l → length list < count → list' ≡ cleared 0 list → told (Err Room) list' ≡ fitted g k l list
 unfolding fitted
 fit_full g k l list e b c = rw (lt-leb (length l) (length list) (omega arith), c) refl
 
-pub fit_done : (g : Ground) (k : ℕ) (l list : List ℕ) {list' : List ℕ} {count : ℕ} → count ≡ length l → count ≤ length list → list' ≡ over l list → told (Because g k count) list' ≡ fitted g k l list
+pub fit_done : (g : Ground) (k : ℕ) (l list : List ℕ) {list' : List ℕ} {count : ℕ} → count ≡ length l → count ≤ length list → list' ≡ over l list → told (reasoned_answer g k count) list' ≡ fitted g k l list
 unfolding fitted
 fit_done g k l list e b c = rw (le-leb (length l) (length list) (omega arith), e, c) refl
 
-pub finish_given : {g : Ground} (k : ℕ) (l : List ℕ) {list : List ℕ} → g ≡ Given → told (Refuses Unforced) list ≡ with_list g k l list
+pub finish_given : {g : Ground} (k : ℕ) (l : List ℕ) {list : List ℕ} → g ≡ Given → told (Err Unforced) list ≡ with_list g k l list
 unfolding with_list
 finish_given k l e = rw e refl
 
-pub finish_lower : (k : ℕ) (l list : List ℕ) {g : Ground} {b : Float} {x : Told} → g ≡ Lower b → x ≡ fitted (Lower b) k l list → x ≡ with_list g k l list
+pub finish_lower : (k : ℕ) (l list : List ℕ) {g : Ground} {b : Float} {x : Told} → g ≡ Lower b → x ≡ fitted g k l list → x ≡ with_list g k l list
 unfolding with_list
-finish_lower k l list e p = rw e p
+finish_lower k l list e p = rw e (rw e at p)
 
-pub finish_upper : (k : ℕ) (l list : List ℕ) {g : Ground} {b : Float} {x : Told} → g ≡ Upper b → x ≡ fitted (Upper b) k l list → x ≡ with_list g k l list
+pub finish_upper : (k : ℕ) (l list : List ℕ) {g : Ground} {b : Float} {x : Told} → g ≡ Upper b → x ≡ fitted g k l list → x ≡ with_list g k l list
 unfolding with_list
-finish_upper k l list e p = rw e p
+finish_upper k l list e p = rw e (rw e at p)
 
 -- ---- answer_free: the marks are the list
 
@@ -95,11 +94,11 @@ pub front_long : (n m : ℕ) → n ≤ m → n ≡ length {A = ℕ} (take n (rep
 front_long n m h = sym (length-take-le {A = ℕ} n (replicate m 2) (omega (arith, length-replicate {A = ℕ} m 2)))
 
 module _ (F : Field) (s : List ℕ) (i k : ℕ) (l : List ℕ) where
-  pub none_told : variables F ≤ i → told (Refuses Unforced) l ≡ told_of F s i k l
+  pub none_told : variables F ≤ i → told (Err Unforced) l ≡ told_of F s i k l
   unfolding told_of
   none_told b = rw (le-ltb i (variables F) b) refl
 
-  pub given_told : i < variables F → get_or s i 0 ≢ 2 → told (Because Given k 0) l ≡ told_of F s i k l
+  pub given_told : i < variables F → get_or s i 0 ≢ 2 → told (reasoned_answer Given k 0) l ≡ told_of F s i k l
   unfolding told_of
   given_told b n = rw (lt-ltb i (variables F) b, ne_eqb (get_or s i 0) 2 n) refl
 
@@ -133,7 +132,7 @@ module _ {F : Field} {s : List ℕ} {floats words : ℕ} (ready : Ready F s floa
     unfolding grade_of
     work_exact n = (exact_means F ready.sound.shaped.rows_long).0 (rw (is_exact n) refl)
 
-    pub inexact_told : (i : ℕ) (l : List ℕ) → k ≡ 41 → told (Refuses Inexact) l ≡ graded_told F s i l
+    pub inexact_told : (i : ℕ) (l : List ℕ) → k ≡ 41 → told (Err Inexact) l ≡ graded_told F s i l
     unfolding graded_told
     inexact_told i l n = rw (not_exact n) refl
 
@@ -152,11 +151,11 @@ module _ {F : Field} {s : List ℕ} {floats words : ℕ} (ready : Ready F s floa
   done = left (because F s i) (over (reason_list F s i) l) (cleared zero64 f) (cleared 0 u)
 
   abbrev Meets : Type 0
-  Meets = run Refuses (later_stages F s i l f u) done ≡ ended (graded_told F s i l)
+  Meets = run Err (later_stages F s i l f u) done ≡ ended (graded_told F s i l)
 
   module _ (exact : is_exact_of F ≡ true) where
     -- 13
-    free_run : has_value F s i ≡ false → told_of F s i (least_unit F) l ≡ told (Refuses Unforced) l → Meets
+    free_run : has_value F s i ≡ false → told_of F s i (least_unit F) l ≡ told (Err Unforced) l → Meets
     unfolding run graded_told
     free_run v t = rw (exact, v, t) refl
 
@@ -165,8 +164,8 @@ module _ {F : Field} {s : List ℕ} {floats words : ℕ} (ready : Ready F s floa
     unfolding run graded_told fitted fits
     fixed_run v t = rw (exact, v, t) (by (leb (length (reason_list F s i)) (length l)))
       where
-        by : (b : Bool) → cond b done (left (Refuses Room) (cleared 0 l) (cleared zero64 f) (cleared 0 u))
-            ≡ ended (cond b (told (because F s i) (over (reason_list F s i) l)) (told (Refuses Room) (cleared 0 l)))
+        by : (b : Bool) → cond b done (left (Err Room) (cleared 0 l) (cleared zero64 f) (cleared 0 u))
+            ≡ ended (cond b (told (because F s i) (over (reason_list F s i) l)) (told (Err Room) (cleared 0 l)))
         by true = refl
         by false = refl
 
@@ -222,12 +221,12 @@ module _ {F : Field} {s : List ℕ} {floats words : ℕ} (ready : Ready F s floa
 
 -- ---- the call
 
-module _ (F : Field) (s : List ℕ) (i : ℕ) (l : List ℕ) (f : List Float) (u : List ℕ) {k : Checked} (e : k ≡ tested (ready_tests F s (length f) (length u))) where
-  pub refused_call : {r : Refusal} → k ≡ Failed r → left (Refuses r) l f u ≡ reason_call F s i l f u
+module _ (F : Field) (s : List ℕ) (i : ℕ) (l : List ℕ) (f : List Float) (u : List ℕ) {k : Answer Unit} (e : k ≡ tested (ready_tests F s (length f) (length u))) where
+  pub refused_call : {r : Refusal} → k ≡ Err r → left (Err r) l f u ≡ reason_call F s i l f u
   unfolding reason_call
-  refused_call failed = usual.refused_call Refuses _ _ _ _ (sym e ∙ failed)
+  refused_call failed = usual.refused_call Err _ _ _ _ (sym e ∙ failed)
 
-  pub done_call : k ≡ Passed → {r : Reasoned} {l' : List ℕ} → told r l' ≡ graded_told F s i l
+  pub done_call : k ≡ passed → {r : Answer Reasoned} {l' : List ℕ} → told r l' ≡ graded_told F s i l
       → {f' : List Float} {fs : ℕ} → f' ≡ replicate fs zero64 → fs ≡ length f → {u' : List ℕ} {us : ℕ} → u' ≡ replicate us 0 → us ≡ length u
       → left r l' f' u' ≡ reason_call F s i l f u
   unfolding reason_call
@@ -235,4 +234,4 @@ module _ (F : Field) (s : List ℕ) (i : ℕ) (l : List ℕ) (f : List Float) (u
       rw (ef, lf, eu, lu)
       (ap (λ (x : Told). left x.answer x.list (cleared zero64 f) (cleared 0 u)) t
       ∙ sym (graded_run ((ready_passes F s (length f) (length u)).0 (sym e ∙ passes)) i l f u)
-      ∙ usual.passed_call Refuses _ _ _ _ (sym e ∙ passes))
+      ∙ usual.passed_call Err _ _ _ _ (sym e ∙ passes))

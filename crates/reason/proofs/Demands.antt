@@ -33,17 +33,19 @@ use Rattle.calls.proofs.Values.{never_room}
 use Rattle.run.specs.Run.{closure}
 use Rattle.reason.specs.declared.Ground.{Ground}
 use Rattle.reason.specs.declared.Ground.TheVariants.{Given}
-use Rattle.reason.specs.declared.Reasoned.TheVariants.{Because, Refuses}
 use Rattle.reason.specs.Until.{basis}
 use Rattle.reason.specs.Listed.{is_listed, listed_of, Only}
 use Rattle.reason.specs.Ground.{least_unit, reason_of, reason_list, Says}
 use Rattle.reason.specs.Rank.{rank, Ends}
 use Rattle.reason.specs.Call.{Left, left, Reasonable, fits, reason_tests, because, reason_call, item}
-use Rattle.reason.proofs.Laws.{same_refuses, because_apart, same_because, apart_numbers, never_inexact, never_unforced, exact_true, exact_false, value_true, value_false, first_inexact, first_unforced, first_room}
+use Rattle.reason.proofs.Laws.{same_because, apart_numbers, never_inexact, never_unforced, exact_true, exact_false, value_true, value_false, first_inexact, first_unforced, first_room}
+use Rattle.calls.proofs.Answers.{same_refused, done_apart}
 use Rattle.reason.proofs.Local.{same_gradient}
 use Rattle.reason.proofs.Listed.{listed_at, listed_in, listed_rises, only_joined, only_some}
 use Rattle.reason.proofs.Theorems.{basis_value, reason_says, says_same}
 use Rattle.reason.proofs.Ranks.{listed_below, ending}
+use Rattle.reason.specs.Answers.{reasoned_answer}
+use Rattle.std.specs.Prelude.{Err}
 
 -- Theorem. Any two results that the promise permits are equal.
 pub one_result : (F : Field) (s : List ℕ) (i : ℕ) (l : List ℕ) (f : List Float) (u : List ℕ) (x y : Left) → x ≡ reason_call F s i l f u → y ≡ reason_call F s i l f u → x ≡ y
@@ -53,49 +55,49 @@ one_result F s i l f u = any.one_result (reason_call F s i l f u)
 
 module _ (F : Field) (s : List ℕ) (i : ℕ) (l : List ℕ) (f : List Float) (u : List ℕ) where
   -- Theorem. The call is refused with r exactly if the tests before r's own pass, and its own fails: the closure's tests, then 12, 13 and 9.
-  pub refused_when : (r : Refusal) → ((reason_call F s i l f u).answer ≡ Refuses r) ↔ FirstToFail (reason_tests F s i l (length f) (length u)) r
+  pub refused_when : (r : Refusal) → ((reason_call F s i l f u).answer ≡ Err r) ↔ FirstToFail (reason_tests F s i l (length f) (length u)) r
   unfolding reason_call reason_tests table
-  refused_when = usual.refused_when Refuses _ _ _ _ same_refuses because_apart refl
+  refused_when = usual.refused_when Err _ _ _ _ same_refused done_apart refl
 
   -- Theorem. A refusal by the closure's tests changes nothing lent.
-  pub refused_leaves : (r : Refusal) → r ≢ Inexact → r ≢ Unforced → r ≢ Room → (reason_call F s i l f u).answer ≡ Refuses r → reason_call F s i l f u ≡ left (Refuses r) l f u
+  pub refused_leaves : (r : Refusal) → r ≢ Inexact → r ≢ Unforced → r ≢ Room → (reason_call F s i l f u).answer ≡ Err r → reason_call F s i l f u ≡ left (Err r) l f u
   unfolding reason_call
-  refused_leaves r a b c e = usual.refused_leaves Refuses _ _ _ _ same_refuses because_apart r (other_stage a (other_stage b (other_stage c no_stage))) e
+  refused_leaves r a b c e = usual.refused_leaves Err _ _ _ _ same_refused done_apart r (other_stage a (other_stage b (other_stage c no_stage))) e
 
   -- Theorem. 12 is given exactly if those tests pass and the field is inexact.
-  pub inexact_when : ((reason_call F s i l f u).answer ≡ Refuses Inexact) ↔ (Ready F s (length f) (length u) × (grade_of F ≡ NotExact))
+  pub inexact_when : ((reason_call F s i l f u).answer ≡ Err Inexact) ↔ (Ready F s (length f) (length u) × (grade_of F ≡ NotExact))
   unfolding reason_call table
   inexact_when =
-      let t = usual.later_when Refuses _ _ _ _ same_refuses because_apart Inexact (never_inexact F s (length f) (length u)) in
+      let t = usual.later_when Err _ _ _ _ same_refused done_apart Inexact (never_inexact F s (length f) (length u)) in
       let p = ready_passes F s (length f) (length u) in
       let x = exact_false F in
       ((λ e. (p.0 (t.0 e).0, x.0 (first_inexact (t.0 e).1))), λ h. t.1 (p.1 h.0, fails (x.1 h.1)))
 
   -- Theorem. 13 exactly if they pass, the field is exact, and the variable is not below n or free in the closure.
-  pub unforced_when : ((reason_call F s i l f u).answer ≡ Refuses Unforced)
+  pub unforced_when : ((reason_call F s i l f u).answer ≡ Err Unforced)
       ↔ (Ready F s (length f) (length u) × ((grade_of F ≡ Exact) × (i < variables F → get_or (closure F s) i 0 ≡ 2)))
   unfolding reason_call table
   unforced_when =
-      let t = usual.later_when Refuses _ _ _ _ same_refuses because_apart Unforced (never_unforced F s (length f) (length u)) in
+      let t = usual.later_when Err _ _ _ _ same_refused done_apart Unforced (never_unforced F s (length f) (length u)) in
       let p = ready_passes F s (length f) (length u) in
       let x = exact_true F in
       let v = value_false F s i in
       ((λ e. let h = first_unforced (t.0 e).1 in (p.0 (t.0 e).0, (x.0 h.0, v.0 h.1))), λ h. t.1 (p.1 h.0, passes (x.1 h.1.0) (fails (v.1 h.1.1))))
 
   -- Theorem. 12 and 13 leave the list as it was, and the scratch as zeros.
-  pub later_leaves : (r : Refusal) → (r ≡ Inexact) ⊎ (r ≡ Unforced) → (reason_call F s i l f u).answer ≡ Refuses r
-      → reason_call F s i l f u ≡ left (Refuses r) l (cleared zero64 f) (cleared 0 u)
+  pub later_leaves : (r : Refusal) → (r ≡ Inexact) ⊎ (r ≡ Unforced) → (reason_call F s i l f u).answer ≡ Err r
+      → reason_call F s i l f u ≡ left (Err r) l (cleared zero64 f) (cleared 0 u)
   unfolding reason_call
-  later_leaves r (inl same) e = rw same (usual.later_leaves Refuses _ _ _ _ same_refuses because_apart Inexact _ (never_inexact F s (length f) (length u))
+  later_leaves r (inl same) e = rw same (usual.later_leaves Err _ _ _ _ same_refused done_apart Inexact _ (never_inexact F s (length f) (length u))
       (this_stage (other_stage (apart_numbers (λ z. omega arith)) (other_stage (apart_numbers (λ z. omega arith)) no_stage))) (rw same at e))
-  later_leaves r (inr same) e = rw same (usual.later_leaves Refuses _ _ _ _ same_refuses because_apart Unforced _ (never_unforced F s (length f) (length u))
+  later_leaves r (inr same) e = rw same (usual.later_leaves Err _ _ _ _ same_refused done_apart Unforced _ (never_unforced F s (length f) (length u))
       (other_stage (apart_numbers (λ z. omega arith)) (this_stage (other_stage (apart_numbers (λ z. omega arith)) no_stage))) (rw same at e))
 
   -- Theorem. 9 is given exactly if all that passes, and more are listed than the list has places.
-  pub room_when : ((reason_call F s i l f u).answer ≡ Refuses Room) ↔ (Reasonable F s i (length f) (length u) × (length l < length (reason_list F s i)))
+  pub room_when : ((reason_call F s i l f u).answer ≡ Err Room) ↔ (Reasonable F s i (length f) (length u) × (length l < length (reason_list F s i)))
   unfolding reason_call table fits
   room_when =
-      let t = usual.later_when Refuses _ _ _ _ same_refuses because_apart Room (never_room F s (length f) (length u)) in
+      let t = usual.later_when Err _ _ _ _ same_refused done_apart Room (never_room F s (length f) (length u)) in
       let p = ready_passes F s (length f) (length u) in
       let x = exact_true F in
       let v = value_true F s i in (
@@ -106,16 +108,16 @@ module _ (F : Field) (s : List ℕ) (i : ℕ) (l : List ℕ) (f : List Float) (u
       )
 
   -- Theorem. On 9 the list and the scratch are all zeros.
-  pub room_leaves : (reason_call F s i l f u).answer ≡ Refuses Room → reason_call F s i l f u ≡ left (Refuses Room) (cleared 0 l) (cleared zero64 f) (cleared 0 u)
+  pub room_leaves : (reason_call F s i l f u).answer ≡ Err Room → reason_call F s i l f u ≡ left (Err Room) (cleared 0 l) (cleared zero64 f) (cleared 0 u)
   unfolding reason_call
-  room_leaves e = usual.later_leaves Refuses _ _ _ _ same_refuses because_apart Room _ (never_room F s (length f) (length u))
+  room_leaves e = usual.later_leaves Err _ _ _ _ same_refused done_apart Room _ (never_room F s (length f) (length u))
       (other_stage (apart_numbers (λ z. omega arith)) (other_stage (apart_numbers (λ z. omega arith)) (this_stage no_stage))) e
 
   -- Theorem. It is done exactly if all that passes, and the list has room.
   pub done_when : ((reason_call F s i l f u).answer ≡ because F s i) ↔ (Reasonable F s i (length f) (length u) × (length (reason_list F s i) ≤ length l))
   unfolding reason_call table fits
   done_when =
-      let t = usual.done_when Refuses _ _ _ _ same_refuses because_apart
+      let t = usual.done_when Err _ _ _ _ same_refused done_apart
       (group_is (ready_tests F s (length f) (length u)) _ (ready_passes F s (length f) (length u))
       (pass_is Inexact _ _ (exact_true F) (pass_is Unforced _ _ (value_true F s i) (last_is Room _ (le_is (length (reason_list F s i)) (length l)))))) in (
         (λ e. let h = t.0 e in (record { ready = h.0; exact = h.1.0; below = h.1.1.0.0; fixed = h.1.1.0.1 }, h.1.1.1)),
@@ -124,11 +126,11 @@ module _ (F : Field) (s : List ℕ) (i : ℕ) (l : List ℕ) (f : List Float) (u
 
   -- ---- an answer: its ground g, its unit k and its m items
 
-  module _ {g : Ground} {k m : ℕ} (e : (reason_call F s i l f u).answer ≡ Because g k m) where
+  module _ {g : Ground} {k m : ℕ} (e : (reason_call F s i l f u).answer ≡ reasoned_answer g k m) where
     -- Theorem. The items are at the front of the list, the rest of it is unchanged, and the scratch is all zeros.
     pub done_leaves : reason_call F s i l f u ≡ left (because F s i) (over (reason_list F s i) l) (cleared zero64 f) (cleared 0 u)
     unfolding reason_call
-    done_leaves = usual.done_leaves Refuses _ _ _ _ same_refuses because_apart (λ r z. because_apart r (sym e ∙ z))
+    done_leaves = usual.done_leaves Err _ _ _ _ same_refused done_apart (λ r z. done_apart r (sym e ∙ z))
 
     -- Theorem. The field and the start values are as the table asks, the field is exact, and the variable has a value in the closure.
     pub reasonable : Reasonable F s i (length f) (length u)

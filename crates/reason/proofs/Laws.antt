@@ -1,4 +1,6 @@
 -- What the call's tests mean, and what its answers are told apart by. Assumes nothing.
+use Rattle.reason.specs.declared.Reasoned.{Reasoned}
+use Rattle.calls.proofs.Answers.{same_done}
 use Prim.Native.Nat.{ℕ, ◌<◌, ◌≤◌}
 use mathlib.Core.Path.{◌≡◌, refl, sym, ap, ◌∙◌}
 use mathlib.Core.Logic.{◌≢◌, ◌⊎◌, inl, inr, ⊎_elim, ◌↔◌}
@@ -24,23 +26,19 @@ use Rattle.calls.specs.Call.{without}
 use Rattle.calls.proofs.Call.{never_first}
 use Rattle.run.specs.Run.{closure}
 use Rattle.reason.specs.declared.Ground.{Ground}
-use Rattle.reason.specs.declared.Reasoned.TheVariants.{Because, Refuses}
 use Rattle.reason.specs.Until.{basis}
 use Rattle.reason.specs.Listed.{listed_of}
 use Rattle.reason.specs.Ground.{least_unit, reason_list}
 use Rattle.reason.specs.Call.{has_value}
 use Rattle.reason.proofs.Listed.{listed_few}
+use Rattle.reason.specs.Answers.{reasoned_answer}
 
 -- ---- what the answers are told apart by
 
-pub same_refuses : (r t : Refusal) → Refuses r ≡ Refuses t → r ≡ t
-same_refuses r t e = cc
-
-pub because_apart : {A : Type 0} {g : Ground} {k m : ℕ} (r : Refusal) → Because g k m ≡ Refuses r → A
-because_apart r e = let z : ◌≡◌ {A = ℕ} 0 1 = cc in absurd (omega arith)
-
-pub same_because : {g h : Ground} {k j m n : ℕ} → Because g k m ≡ Because h j n → (g ≡ h) × ((k ≡ j) × (m ≡ n))
-same_because e = (cc, (cc, cc))
+pub same_because : {g h : Ground} {k j m n : ℕ} → reasoned_answer g k m ≡ reasoned_answer h j n → (g ≡ h) × ((k ≡ j) × (m ≡ n))
+same_because e =
+    let z = same_done e in
+    (ap (λ (x : Reasoned). x.because) z, (ap (λ (x : Reasoned). x.unit) z, ap (λ (x : Reasoned). x.count) z))
 
 -- none of the closure's tests gives 12 or 13
 pub never_inexact : (F : Field) (s : List ℕ) (floats words : ℕ) → without Inexact (ready_tests F s floats words) ≡ true

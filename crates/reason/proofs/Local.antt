@@ -1,14 +1,14 @@
 -- A bound sees only the other ends of the entries at its variable. Assumes nothing.
-use Prim.Native.Nat.{ℕ, zero, suc, ◌<◌, ◌≤◌}
-use mathlib.Core.Path.{◌≡◌, refl, sym, ap, ◌∙◌}
-use mathlib.Core.Logic.{◌⊎◌, inl, inr, ⊎_elim}
+use Prim.Native.Nat.{ℕ, zero, suc, ◌<◌}
+use mathlib.Core.Path.{◌≡◌, refl}
+use mathlib.Core.Logic.{inl, inr}
 use mathlib.Core.Bool.{Bool, true, false, ◌&&◌, ◌||◌}
 use mathlib.Core.List.{List}
 use native.Mathlib.Omega.{arith}
 use borrow.Author.Tests.{eqb-true, eq-eqb}
-use lib.ListN.{length, get_or}
+use lib.ListN.{get_or}
 use lib.Dec.{eqb}
-use Rattle.whole.specs.Whole.{Whole, sum, ◌≈◌}
+use Rattle.whole.specs.Whole.{Whole, ◌≈◌}
 use Rattle.whole.proofs.Sums.{only_same, sum_same}
 use Rattle.meaning.specs.Field as meaning
 use Rattle.meaning.proofs.Values.{below_or_at}

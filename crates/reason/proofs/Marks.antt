@@ -1,13 +1,13 @@
 -- The marks are the listed neighbours, and the turns that make and list them. Assumes nothing.
-use Prim.Native.Nat.{ℕ, zero, suc, ◌+◌, ◌-◌, ◌<◌, ◌≤◌}
+use Prim.Native.Nat.{ℕ, zero, suc, ◌<◌}
 use mathlib.Core.Path.{◌≡◌, refl, sym, ap, ◌∙◌}
 use mathlib.Core.Logic.{◌≢◌, ◌⊎◌, inl, inr, ⊎_elim}
-use mathlib.Core.Bool.{Bool, true, false, cond, not, ◌&&◌, ◌||◌}
-use mathlib.Core.List.{List, [], ◌∷◌, ◌++◌}
+use mathlib.Core.Bool.{Bool, true, false, cond, not, ◌&&◌}
+use mathlib.Core.List.{List, [], ◌∷◌}
 use native.Mathlib.Decide.{ℕ_discrete}
 use native.Mathlib.Omega.{arith}
-use borrow.Author.Tests.{eqb-true, eqb-false, eq-eqb, ne_eqb}
-use lib.ListN.{length, get_or, set, length-set, length-append}
+use borrow.Author.Tests.{eq-eqb, ne_eqb}
+use lib.ListN.{length, get_or, set, length-set}
 use lib.Seq.{get_or-set_same, get_or-set_other}
 use lib.Dec.{eqb}
 use Rattle.meaning.specs.Free.{is_free}
@@ -15,7 +15,7 @@ use Rattle.field.specs.Field.{Field, variables, entries, row_end, column_end, Sh
 use Rattle.places.specs.Places.{places, other_end}
 use Rattle.places.proofs.Places.{places_touch}
 use Rattle.parts.proofs.Listed.{places_all, other_is, other_ends}
-use Rattle.reason.specs.Listed.{joins_at, joins_to, is_listed, listed_to}
+use Rattle.reason.specs.Listed.{joins_to, is_listed, listed_to}
 use Rattle.reason.specs.Stages.{marked, mark_all, threes}
 use Rattle.reason.proofs.Local.{joins_some, or_left, or_right}
 use Rattle.reason.proofs.Listed.{joins_where, joins_ends}

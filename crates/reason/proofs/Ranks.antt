@@ -1,12 +1,12 @@
 -- Reasons stand in an order: each listed variable's rank is below the variable's own. Assumes nothing.
 use Prim.Native.Nat.{ℕ, zero, suc, ◌<◌, ◌≤◌}
-use mathlib.Core.Path.{◌≡◌, refl, sym, ap, ◌∙◌}
-use mathlib.Core.Logic.{◌≢◌, ◌⊎◌, inl, inr, ⊎_elim}
+use mathlib.Core.Path.{◌≡◌, refl, sym, ◌∙◌}
+use mathlib.Core.Logic.{◌≢◌, ◌⊎◌, inl, inr}
 use mathlib.Core.Bool.{Bool, true, false, cond}
 use mathlib.Core.List.{List, [], ◌∷◌}
-use native.Mathlib.Decide.{ℕ_discrete, dec_lt}
+use native.Mathlib.Decide.{dec_lt}
 use native.Mathlib.Omega.{arith}
-use borrow.Author.Tests.{eqb-true, eqb-false, eq-eqb, ne_eqb}
+use borrow.Author.Tests.{eqb-true, eq-eqb, ne_eqb}
 use lib.ListN.{length, get_or}
 use lib.Dec.{eqb}
 use Rattle.meaning.specs.Free.{is_free}
@@ -14,7 +14,7 @@ use Rattle.field.specs.Field.{Field, variables, Shaped, StartFor}
 use Rattle.field.specs.Grade.{ExactIn}
 use Rattle.run.specs.Run.{closure_run, closure}
 use Rattle.reason.specs.Until.{basis}
-use Rattle.reason.specs.Listed.{is_listed, listed_of}
+use Rattle.reason.specs.Listed.{listed_of}
 use Rattle.reason.specs.Ground.{reason_list}
 use Rattle.reason.specs.Rank.{place_of, rank, Ends, ends}
 use Rattle.reason.proofs.Until.{closure_room}

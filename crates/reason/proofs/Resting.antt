@@ -5,11 +5,11 @@ use mathlib.Core.Logic.{◌≢◌, ◌⊎◌, inl, inr, ⊎_elim}
 use mathlib.Core.List.{List}
 use native.Mathlib.Decide.{ℕ_discrete, dec_lt}
 use native.Mathlib.Omega.{arith}
-use lib.ListN.{length, get_or, set}
+use lib.ListN.{length, get_or}
 use lib.Seq.{get_or-set_same, get_or-set_other, ext_get_or}
 use Rattle.meaning.specs.Field as meaning
 use Rattle.run.specs.Room.{Room}
-use Rattle.run.specs.Rests.{rests, Stands, Grounded}
+use Rattle.run.specs.Rests.{rests, Grounded}
 use Rattle.run.proofs.Rests.{RestsAt, rests_at, rests_long}
 use Rattle.reason.specs.Stages.{back}
 use Rattle.reason.proofs.Halting.{back_long}

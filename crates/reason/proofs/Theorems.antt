@@ -1,34 +1,27 @@
 -- The theorems about a reason on an exact field: its bound is strict, it is the gradient's bound at what it rests on, and each value that it rests on has its
 -- place before the variable's own. Assumes nothing.
 use Prim.Native.Nat.{ℕ, ◌+◌, ◌<◌, ◌≤◌}
-use mathlib.Core.Path.{◌≡◌, refl, sym, ap, ◌∙◌}
+use mathlib.Core.Path.{◌≡◌, refl, sym, ◌∙◌}
 use mathlib.Core.Logic.{◌≢◌, ◌⊎◌, inl, inr, ⊎_elim}
-use mathlib.Core.Bool.{Bool, true, false, cond, not, ◌&&◌}
 use mathlib.Core.List.{List}
 use native.Mathlib.Decide.{dec_lt}
 use native.Mathlib.Omega.{arith}
-use borrow.Author.Tests.{eqb-true, eqb-false, eq-eqb, ne_eqb, lt-ltb, le-ltb}
+use borrow.Author.Tests.{eq-eqb, ne_eqb, lt-ltb, le-ltb}
 use lib.ListN.{length, get_or}
-use lib.Dec.{eqb, ltb}
-use lib.Ieee.{lt}
-use Rattle.whole.specs.Whole.{Whole, min0, max0, Above0, Below0, ◌≈◌}
+use Rattle.whole.specs.Whole.{Whole, min0, max0, ◌≈◌}
 use Rattle.weights.proofs.Worth.{as_worth}
 use Rattle.meaning.specs.Field as meaning
-use Rattle.meaning.specs.Free.{is_free}
-use Rattle.meaning.specs.Gradient.{view, gradient, low, high, Forced, zero_by, one_by, Forces}
+use Rattle.meaning.specs.Gradient.{view, gradient, low, high, zero_by, one_by, Forces}
 use Rattle.meaning.proofs.Gradient.{low_below_high}
 use Rattle.field.specs.Field.{Field, variables, entries, Shaped, StartFor}
 use Rattle.field.specs.Grade.{unit_of, ExactIn, Serves}
 use Rattle.field.specs.Reading.{whole_of}
-use Rattle.rows.specs.declared.Row.{Row}
 use Rattle.rows.specs.Row.{judge_of}
 use Rattle.rows.specs.Model.{row_of}
-use Rattle.rows.specs.Counted.{RowWorth}
 use Rattle.rows.proofs.Counted.{row_worth, lower_test, upper_test, low_under, high_under}
 use Rattle.run.specs.Run.{closure_run, closure}
-use Rattle.run.specs.Rests.{rests, Stands, Grounded}
+use Rattle.run.specs.Rests.{Stands, Grounded}
 use Rattle.run.proofs.Rests.{Among, rests_at, rests_extended, rests_start}
-use Rattle.run.proofs.Theorems.{closure_valid}
 use Rattle.reason.specs.declared.Ground.{Ground}
 use Rattle.reason.specs.declared.Ground.TheVariants.{Given}
 use Rattle.reason.specs.Until.{scanned, stop_of, basis}

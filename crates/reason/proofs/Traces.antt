@@ -1,21 +1,19 @@
 -- What the stages before a ground give one another. Assumes nothing.
-use Prim.Native.Nat.{ℕ, ◌+◌, ◌-◌, ◌<◌, ◌≤◌}
-use mathlib.Core.Path.{◌≡◌, refl, sym, ap, ◌∙◌}
+use Prim.Native.Nat.{ℕ, ◌-◌, ◌<◌}
+use mathlib.Core.Path.{◌≡◌, sym, ap, ◌∙◌}
 use mathlib.Core.List.{List, []}
 use native.Mathlib.Omega.{arith}
-use lib.ListN.{length, get_or}
+use lib.ListN.{length}
 use lib.Ieee.{Float}
 use Rattle.scratch.specs.Region.{region}
 use Rattle.field.specs.Field.{Field, variables, Shaped, StartFor}
 use Rattle.field.specs.Grade.{ExactIn}
 use Rattle.rows.specs.declared.Row.{Row}
 use Rattle.rows.specs.Model.{row_of}
-use Rattle.rows.specs.Stored.{up_to, row_on, rows_on, Filled}
+use Rattle.rows.specs.Stored.{row_on, Filled}
 use Rattle.rows.proofs.Stored.{written_rows}
 use Rattle.run.specs.Run.{Run, scan_to}
-use Rattle.run.specs.Room.{Room}
-use Rattle.run.specs.Rests.{rests, Grounded}
-use Rattle.run.specs.Cells.{Cells, cells, base, run_in, Placed, Kept, Does}
+use Rattle.run.specs.Cells.{Cells, cells, base, run_in, Placed, Does}
 use Rattle.run.proofs.Cells.{queue_long, queue_at}
 use Rattle.rows.specs.declared.Conclusion.{Conclusion}
 use Rattle.rows.specs.Row.{judge_of, conclude_of}
@@ -25,7 +23,7 @@ use Rattle.reason.specs.declared.Ground.{Ground}
 use Rattle.reason.specs.Ground.{ground_of}
 use Rattle.reason.specs.Until.{Stop, until, scanned, stop_of, basis}
 use Rattle.reason.specs.Stages.{Halted, AllBelow, back, marks_of, Stopped}
-use Rattle.reason.proofs.Until.{Split, stop_split, stop_rest}
+use Rattle.reason.proofs.Until.{stop_split, stop_rest}
 use Rattle.reason.proofs.Theorems.{basis_start}
 use Rattle.reason.proofs.Resting.{back_rests}
 

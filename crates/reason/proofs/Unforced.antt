@@ -16,14 +16,13 @@ use Rattle.rows.specs.Row.{judge_of, both_zero}
 use Rattle.rows.specs.Model.{row_of}
 use Rattle.rows.proofs.Counted.{lower_test, upper_test}
 use Rattle.run.specs.Run.{Run, closure_run, closure}
-use Rattle.run.specs.Rests.{rests}
 use Rattle.run.proofs.Keeps.{work_stays}
 use Rattle.run.proofs.Theorems.{closure_is_closure}
 use Rattle.reason.specs.declared.Ground.TheVariants.{Given}
-use Rattle.reason.specs.Until.{scanned, stop_of, basis}
+use Rattle.reason.specs.Until.{stop_of, basis}
 use Rattle.reason.specs.Ground.{ground_of}
 use Rattle.reason.specs.Stages.{back}
-use Rattle.reason.proofs.Until.{Split, stop_split, run_is, stop_value, stop_rest}
+use Rattle.reason.proofs.Until.{stop_split, run_is, stop_value, stop_rest}
 use Rattle.reason.proofs.Theorems.{basis_start}
 use Rattle.reason.proofs.Resting.{back_rests}
 

@@ -1,13 +1,13 @@
 -- The run up to where i has its value: it is a part of the run, and i stands in no place that was served. Assumes nothing.
 use Prim.Native.Nat.{ℕ, zero, suc, ◌+◌, ◌<◌, ◌≤◌}
 use mathlib.Core.Path.{◌≡◌, refl, sym, ap, ◌∙◌}
-use mathlib.Core.Logic.{◌≢◌, ◌⊎◌, inl, inr, ⊎_elim}
+use mathlib.Core.Logic.{◌≢◌, ⊎_elim}
 use mathlib.Core.Bool.{Bool, true, false, cond, ◌&&◌}
-use mathlib.Core.List.{List, [], ◌∷◌, ◌++◌}
+use mathlib.Core.List.{List, [], ◌∷◌}
 use native.Mathlib.Decide.{ℕ_discrete}
 use native.Mathlib.Nat.{le_refl}
 use native.Mathlib.Omega.{arith}
-use borrow.Author.Tests.{eqb-true, eqb-false, ltb-true, ltb-false, lt-ltb, le-ltb}
+use borrow.Author.Tests.{eqb-true, eqb-false, ltb-true, ltb-false}
 use lib.ListN.{length, get_or, length-append, get_or-append}
 use lib.Dec.{ltb}
 use Rattle.meaning.specs.Steps.{Extends}
@@ -17,8 +17,7 @@ use Rattle.field.specs.Grade.{ExactIn}
 use Rattle.rows.specs.Model.{row_of}
 use Rattle.rows.specs.Stored.{up_to}
 use Rattle.rows.proofs.Upto.{length_up_to}
-use Rattle.run.specs.Run.{Run, is_free, force, move_row, scan_to, serve, work, propagate, closure_run, closure}
-use Rattle.run.specs.Room.{Room}
+use Rattle.run.specs.Run.{Run, is_free, force, move_row, serve, work, propagate, closure_run, closure}
 use Rattle.run.proofs.Keeps.{ByForce, ByMove, by_serve, by_work, work_stays}
 use Rattle.run.proofs.Room.{RoomOf, room_force, room_move, room_scan, room_propagate}
 use Rattle.run.proofs.Serve.{Rest, serve_rest}

@@ -1,11 +1,11 @@
 -- What the call `reason` answers and leaves, as one function of what it is given, for every input. Assumes nothing.
-use Rattle.std.specs.Prelude.{ℕ, ◌<◌, ◌≡◌, ◌≢◌, Bool, not, ◌&&◌, List, [], ◌∷◌, ◌++◌, leb, ltb, length, get_or, Float}
+use Rattle.std.specs.Prelude.{ℕ, ◌<◌, ◌≡◌, ◌≢◌, Bool, not, ◌&&◌, List, [], ◌∷◌, ◌++◌, leb, ltb, length, get_or, Float, Err}
 use Rattle.weights.specs.Worth.{zero64}
 use Rattle.scratch.specs.Cleared.{cleared}
 use Rattle.scratch.specs.Over.{over}
 use Rattle.meaning.specs.Free.{is_free}
 use Rattle.field.specs.declared.Refusal.TheVariants.{Inexact, Unforced, Room}
-use Rattle.field.specs.Answers.{number_of}
+use Rattle.field.specs.Answers.{Answer}
 use Rattle.field.specs.Field.{Field, variables}
 use Rattle.field.specs.Table.{Test, test}
 use Rattle.field.specs.declared.Grade.TheVariants.{Exact}
@@ -15,8 +15,8 @@ use Rattle.calls.specs.Call as any
 use Rattle.calls.specs.Call.{Stage, called, stage, usual}
 use Rattle.run.specs.Run.{closure}
 use Rattle.reason.specs.declared.Reasoned.{Reasoned}
-use Rattle.reason.specs.declared.Reasoned.TheVariants.{Because, Refuses}
 use Rattle.reason.specs.Ground.{least_unit, reason_of, reason_list}
+use Rattle.reason.specs.Answers.{reasoned_answer}
 
 -- What is lent to `reason`: the list of neighbours, the floats and the words.
 pub record Lent : Type 0 where
@@ -30,10 +30,10 @@ lent l f u = record { list = l; floats = f; words = u }
 
 -- The answer of `reason`, and its three lent lists afterwards.
 abbrev pub Left : Type 0
-Left = any.Left Reasoned Lent
+Left = any.Left (Answer Reasoned) Lent
 
 -- What the call `reason` leaves, made of its answer and its three lent lists.
-abbrev pub left : Reasoned → List ℕ → List Float → List ℕ → Left
+abbrev pub left : Answer Reasoned → List ℕ → List Float → List ℕ → Left
 left r l f u = any.left r (lent l f u)
 
 -- 13: the variable is not below n, or is free in the closure
@@ -64,20 +64,15 @@ later_stages F s i l f u =
     ∷ []
 
 -- The answer when done: the ground with its bound, the unit, and how many neighbours are listed.
-abbrev pub because : Field → List ℕ → ℕ → Reasoned
-because F s i = Because (reason_of F s i) (least_unit F) (length (reason_list F s i))
+abbrev pub because : Field → List ℕ → ℕ → Answer Reasoned
+because F s i = reasoned_answer (reason_of F s i) (least_unit F) (length (reason_list F s i))
 
 -- The call: 1 to 6 and 8, then 12, 13 and 9, then the reason, with the neighbours at the front of the list.
 unfoldable pub reason_call : Field → List ℕ → ℕ → List ℕ → List Float → List ℕ → Left
 reason_call F s i l f u =
     called
-    (usual Refuses (lent l f u) (ready_tests F s (length f) (length u)) (later_stages F s i l f u)
+    (usual Err (lent l f u) (ready_tests F s (length f) (length u)) (later_stages F s i l f u)
     (left (because F s i) (over (reason_list F s i) l) (cleared zero64 f) (cleared 0 u)))
-
--- The table's number of an answer of `reason`: 0 with a reason, else that of the refusal.
-abbrev pub reasoned_number : Reasoned → ℕ
-reasoned_number (Because g k m) = 0
-reasoned_number (Refuses r) = number_of r
 
 -- Item t of the list of neighbours that `reason` leaves.
 abbrev pub item : Field → List ℕ → ℕ → List ℕ → List Float → List ℕ → ℕ → ℕ

@@ -1,6 +1,7 @@
-pub mod Until
-pub mod Listed
+pub mod Answers
+pub mod Call
 pub mod Ground
+pub mod Listed
 pub mod Rank
 pub mod Stages
-pub mod Call
+pub mod Until

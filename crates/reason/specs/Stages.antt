@@ -1,5 +1,5 @@
 -- What the stages of the call promise. Assumes nothing.
-use Rattle.std.specs.Prelude.{ℕ, zero, suc, ◌+◌, ◌<◌, ◌≤◌, ◌≡◌, cond, List, [], ◌∷◌, ◌++◌, eqb, leb, ltb, length, get_or, set}
+use Rattle.std.specs.Prelude.{ℕ, zero, suc, ◌+◌, ◌<◌, ◌≤◌, ◌≡◌, cond, List, [], ◌∷◌, ◌++◌, eqb, leb, ltb, length, get_or, set, Err}
 use Rattle.scratch.specs.Cleared.{cleared}
 use Rattle.scratch.specs.Over.{over}
 use Rattle.meaning.specs.Free.{is_free}
@@ -8,16 +8,16 @@ use Rattle.field.specs.Field.{Field, variables}
 use Rattle.field.specs.Grade.{is_exact_of}
 use Rattle.rows.specs.Row.{judge_of}
 use Rattle.rows.specs.Model.{row_of}
-use Rattle.run.specs.Run.{Run}
 use Rattle.run.specs.Cells.{Cells, run_in, Kept}
 use Rattle.places.specs.Places.{Adjacent, places, other_end}
 use Rattle.reason.specs.declared.Ground.{Ground}
 use Rattle.reason.specs.declared.Ground.TheVariants.{Given, Lower, Upper}
 use Rattle.reason.specs.declared.Reasoned.{Reasoned}
-use Rattle.reason.specs.declared.Reasoned.TheVariants.{Because, Refuses}
 use Rattle.reason.specs.Until.{until, basis}
 use Rattle.reason.specs.Listed.{listed_of}
 use Rattle.reason.specs.Ground.{least_unit, ground_of}
+use Rattle.field.specs.Answers.{Answer}
+use Rattle.reason.specs.Answers.{reasoned_answer}
 
 -- the cells go from s to s' as the run goes on until i has a value, with `head` of the queue served
 pub record Halted (F : Field) (i : ℕ) (s s' : Cells) (head : ℕ) : Type 0 where
@@ -69,20 +69,20 @@ pub record Stopped (F : Field) (s : List ℕ) (i : ℕ) (values words : List ℕ
 
 -- the answer, and the answer list afterwards
 pub record Told : Type 0 where
-  pub answer : Reasoned
+  pub answer : Answer Reasoned
   pub list : List ℕ
 
 -- What the call says past its tests, made of the answer and the answer list.
-abbrev pub told : Reasoned → List ℕ → Told
+abbrev pub told : Answer Reasoned → List ℕ → Told
 told r l = record { answer = r; list = l }
 
 -- The ground with the listed neighbours where the list has room, and 9 where it has none.
 unfoldable pub fitted : Ground → ℕ → List ℕ → List ℕ → Told
-fitted g k listed l = cond (leb (length listed) (length l)) (told (Because g k (length listed)) (over listed l)) (told (Refuses Room) (cleared 0 l))
+fitted g k listed l = cond (leb (length listed) (length l)) (told (reasoned_answer g k (length listed)) (over listed l)) (told (Err Room) (cleared 0 l))
 
 -- The answer for a ground and its neighbours: 13 where no bound is strict, else what fits the list.
 unfoldable pub with_list : Ground → ℕ → List ℕ → List ℕ → Told
-with_list Given k listed l = told (Refuses Unforced) l
+with_list Given k listed l = told (Err Unforced) l
 with_list (Lower b) k listed l = fitted (Lower b) k listed l
 with_list (Upper b) k listed l = fitted (Upper b) k listed l
 
@@ -92,8 +92,8 @@ free_told F s i k l = with_list (ground_of k (judge_of (row_of F (basis F s i) i
 
 -- The answer for any variable of an exact field: 13 where there is no such variable.
 unfoldable pub told_of : Field → List ℕ → ℕ → ℕ → List ℕ → Told
-told_of F s i k l = cond (ltb i (variables F)) (cond (is_free s i) (free_told F s i k l) (told (Because Given k 0) l)) (told (Refuses Unforced) l)
+told_of F s i k l = cond (ltb i (variables F)) (cond (is_free s i) (free_told F s i k l) (told (reasoned_answer Given k 0) l)) (told (Err Unforced) l)
 
 -- The answer past the tests: 12 where the field is not exact.
 unfoldable pub graded_told : Field → List ℕ → ℕ → List ℕ → Told
-graded_told F s i l = cond (is_exact_of F) (told_of F s i (least_unit F) l) (told (Refuses Inexact) l)
+graded_told F s i l = cond (is_exact_of F) (told_of F s i (least_unit F) l) (told (Err Inexact) l)

@@ -5,7 +5,7 @@ ghost use Rattle.field.specs.Field.{given, lent, variables};
 ghost use Rattle.run.specs.Cells.{cells, Placed};
 ghost use Rattle.reason.specs.Stages.{Halted, AllBelow, back};
 
-use scratch::wide_word;
+use field::FieldRef;
 
 // How many of the queue were served, and where the queue ends.
 #[derive(Clone, Copy)]
@@ -16,31 +16,29 @@ pub struct Halt {
 
 // The queue is served while variable i is free.
 pub fn serve_until(
-    c: &[f64],
-    rows: &[u16],
-    cols: &[u16],
-    q: &[f64],
+    field: FieldRef,
     values: &mut [u8],
     f: &mut [f64],
     u: &mut [u32],
     tail: usize,
     i: usize,
 ) -> Halt
-    requires placed { Placed (lent c rows cols q) (cells values.old f.old u.old tail) }
-    requires i_bound { i < variables (lent c rows cols q) }
-    ensures { Halted (given c rows cols q) i
+    requires placed { Placed (lent field) (cells values.old f.old u.old tail) }
+    requires i_bound { i < variables (lent field) }
+    ensures { Halted (given field) i
         (cells values.old f.old u.old tail)
         (cells values.new f.new u.new result.last) result.head }
 {
-    let base = c.len() + 1 + 2 * rows.len();
+    let base = field.c.len() + 1 + 2 * field.rows.len();
     let mut last = tail;
     let mut head = 0;
+    // The queue grows while it is served.
     while head < last {
         if values[i] != 2 {
             return Halt { head, last };
         }
-        let t = wide_word(u[base + head]);
-        last = run::queue::serve(c, rows, cols, q, values, f, u, last, t);
+        let t = u[base + head] as usize;
+        last = run::queue::serve(field, values, f, u, last, t);
         head += 1;
     }
     Halt { head, last }
@@ -54,7 +52,7 @@ pub fn take_back(values: &mut [u8], u: &[u32], base: usize, head: usize, last: u
     ensures { values.new ≡ back values.old (region base last u.now) head (last - head) }
 {
     for p in head..last {
-        let t = wide_word(u[base + p]);
+        let t = u[base + p] as usize;
         values[t] = 2;
     }
 }

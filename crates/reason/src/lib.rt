@@ -13,7 +13,7 @@ ghost use Rattle.reason.specs.Ground.{times as times_of, in_half_units as in_hal
 ghost use Rattle.reason.specs.Stages.{told, graded_told};
 ghost use Rattle.reason.specs.Call.{left, reason_call};
 
-use field::{Checked, Refusal};
+use field::{Answer, FieldRef, Refusal};
 use rows::{Conclusion, Verdict};
 
 // The variable is given; or a bound, in half units, forces it: a lower one above 0, or an upper one below 0.
@@ -24,22 +24,21 @@ pub enum Ground {
     Upper(f64),
 }
 
-// What the call answers: the ground, the unit k, which is 2^(k - 20), and how many are listed; or a refusal.
+// What the call finds: the ground, the unit k, which is 2^(k - 20), and how many are listed.
 #[derive(Clone, Copy)]
-pub enum Reasoned {
-    Because(Ground, u8, usize),
-    Refuses(Refusal),
+pub struct Reasoned {
+    pub because: Ground,
+    pub unit: u8,
+    pub count: usize,
 }
 
 // `by` times x, that many times over.
 fn times(by: f64, count: u8, x: f64) -> f64
     ensures { result ≡ times_of by count x }
 {
-    let mut done: u8 = 0;
     let mut product = x;
-    while done < count {
+    for _ in 0..count {
         product = by * product;
-        done += 1;
     }
     product
 }
@@ -58,57 +57,46 @@ fn in_half_units(x: f64, unit: u8) -> f64
 pub fn explain(found: Conclusion, unit: u8) -> Ground
     ensures { result ≡ ground_of unit found.verdict }
 {
-    let verdict = found.verdict;
-    match verdict {
+    match found.verdict {
         Verdict::Zero(bound) => Ground::Lower(in_half_units(bound, unit)),
         Verdict::One(bound) => Ground::Upper(in_half_units(bound, unit)),
-        Verdict::Flat => Ground::Given,
-        Verdict::Open => Ground::Given,
+        Verdict::Flat | Verdict::Open => Ground::Given,
     }
 }
 
 // A field that is not exact has no reasons.
 fn work(
-    c: &[f64],
-    rows: &[u16],
-    cols: &[u16],
-    q: &[f64],
+    field: FieldRef,
     start: &[u8],
     variable: usize,
     list: &mut [u16],
     f: &mut [f64],
     u: &mut [u32],
-) -> Reasoned
-    requires { Ready (lent c rows cols q) start.now (length f.old) (length u.old) }
-    ensures { told result list.new ≡ graded_told (given c rows cols q) start.now variable list.old }
+) -> Answer<Reasoned>
+    requires { Ready (lent field) start.now (length f.old) (length u.old) }
+    ensures { told result list.new ≡ graded_told (given field) start.now variable list.old }
 {
-    let unit = field::grading::least_unit(c, q);
+    let unit = field::grading::least_unit(field.c, field.q);
     if unit == 41 {
-        return Reasoned::Refuses(Refusal::Inexact);
+        return Err(Refusal::Inexact);
     }
-    answers::answer(c, rows, cols, q, start, variable, unit, list, f, u)
+    answers::answer(field, start, variable, unit, list, f, u)
 }
 
 // The reason of a variable's value in the closure; a refusal by the tests changes nothing.
 pub fn reason(
-    c: &[f64],
-    rows: &[u16],
-    cols: &[u16],
-    q: &[f64],
+    field: FieldRef,
     start: &[u8],
     variable: usize,
     list: &mut [u16],
     f: &mut [f64],
     u: &mut [u32],
-) -> Reasoned
-    ensures { left result list.new f.new u.new ≡ reason_call (given c rows cols q) start.now variable list.old f.old u.old }
+) -> Answer<Reasoned>
+    ensures { left result list.new f.new u.new ≡ reason_call (given field) start.now variable list.old f.old u.old }
 {
-    let checked = field::tests::ready(c, rows, cols, q, start, f.len(), u.len());
-    if let Checked::Failed(refusal) = checked {
-        return Reasoned::Refuses(refusal);
-    }
-    let answer = work(c, rows, cols, q, start, variable, list, f, u);
-    scratch::clear_floats(f);
-    scratch::clear_words(u);
+    field::tests::ready(field, start, f.len(), u.len())?;
+    let answer = work(field, start, variable, list, f, u);
+    f.fill(0.0);
+    u.fill(0);
     answer
 }

@@ -4,8 +4,6 @@ ghost use Rattle.scratch.specs.Over.{over};
 ghost use Rattle.places.specs.Places.{Adjacent, EndsBelow, places};
 ghost use Rattle.reason.specs.Stages.{marked as marked_of, mark_all, threes, Pushed};
 
-use scratch::wide_word;
-
 // A value is marked; a free one stays.
 fn marked(v: u8) -> u8
     ensures { result ≡ marked_of v }
@@ -21,8 +19,8 @@ pub fn mark(rows: &[u16], cols: &[u16], values: &mut [u8], u: &[u32], i: usize)
     ensures { values.new ≡ mark_all rows.now cols.now i values.old (places rows.now cols.now i) }
 {
     let n = values.len();
-    let start = wide_word(u[i]);
-    let end = wide_word(u[i + 1]);
+    let start = u[i] as usize;
+    let end = u[i + 1] as usize;
     for p in start..end {
         let t = places::end_in(u[n + 1 + p]);
         values[t] = marked(values[t]);
@@ -46,8 +44,8 @@ pub fn count_marked(values: &[u8]) -> usize
     ensures { result ≡ length (threes values.now (length values.now)) }
 {
     let mut count = 0;
-    for j in 0..values.len() {
-        count = counted(count, values[j]);
+    for v in values {
+        count = counted(count, *v);
     }
     count
 }
@@ -72,7 +70,7 @@ pub fn list_marked(values: &[u8], list: &mut [u16])
     ensures { list.new ≡ over (threes values.now (length values.now)) list.old }
 {
     let mut count = 0;
-    for j in 0..values.len() {
-        count = push(list, count, j, values[j]);
+    for (j, v) in values.iter().enumerate() {
+        count = push(list, count, j, *v);
     }
 }

@@ -4,15 +4,16 @@
 
 ghost use Rattle.std.specs.Prelude.{◌≡◌, ◌+◌, ◌<◌, ◌≤◌, length};
 ghost use Rattle.records.specs.WellFormed.{longest_input};
-ghost use Rattle.tally.specs.Tally.{tally, Small};
+ghost use Rattle.tally.specs.Tally.{Small};
 ghost use Rattle.tally.specs.Text.{tally_text};
 ghost use Rattle.record_program.specs.Handed.{Handed};
 
 use input::read_full;
 use std::env::Env;
 use std::io::{Read, Stdin, Stdout};
-use tally::{Ending, Totals};
-use tallying::{Turned, turn};
+use std::ops::ControlFlow;
+use tally::{Reached, Tally};
+use tallying::turn;
 
 // Answers one field.
 fn answer(stdin: Stdin, stdout: Stdout) -> usize
@@ -36,12 +37,12 @@ fn read_more(mut stdin: Stdin, buffer: &mut [u8], held: usize) -> usize
 }
 
 // Writes a tally; how many bytes it has.
-pub fn write(stdout: Stdout, ending: Ending, totals: Totals) -> usize
-    requires { Small totals }
-    ensures { result ≡ length (tally_text (tally ending totals)) }
+pub fn write(stdout: Stdout, tally: Tally) -> usize
+    requires { Small tally.totals }
+    ensures { result ≡ length (tally_text tally) }
 {
     let mut text = [0u8; 192];
-    let size = tally::write(ending, totals, &mut text);
+    let size = tally::write(tally, &mut text);
     let _ = stdout.write_all(&text[..size]);
     size
 }
@@ -51,19 +52,15 @@ fn tally_all(stdin: Stdin, stdout: Stdout, buffer: &mut [u8]) -> usize
     requires { longest_input < length buffer.old }
     ensures { Handed result }
 {
-    let mut held: usize = 0;
-    let mut totals = tally::nothing();
+    let mut reached = Reached {
+        totals: tally::nothing(),
+        at: 0,
+    };
     loop {
-        let n = read_more(stdin, buffer, held);
-        let turned = turn(buffer, held, n, totals, 0x20_0000_0000_0000);
-        match turned {
-            Turned::On(next, kept) => {
-                totals = next;
-                held = kept;
-            }
-            Turned::Over(ending, last) => {
-                return write(stdout, ending, last);
-            }
+        let n = read_more(stdin, buffer, reached.at);
+        match turn(buffer, reached, n, 0x20_0000_0000_0000) {
+            ControlFlow::Continue(next) => reached = next,
+            ControlFlow::Break(tally) => return write(stdout, tally),
         }
     }
 }

@@ -4,7 +4,7 @@ use mathlib.Core.Path.{◌≡◌, refl, sym, ap, ◌∙◌}
 use mathlib.Core.Bool.{Bool, true, false, cond}
 use mathlib.Core.List.{List}
 use native.Mathlib.Omega.{arith}
-use borrow.Author.Tests.{lt-leb, le-leb, eq-eqb, ne_eqb, leb-true, eqb-true}
+use borrow.Author.Tests.{lt-leb, le-leb, ne_eqb, leb-true, eqb-true}
 use lib.Dec.{leb, eqb}
 use lib.ListN.{length, get_or}
 use lib.Ieee.{Float}
@@ -33,19 +33,19 @@ module _ (s : List ℕ) (at : ℕ) {n mark : ℕ} (e : n ≡ length s - at) (roo
 
   pub read_weight : mark ≡ mark_vC → weight_at s at ≡ read_at s at
   unfolding marked_at
-  read_weight h = sym (simp (eq-eqb mark mark_vC h)) ∙ read_marked
+  read_weight h = sym (ap (λ (j : ℕ). marked_at j s at) h) ∙ read_marked
 
-  pub read_entry : (mark ≡ mark_vC → ⊥) → mark ≡ mark_qE → entry_at s at ≡ read_at s at
+  pub read_entry : mark ≡ mark_qE → entry_at s at ≡ read_at s at
   unfolding marked_at
-  read_entry a h = sym (simp (ne_eqb mark mark_vC a, eq-eqb mark mark_qE h)) ∙ read_marked
+  read_entry h = sym (ap (λ (j : ℕ). marked_at j s at) h) ∙ read_marked
 
-  pub read_given : (mark ≡ mark_vC → ⊥) → (mark ≡ mark_qE → ⊥) → mark ≡ mark_fX → given_at s at ≡ read_at s at
+  pub read_given : mark ≡ mark_fX → given_at s at ≡ read_at s at
   unfolding marked_at
-  read_given a b h = sym (simp (ne_eqb mark mark_vC a, ne_eqb mark mark_qE b, eq-eqb mark mark_fX h)) ∙ read_marked
+  read_given h = sym (ap (λ (j : ℕ). marked_at j s at) h) ∙ read_marked
 
-  pub read_end : (mark ≡ mark_vC → ⊥) → (mark ≡ mark_qE → ⊥) → (mark ≡ mark_fX → ⊥) → mark ≡ mark_zZ → End (cursor (at + 2)) ≡ read_at s at
+  pub read_end : mark ≡ mark_zZ → End (cursor (at + 2)) ≡ read_at s at
   unfolding marked_at
-  read_end a b d h = sym (simp (ne_eqb mark mark_vC a, ne_eqb mark mark_qE b, ne_eqb mark mark_fX d, eq-eqb mark mark_zZ h)) ∙ read_marked
+  read_end h = sym (ap (λ (j : ℕ). marked_at j s at) h) ∙ read_marked
 
   pub read_unknown : (mark ≡ mark_vC → ⊥) → (mark ≡ mark_qE → ⊥) → (mark ≡ mark_fX → ⊥) → (mark ≡ mark_zZ → ⊥) → Malformed ≡ read_at s at
   unfolding marked_at

@@ -5,22 +5,22 @@ use mathlib.Core.Bool.{Bool, true, false, cond, true≢false}
 use mathlib.Core.List.{List}
 use native.Mathlib.Omega.{arith}
 use lib.ListN.{length, get_or, take}
+use Rattle.std.specs.Prelude.{Option, Some}
 use Rattle.endian.specs.Bytes.{number_at, float_at}
 use Rattle.scratch.proofs.Over.{over_front}
 use Rattle.records.specs.Reading.{read_at}
 use Rattle.records.specs.Told.{Told, nothing, with_weight, with_entry, with_given, may_declare, may_enter, may_give, Turned, more, ended, fault, taken, outcome, following, read_from, parsed}
-use Rattle.records.specs.Parsing.{answer_of, Parses}
+use Rattle.records.specs.Parsing.{front, answer_of, Parses}
 use Rattle.records.specs.declared.Record.{Record}
 use Rattle.records.specs.declared.Record.TheVariants.{Weight, Entry, Given, End, Malformed}
 use Rattle.records.specs.declared.parsing.Parsed.{Parsed}
-use Rattle.records.specs.declared.parsing.Parsed.TheVariants.{Field}
 use Rattle.records.proofs.Finds.{Standing, weight, entry, given, end, malformed, standing}
 use Rattle.records.proofs.Laid.{Within}
 use Rattle.records.proofs.Loop.{forward, nothing_within}
 
 -- ---- one result
 
-pub parses_once : {s : List ℕ} {p p₁ p₂ : Told} {r₁ r₂ : Parsed} → Parses s p r₁ p₁ → Parses s p r₂ p₂ → (r₁ ≡ r₂) × (p₁ ≡ p₂)
+pub parses_once : {s : List ℕ} {p p₁ p₂ : Told} {r₁ r₂ : Option Parsed} → Parses s p r₁ p₁ → Parses s p r₂ p₂ → (r₁ ≡ r₂) × (p₁ ≡ p₂)
 parses_once a b = (a.answer ∙ sym b.answer, a.lists ∙ sym b.lists)
 
 -- ---- within the limits
@@ -106,12 +106,14 @@ pub record Fronts (n m : ℕ) (t p : Told) : Type 0 where
   pub quad : take m p.quad ≡ t.quad
   pub start : take n p.start ≡ t.start
 
-field_is : {n m end : ℕ} (b : Bool) (t : Told) (last : ℕ) → Field n m end ≡ answer_of b t last
+field_is : {n m end : ℕ} (b : Bool) (t : Told) (last : ℕ) → Some (front n m end) ≡ answer_of b t last
     → (b ≡ true) × (n ≡ length t.linear) × (m ≡ length t.quad) × (end ≡ last)
-field_is true t last e = (refl, cc, cc, cc)
+field_is {n} {m} {end} true t last e =
+    let same : front n m end ≡ front (length t.linear) (length t.quad) last = cc in
+    (refl, ap (λ (f : Parsed). f.variables) same, ap (λ (f : Parsed). f.entries) same, ap (λ (f : Parsed). f.end) same)
 field_is false t last e = let z : ◌≡◌ {A = ℕ} 0 1 = cc in absurd (omega arith)
 
-module _ {s : List ℕ} {p p' : Told} {r : Parsed} {n m end : ℕ} (done : Parses s p r p') (e : r ≡ Field n m end) where
+module _ {s : List ℕ} {p p' : Told} {r : Option Parsed} {n m end : ℕ} (done : Parses s p r p') (e : r ≡ Some (front n m end)) where
   is : ((parsed s).whole ≡ true) × (n ≡ length (parsed s).told.linear) × (m ≡ length (parsed s).told.quad) × (end ≡ (parsed s).end)
   is = field_is (parsed s).whole (parsed s).told (parsed s).end (sym e ∙ done.answer)
 

@@ -15,7 +15,7 @@ use Rattle.records.specs.Told.{Told, with_weight, with_entry, with_given, may_de
 use Rattle.records.specs.Parsing.{answer_of, lists_of, laid, Room, tally, stored, go_on, Noted, noted, note}
 use Rattle.records.specs.declared.Record.{Record}
 use Rattle.records.specs.declared.Record.TheVariants.{Weight, Entry, Given, End, Malformed}
-use Rattle.records.specs.declared.parsing.Turn.TheVariants.{On, Stop}
+use Rattle.std.specs.declared.ops.ControlFlow.TheVariants.{Continue, Break}
 
 -- ---- what is told
 
@@ -55,8 +55,8 @@ and_left true b e = refl
 and_left false b e = e
 
 abbrev pub laid_turn : Told → Turned → Noted
-laid_turn p (more t at) = noted (On (tally at (length t.linear) (length t.quad))) (laid t p)
-laid_turn p (ended b t end) = noted (Stop (answer_of b t end)) (laid t p)
+laid_turn p (more t at) = noted (Continue (tally at (length t.linear) (length t.quad))) (laid t p)
+laid_turn p (ended b t end) = noted (Break (answer_of b t end)) (laid t p)
 
 module _ (t p : Told) (w : Within t) (r : Room p) where
   weight_laid : (x : Float) (at : ℕ) (b : Bool) → may_declare (length t.linear) ≡ b

@@ -4,5 +4,4 @@ pub mod Laid
 pub mod Longest
 pub mod Loop
 pub mod Means
-pub mod Notes
 pub mod Spelling

@@ -7,18 +7,19 @@ use native.Mathlib.Omega.{arith}
 use borrow.Author.Tests.{ltb-true}
 use lib.ListN.{length, get_or, length-append, length-set}
 use lib.Ieee.{Float}
+use Rattle.std.specs.Prelude.{Option}
 use Rattle.endian.specs.Bytes.{number_at, float_at}
 use Rattle.scratch.specs.Over.{over}
 use Rattle.records.specs.Reading.{read_at}
 use Rattle.records.specs.Told.{Told, nothing, with_weight, with_entry, with_given, may_declare, may_enter, may_give, Turned, more, ended, fault, taken, Outcome, outcome, following, read_from, parsed}
-use Rattle.records.specs.Parsing.{answer_of, lists_of, laid, Room, Parses, tally, Noted, noted, note}
+use Rattle.records.specs.Parsing.{answer_of, laid, Room, Parses, tally, Noted, noted, note}
 use Rattle.records.specs.declared.Record.{Record}
 use Rattle.records.specs.declared.parsing.Parsed.{Parsed}
 use Rattle.records.specs.declared.parsing.Tally.{Tally}
-use Rattle.records.specs.declared.parsing.Turn.{Turn}
-use Rattle.records.specs.declared.parsing.Turn.TheVariants.{On, Stop}
+use Rattle.std.specs.declared.ops.ControlFlow.{ControlFlow}
+use Rattle.std.specs.declared.ops.ControlFlow.TheVariants.{Continue, Break}
 use Rattle.records.proofs.Finds.{Standing, weight, entry, given, end, malformed, standing}
-use Rattle.records.proofs.Laid.{Within, laid_room, SameLengths, laid_lengths, laid_turn, laid_step}
+use Rattle.records.proofs.Laid.{Within, laid_room, laid_turn, laid_step}
 
 -- ---- a turn goes forward
 
@@ -101,10 +102,9 @@ pub record Reads (s : List ℕ) (p₀ p : Told) (t : Tally) : Type 0 where
   pub counts : t ≡ tally t.at (length told.linear) (length told.quad)
   pub same : read_from k s t.at told ≡ parsed s
 
-pub reads_start : (s : List ℕ) (c : List Float) (rows cols : List ℕ) (q : List Float) (start : List ℕ)
-    → Room (lists_of c rows cols q start) → Reads s (lists_of c rows cols q start) (lists_of c rows cols q start) (tally 0 0 0)
+pub reads_start : (s : List ℕ) (p : Told) → Room p → Reads s p p (tally 0 0 0)
 unfolding over parsed
-reads_start s c rows cols q start room = record {
+reads_start s p room = record {
   told = nothing;
   k = suc (length s);
   room = room;
@@ -120,13 +120,10 @@ module _ {s : List ℕ} {p₀ p : Told} {t : Tally} (now : Reads s p₀ p t) whe
   pub reads_room : Room p
   reads_room = rw now.lists (laid_room now.within now.room)
 
-  pub reads_lengths : SameLengths p₀ p
-  reads_lengths = rw now.lists (laid_lengths now.within now.room)
-
   pub reads_few : t.variables ≤ 256
   reads_few = rw (ap (λ (a : Tally). a.variables) now.counts) now.within.few_variables
 
-  module _ {found : Record} {r : Turn} {p' : Told} (f : found ≡ read_at s t.at) (n : noted r p' ≡ note found t p) where
+  module _ {found : Record} {r : ControlFlow (Option Parsed) Tally} {p' : Told} (f : found ≡ read_at s t.at) (n : noted r p' ≡ note found t p) where
     step : noted r p' ≡ laid_turn p₀ (taken (read_at s t.at) now.told)
     step =
         n
@@ -155,18 +152,18 @@ module _ {s : List ℕ} {p₀ p : Told} {t : Tally} (now : Reads s p₀ p t) whe
       counts' : next ≡ tally at' (length told'.linear) (length told'.quad)
       lists' : p' ≡ laid told' p₀
 
-    onward : {next : Tally} → r ≡ On next → On-ward next
+    onward : {next : Tally} → r ≡ Continue next → On-ward next
     onward {next} on = go (taken (read_at s t.at) now.told) refl step
       where
         go : (u : Turned) → taken (read_at s t.at) now.told ≡ u → noted r p' ≡ laid_turn p₀ u → On-ward next
         go (more t₁ at₁) e q =
-            let both : On next ≡ On (tally at₁ (length t₁.linear) (length t₁.quad)) = sym on ∙ ap (λ (m : Noted). m.turn) q in
+            let both : Continue next ≡ Continue (tally at₁ (length t₁.linear) (length t₁.quad)) = sym on ∙ ap (λ (m : Noted). m.turn) q in
             record { told' = t₁; at' = at₁; is = e; counts' = cc; lists' = ap (λ (m : Noted). m.lists) q }
         go (ended b t₁ e₁) e q =
-            let both : On next ≡ Stop (answer_of b t₁ e₁) = sym on ∙ ap (λ (m : Noted). m.turn) q in
+            let both : Continue next ≡ Break (answer_of b t₁ e₁) = sym on ∙ ap (λ (m : Noted). m.turn) q in
             let z : ◌≡◌ {A = ℕ} 0 1 = cc in absurd (omega arith)
 
-    pub reads_turn : {next : Tally} → r ≡ On next → Reads s p₀ p' next
+    pub reads_turn : {next : Tally} → r ≡ Continue next → Reads s p₀ p' next
     reads_turn {next} on =
         let o = onward on in
         let at_next : next.at ≡ o.at' = ap (λ (a : Tally). a.at) o.counts' in
@@ -184,23 +181,23 @@ module _ {s : List ℕ} {p₀ p : Told} {t : Tally} (now : Reads s p₀ p t) whe
           same = ap (λ (a : ℕ). read_from left.0 s a o.told') at_next ∙ read_more left.0 left.1 o.is;
         }
 
-    pub reads_less : {next : Tally} → r ≡ On next → length s - next.at < length s - t.at
+    pub reads_less : {next : Tally} → r ≡ Continue next → length s - next.at < length s - t.at
     reads_less {next} on =
         let o = onward on in
         let at_next : next.at ≡ o.at' = ap (λ (a : Tally). a.at) o.counts' in
         let ahead = forward s t.at now.within (standing s t.at) o.is in
         omega (arith, ahead.later, ahead.reached, at_next)
 
-    pub reads_done : {answer : Parsed} → r ≡ Stop answer → Parses s p₀ answer p'
+    pub reads_done : {answer : Option Parsed} → r ≡ Break answer → Parses s p₀ answer p'
     reads_done {answer} stop = go (taken (read_at s t.at) now.told) refl step
       where
         go : (u : Turned) → taken (read_at s t.at) now.told ≡ u → noted r p' ≡ laid_turn p₀ u → Parses s p₀ answer p'
         go (more t₁ at₁) e q =
-            let both : Stop answer ≡ On (tally at₁ (length t₁.linear) (length t₁.quad)) = sym stop ∙ ap (λ (m : Noted). m.turn) q in
+            let both : Break answer ≡ Continue (tally at₁ (length t₁.linear) (length t₁.quad)) = sym stop ∙ ap (λ (m : Noted). m.turn) q in
             let z : ◌≡◌ {A = ℕ} 0 1 = cc in
             absurd (omega arith)
         go (ended b t₁ e₁) e q =
-            let both : Stop answer ≡ Stop (answer_of b t₁ e₁) = sym stop ∙ ap (λ (m : Noted). m.turn) q in
+            let both : Break answer ≡ Break (answer_of b t₁ e₁) = sym stop ∙ ap (λ (m : Noted). m.turn) q in
             let left = some_left in
             let all : outcome b t₁ e₁ ≡ parsed s = read_more left.0 left.1 e in
             let said : answer ≡ answer_of b t₁ e₁ = cc in

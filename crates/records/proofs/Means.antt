@@ -11,16 +11,16 @@ use lib.Dec.{ltb}
 use lib.ListN.{length, get_or, drop, length-append, length-drop, drop_of_length-le}
 use lib.Seq.{drop-cons, drop-drop, drop_at, get_or-drop}
 use lib.Ieee.{binary64, of_bits}
+use Rattle.std.specs.Prelude.{Option, Some}
 use Rattle.meaning.specs.Free.{is_free}
 use Rattle.endian.specs.Bytes.{number_at, bytes_of, float_at}
 use Rattle.records.specs.Reading.{mark_vC, mark_qE, mark_fX, mark_zZ, cursor, weight_at, entry_at, given_at, read_at}
 use Rattle.records.specs.Told.{Told, nothing, with_weight, with_entry, with_given, may_declare, may_enter, may_give, more, ended, fault, taken, Outcome, outcome, following, read_from, parsed}
-use Rattle.records.specs.Parsing.{answer_of, laid, Parses}
+use Rattle.records.specs.Parsing.{front, answer_of, laid, Parses}
 use Rattle.records.specs.WellFormed.{Item, weight, entry, given, spell, spelled, tells, Fine, Tells, none, next, Spells, WellFormed}
 use Rattle.records.specs.declared.Record.{Record}
 use Rattle.records.specs.declared.Record.TheVariants.{Weight, Entry, Given}
 use Rattle.records.specs.declared.parsing.Parsed.{Parsed}
-use Rattle.records.specs.declared.parsing.Parsed.TheVariants.{Field}
 use Rattle.records.proofs.Front.{field_whole, field_end}
 use Rattle.endian.proofs.Numbers.{number_below}
 use Rattle.records.proofs.Spelling.{number_spelled, spelled_number}
@@ -65,14 +65,14 @@ module _ (s : List ℕ) (at : ℕ) (rest : List ℕ) where
       let first = number_spelled s at 2 2 row (81 ∷ 69 ∷ []) (bytes_of 2 col ++ (bytes_of 8 bits ++ rest)) e refl f.0 in
       let second = number_spelled s at 4 2 col (81 ∷ 69 ∷ bytes_of 2 row) (bytes_of 8 bits ++ rest) e refl f.1 in
       let third = number_spelled s at 6 8 bits (81 ∷ 69 ∷ (bytes_of 2 row ++ bytes_of 2 col)) rest e refl f.2 in
-      sym (read_entry s at n (omega arith) (mark_read mark_qE _ e (omega arith)) (λ z. omega arith) refl)
+      sym (read_entry s at n (omega arith) (mark_read mark_qE _ e (omega arith)) refl)
       ∙ sym (fits 14 s at _ n (omega arith))
       ∙ same_entry first second (ap (of_bits binary64) third)
   read_item t (given v b) f e =
       let n = left_over e in
       let first = number_spelled s at 2 2 v (70 ∷ 88 ∷ []) (b ∷ rest) e refl f.0 in
       let second : get_or s (at + 4) 0 ≡ b = sym (get_or-drop at s 4 0) ∙ ap (λ (l : List ℕ). get_or l 4 0) e in
-      sym (read_given s at n (omega arith) (mark_read mark_fX _ e (omega arith)) (λ z. omega arith) (λ z. omega arith) refl)
+      sym (read_given s at n (omega arith) (mark_read mark_fX _ e (omega arith)) refl)
       ∙ sym (fits 5 s at _ n (omega arith))
       ∙ ap (λ (v' : ℕ). Given v' (get_or s (at + 4) 0) (cursor (at + 5))) first
       ∙ ap (λ (b' : ℕ). Given v b' (cursor (at + 5))) second
@@ -83,7 +83,7 @@ unfolding taken bytes_of
 read_last s at t rest e =
     let n = left_over s at [] e in
     ap (λ (r : Record). taken r t)
-    (sym (read_end s at n (omega arith) (mark_read s at [] mark_zZ rest e (omega arith)) (λ z. omega arith) (λ z. omega arith) (λ z. omega arith) refl))
+    (sym (read_end s at n (omega arith) (mark_read s at [] mark_zZ rest e (omega arith)) refl))
 
 spelled_long : (i : Item) → 2 ≤ length (spell i)
 unfolding spell
@@ -229,7 +229,7 @@ told_once s bytes u v a b = ap (λ (o : Outcome). o.told) (sym ((whole_means s b
 
 -- ---- the call
 
-module _ {s : List ℕ} {p p' : Told} {r : Parsed} (bytes : (i : ℕ) → get_or s i 0 < 256) (done : Parses s p r p') where
+module _ {s : List ℕ} {p p' : Told} {r : Option Parsed} (bytes : (i : ℕ) → get_or s i 0 < 256) (done : Parses s p r p') where
   -- a well-formed input is answered with its field, which lies in the lists
   pub parse_well_formed : (u : Told) → WellFormed s u → (r ≡ answer_of true u (length s)) × (p' ≡ laid u p)
   parse_well_formed u w =
@@ -237,5 +237,5 @@ module _ {s : List ℕ} {p p' : Told} {r : Parsed} (bytes : (i : ℕ) → get_or
       (done.answer ∙ ap (λ (o : Outcome). answer_of o.whole o.told o.end) e, done.lists ∙ ap (λ (o : Outcome). laid o.told p) e)
 
   -- an answer that is a field is that of a field at the front
-  pub parse_field : {n m end : ℕ} → r ≡ Field n m end → Spells s nothing (parsed s).told (drop end s)
+  pub parse_field : {n m end : ℕ} → r ≡ Some (front n m end) → Spells s nothing (parsed s).told (drop end s)
   parse_field {end = end} e = (parsed_means s bytes (parsed s).told end (field_end done e).reached).0 (field_whole done e)

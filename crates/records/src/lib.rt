@@ -6,16 +6,16 @@ pub mod parsing;
 ghost use Rattle.std.specs.Prelude.{◌≡◌, ◌-◌, length};
 ghost use Rattle.records.specs.Reading.{weight_at, entry_at, given_at, read_at};
 
-use endian::{float, number, short};
+use endian::{float, short};
 
 // The marks, as little-endian numbers.
-const VC: u64 = 0x4356;
+const VC: u16 = 0x4356;
 
-const QE: u64 = 0x4551;
+const QE: u16 = 0x4551;
 
-const FX: u64 = 0x5846;
+const FX: u16 = 0x5846;
 
-const ZZ: u64 = 0x5a5a;
+const ZZ: u16 = 0x5a5a;
 
 // A place in the input: the index of the byte at which the next record begins.
 #[derive(Clone, Copy)]
@@ -42,11 +42,7 @@ pub enum Record {
 fn left(bytes: &[u8], at: usize) -> usize
     ensures { result ≡ length bytes.now - at }
 {
-    if at <= bytes.len() {
-        bytes.len() - at
-    } else {
-        0
-    }
+    bytes.len().saturating_sub(at)
 }
 
 fn weight_record(bytes: &[u8], at: usize) -> Record
@@ -89,19 +85,12 @@ impl Cursor {
         if left(bytes, at) < 2 {
             return Record::Malformed;
         }
-        let mark = number(bytes, at, 2);
-        if mark == VC {
-            return weight_record(bytes, at);
+        match short(bytes, at) {
+            VC => weight_record(bytes, at),
+            QE => entry_record(bytes, at),
+            FX => given_record(bytes, at),
+            ZZ => Record::End(Cursor { at: at + 2 }),
+            _ => Record::Malformed,
         }
-        if mark == QE {
-            return entry_record(bytes, at);
-        }
-        if mark == FX {
-            return given_record(bytes, at);
-        }
-        if mark == ZZ {
-            return Record::End(Cursor { at: at + 2 });
-        }
-        Record::Malformed
     }
 }

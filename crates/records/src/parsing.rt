@@ -1,19 +1,27 @@
 // The field at the front of an input, up to its ZZ.
-ghost use Rattle.std.specs.Prelude.{◌≡◌, ◌+◌, ◌≤◌, length};
-ghost use Rattle.records.specs.Told.{may_declare, may_enter, may_give};
-ghost use Rattle.records.specs.Parsing.{lists_of, Room, Parses, tally, stored, go_on, noted, note as note_of};
+ghost use Rattle.std.specs.Prelude.{◌≡◌, ◌≤◌};
+ghost use Rattle.records.specs.declared.Record.TheVariants.{Weight, Entry, Given};
+ghost use Rattle.records.specs.Parsing.{told_by, SameLent, Room, Parses, noted, note as note_of};
 
 use crate::{Cursor, Record};
+use std::ops::ControlFlow;
 
-// What stands at the front of an input: a field, with so many linear weights and entries and the index behind its ZZ, or what is malformed.
+// The lists that a field is read into: its linear weights, the rows, columns and weights of its entries, and the start values.
+#[derive(Drop)]
+pub struct Lists<'a> {
+    pub c: &'a mut [f64],
+    pub rows: &'a mut [u16],
+    pub cols: &'a mut [u16],
+    pub q: &'a mut [f64],
+    pub start: &'a mut [u8],
+}
+
+// A field at the front of an input: how many linear weights and entries it has, and the index behind its ZZ.
 #[derive(Clone, Copy)]
-pub enum Parsed {
-    Field {
-        variables: usize,
-        entries: usize,
-        end: usize,
-    },
-    Malformed,
+pub struct Parsed {
+    pub variables: usize,
+    pub entries: usize,
+    pub end: usize,
 }
 
 // Where the next record stands, and how many weights and entries came before it.
@@ -24,28 +32,23 @@ struct Tally {
     entries: usize,
 }
 
-// After a record: on to the next one, or the answer.
-#[derive(Clone, Copy)]
-enum Turn {
-    On(Tally),
-    Stop(Parsed),
-}
+// After a record: on to the next one, or the answer, which is none where the record is malformed or not allowed.
+type Turn = ControlFlow<Option<Parsed>, Tally>;
 
 // VC: the weight of the next variable, which is free.
-fn declare(x: f64, next: Cursor, t: Tally, c: &mut [f64], start: &mut [u8]) -> Turn
-    requires in_bounds { 256 ≤ length c.old }
-    requires in_bounds_2 { 256 ≤ length start.old }
-    ensures value { result ≡ go_on (may_declare t.variables) (tally next.at (t.variables + 1) t.entries) }
-    ensures c_value { c.new ≡ stored (may_declare t.variables) t.variables x c.old }
-    ensures start_value { start.new ≡ stored (may_declare t.variables) t.variables 2 start.old }
+#[tactic(auto, unfolding(crate::specs::Parsing::note))]
+fn declare(x: f64, next: Cursor, t: Tally, lists: &mut Lists) -> Turn
+    requires { Room (told_by lists.old) }
+    ensures same_lent { SameLent lists.old lists.new }
+    ensures noted { noted result (told_by lists.new) ≡ note_of (Weight x next) t (told_by lists.old) }
 {
     let n = t.variables;
     if n >= 256 {
-        return Turn::Stop(Parsed::Malformed);
+        return ControlFlow::Break(None);
     }
-    c[n] = x;
-    start[n] = 2;
-    Turn::On(Tally {
+    lists.c[n] = x;
+    lists.start[n] = 2;
+    ControlFlow::Continue(Tally {
         at: next.at,
         variables: n + 1,
         entries: t.entries,
@@ -53,32 +56,20 @@ fn declare(x: f64, next: Cursor, t: Tally, c: &mut [f64], start: &mut [u8]) -> T
 }
 
 // QE: the next entry.
-fn enter(
-    row: u16,
-    col: u16,
-    x: f64,
-    next: Cursor,
-    t: Tally,
-    rows: &mut [u16],
-    cols: &mut [u16],
-    q: &mut [f64],
-) -> Turn
-    requires in_bounds { 1024 ≤ length rows.old }
-    requires in_bounds_2 { 1024 ≤ length cols.old }
-    requires in_bounds_3 { 1024 ≤ length q.old }
-    ensures value { result ≡ go_on (may_enter t.entries) (tally next.at t.variables (t.entries + 1)) }
-    ensures rows_value { rows.new ≡ stored (may_enter t.entries) t.entries row rows.old }
-    ensures cols_value { cols.new ≡ stored (may_enter t.entries) t.entries col cols.old }
-    ensures q_value { q.new ≡ stored (may_enter t.entries) t.entries x q.old }
+#[tactic(auto, unfolding(crate::specs::Parsing::note))]
+fn enter(row: u16, col: u16, x: f64, next: Cursor, t: Tally, lists: &mut Lists) -> Turn
+    requires { Room (told_by lists.old) }
+    ensures same_lent { SameLent lists.old lists.new }
+    ensures noted { noted result (told_by lists.new) ≡ note_of (Entry row col x next) t (told_by lists.old) }
 {
     let m = t.entries;
     if m >= 1024 {
-        return Turn::Stop(Parsed::Malformed);
+        return ControlFlow::Break(None);
     }
-    rows[m] = row;
-    cols[m] = col;
-    q[m] = x;
-    Turn::On(Tally {
+    lists.rows[m] = row;
+    lists.cols[m] = col;
+    lists.q[m] = x;
+    ControlFlow::Continue(Tally {
         at: next.at,
         variables: t.variables,
         entries: m + 1,
@@ -86,24 +77,26 @@ fn enter(
 }
 
 // FX: the value of a declared variable that has none yet.
-fn give(variable: u16, value: u8, next: Cursor, t: Tally, start: &mut [u8]) -> Turn
-    requires { t.variables ≤ length start.old }
-    ensures value { result ≡ go_on (may_give variable value t.variables start.old) (tally next.at t.variables t.entries) }
-    ensures start_value { start.new ≡ stored (may_give variable value t.variables start.old) variable value start.old }
+#[tactic(auto, unfolding(crate::specs::Parsing::note))]
+fn give(variable: u16, value: u8, next: Cursor, t: Tally, lists: &mut Lists) -> Turn
+    requires room { Room (told_by lists.old) }
+    requires variables_bound { t.variables ≤ 256 }
+    ensures same_lent { SameLent lists.old lists.new }
+    ensures noted { noted result (told_by lists.new) ≡ note_of (Given variable value next) t (told_by lists.old) }
 {
-    let v = variable as usize;
+    let v = usize::from(variable);
     let n = t.variables;
     if v >= n {
-        return Turn::Stop(Parsed::Malformed);
+        return ControlFlow::Break(None);
     }
-    if start[v] != 2 {
-        return Turn::Stop(Parsed::Malformed);
+    if lists.start[v] != 2 {
+        return ControlFlow::Break(None);
     }
     if value > 1 {
-        return Turn::Stop(Parsed::Malformed);
+        return ControlFlow::Break(None);
     }
-    start[v] = value;
-    Turn::On(Tally {
+    lists.start[v] = value;
+    ControlFlow::Continue(Tally {
         at: next.at,
         variables: n,
         entries: t.entries,
@@ -111,45 +104,31 @@ fn give(variable: u16, value: u8, next: Cursor, t: Tally, start: &mut [u8]) -> T
 }
 
 // One record's part in the lists.
-fn note(
-    found: Record,
-    t: Tally,
-    c: &mut [f64],
-    rows: &mut [u16],
-    cols: &mut [u16],
-    q: &mut [f64],
-    start: &mut [u8],
-) -> Turn
-    requires room { Room (lists_of c.old rows.old cols.old q.old start.old) }
+#[tactic(auto, unfolding(crate::specs::Parsing::note))]
+fn note(found: Record, t: Tally, lists: &mut Lists) -> Turn
+    requires room { Room (told_by lists.old) }
     requires variables_bound { t.variables ≤ 256 }
-    ensures { noted result (lists_of c.new rows.new cols.new q.new start.new)
-        ≡ note_of found t (lists_of c.old rows.old cols.old q.old start.old) }
+    ensures same_lent { SameLent lists.old lists.new }
+    ensures noted { noted result (told_by lists.new) ≡ note_of found t (told_by lists.old) }
 {
     match found {
-        Record::Weight(x, next) => declare(x, next, t, c, start),
-        Record::Entry(row, col, x, next) => enter(row, col, x, next, t, rows, cols, q),
-        Record::Given(variable, value, next) => give(variable, value, next, t, start),
-        Record::End(next) => Turn::Stop(Parsed::Field {
+        Record::Weight(x, next) => declare(x, next, t, lists),
+        Record::Entry(row, col, x, next) => enter(row, col, x, next, t, lists),
+        Record::Given(variable, value, next) => give(variable, value, next, t, lists),
+        Record::End(next) => ControlFlow::Break(Some(Parsed {
             variables: t.variables,
             entries: t.entries,
             end: next.at,
-        }),
-        Record::Malformed => Turn::Stop(Parsed::Malformed),
+        })),
+        Record::Malformed => ControlFlow::Break(None),
     }
 }
 
-// The field at the front of the lists; start values that no record gives are 2.
-pub fn parse(
-    bytes: &[u8],
-    c: &mut [f64],
-    rows: &mut [u16],
-    cols: &mut [u16],
-    q: &mut [f64],
-    start: &mut [u8],
-) -> Parsed
-    requires { Room (lists_of c.old rows.old cols.old q.old start.old) }
-    ensures { Parses bytes.now (lists_of c.old rows.old cols.old q.old start.old) result
-        (lists_of c.new rows.new cols.new q.new start.new) }
+// The field at the front of the lists, or none where the input is malformed; start values that no record gives are 2.
+pub fn parse(bytes: &[u8], lists: &mut Lists) -> Option<Parsed>
+    requires { Room (told_by lists.old) }
+    ensures same_lent { SameLent lists.old lists.new }
+    ensures parses { Parses bytes.now (told_by lists.old) result (told_by lists.new) }
 {
     let mut t = Tally {
         at: 0,
@@ -158,14 +137,9 @@ pub fn parse(
     };
     loop {
         let found = Cursor { at: t.at }.read(bytes);
-        let turn = note(found, t, c, rows, cols, q, start);
-        match turn {
-            Turn::On(next) => {
-                t = next;
-            }
-            Turn::Stop(parsed) => {
-                return parsed;
-            }
+        match note(found, t, lists) {
+            ControlFlow::Continue(next) => t = next,
+            ControlFlow::Break(parsed) => return parsed,
         }
     }
 }

@@ -1,109 +1,84 @@
-// The call of a case is made, in lists that are taken.
-ghost use Rattle.std.specs.Prelude.{◌≤◌};
-
-use lines::outcomes::{answered, counted};
-use lines::{
-    COLD_FULL, COLD_LIMITED, HEAVY, LIMITED_PROBE, Outcome, PROBE, SINGLE_PROBE, is_among,
-};
+// The call of a case is made, in lists that are taken, where it keeps the field.
+use field::{Answer, FieldRef, Grade};
+use lines::call::Call;
+use lines::outcomes::{Ended, Outcome, Reason, Undone, answered, checked, counted, done, refusing};
+use pairs::Paired;
+use reason::Reasoned;
 use stream::head::Head;
 
-// The probes of all or of the first candidates, which answer in found values and in a list of constraints.
-fn in_both(
-    head: Head,
-    c: &[f64],
-    rows: &[u16],
-    cols: &[u16],
-    q: &[f64],
-    start: &[u8],
-    found: &mut [u8],
-    list: &mut [u16],
-    f: &mut [f64],
-    u: &mut [u32],
-) -> Outcome
-    ensures { result.number ≤ 18 }
-{
-    if head.code == PROBE {
-        return counted(probes::probe(c, rows, cols, q, start, found, list, f, u));
+fn paired(answer: Answer<Paired>) -> Ended {
+    match answer {
+        Ok(
+            Paired {
+                grade,
+                items: count,
+                pairs: examined,
+            },
+        ) => done(Some(grade), count, examined),
+        Err(refusal) => refusing(refusal),
     }
-    counted(probes::probe_limited(c, rows, cols, q, start, head.limit, found, list, f, u))
 }
 
-// The same with rows made afresh for every probe.
-fn in_both_cold(
-    head: Head,
-    c: &[f64],
-    rows: &[u16],
-    cols: &[u16],
-    q: &[f64],
-    start: &[u8],
-    found: &mut [u8],
-    list: &mut [u16],
-    f: &mut [f64],
-    u: &mut [u32],
-) -> Outcome
-    ensures { result.number ≤ 18 }
-{
-    if head.code == COLD_FULL {
-        return counted(cold::cold_probe(c, rows, cols, q, start, found, list, f, u));
+// The call answers in an exact field alone.
+fn reasoned(answer: Answer<Reasoned>) -> Ended {
+    match answer {
+        Ok(
+            Reasoned {
+                because,
+                unit,
+                count,
+            },
+        ) => Ok(Outcome {
+            grade: Some(Grade::Exact),
+            count,
+            pairs: 0,
+            reason: Some(Reason {
+                ground: because,
+                unit,
+            }),
+        }),
+        Err(refusal) => refusing(refusal),
     }
-    counted(cold::cold_probe_limited(c, rows, cols, q, start, head.limit, found, list, f, u))
 }
 
-// A single probe over remembered rows, the probes with rows made afresh, or a call that does not stand on remembered rows.
-fn others(
-    head: Head,
-    c: &[f64],
-    rows: &[u16],
-    cols: &[u16],
-    q: &[f64],
-    start: &mut [u8],
-    found: &mut [u8],
-    list: &mut [u16],
-    f: &mut [f64],
-    u: &mut [u32],
-) -> Outcome
-    ensures { result.number ≤ 18 }
-{
-    if head.code == SINGLE_PROBE {
-        return answered(probes::probe_one(
-            c,
-            rows,
-            cols,
-            q,
-            start,
-            head.variable,
-            head.value,
-            found,
-            f,
-            u,
-        ));
-    }
-    if is_among(head.code, COLD_FULL, COLD_LIMITED) {
-        return in_both_cold(head, c, rows, cols, q, start, found, list, f, u);
-    }
-    crate::others::make(head, c, rows, cols, q, start, found, list, f, u)
-}
-
-// A call that keeps the field.
+// Makes a call that keeps the field; another is absent here.
 pub fn make(
+    call: Call,
     head: Head,
-    c: &[f64],
-    rows: &[u16],
-    cols: &[u16],
-    q: &[f64],
+    field: FieldRef,
     start: &mut [u8],
     found: &mut [u8],
     list: &mut [u16],
     f: &mut [f64],
     u: &mut [u32],
-) -> Outcome
-    ensures { result.number ≤ 18 }
-{
-    if head.code == HEAVY {
-        return answered(heavy::heavy(c, rows, cols, q, start, f, u));
+) -> Ended {
+    let variable = head.variable;
+    let value = head.value;
+    let limit = head.limit;
+    match call {
+        Call::Closure => counted(closure::closure(field, start, f, u)),
+        Call::Components => answered(components::components(field, start, f, u)),
+        Call::Preprocess => answered(preprocess::preprocess(field, start, f, u)),
+        Call::Heavy => answered(heavy::heavy(field, start, f, u)),
+        Call::SingleProbe => answered(probes::probe_one(
+            field, start, variable, value, found, f, u,
+        )),
+        Call::ColdProbe => answered(probe::cold_probe_one(
+            field, start, variable, value, found, f, u,
+        )),
+        Call::Probe => counted(probes::probe(field, start, found, list, f, u)),
+        Call::LimitedProbe => counted(probes::probe_limited(
+            field, start, limit, found, list, f, u,
+        )),
+        Call::ColdFull => counted(cold::cold_probe(field, start, found, list, f, u)),
+        Call::ColdLimited => counted(cold::cold_probe_limited(
+            field, start, limit, found, list, f, u,
+        )),
+        Call::Pairs => paired(pairs::pairs(field, start, limit, list, f, u)),
+        Call::Propagation => checked(propagation::propagate(start, list, u)),
+        Call::Anchors => counted(anchors::anchors(field, start, head.least, list, f, u)),
+        Call::NoEffect => counted(no_effect::no_effect(field, list, u)),
+        Call::Reason => reasoned(reason::reason(field, start, variable, list, f, u)),
+        _ => Err(Undone::Absent),
     }
-    if is_among(head.code, PROBE, LIMITED_PROBE) {
-        return in_both(head, c, rows, cols, q, start, found, list, f, u);
-    }
-    others(head, c, rows, cols, q, start, found, list, f, u)
 }

@@ -4,7 +4,9 @@
 pub mod fill;
 pub mod store;
 
-ghost use Rattle.std.specs.Prelude.{◌≡◌};
+ghost use Rattle.std.specs.Prelude.{◌≡◌, MatchBool};
+ghost use Rattle.std.specs.Float.Ieee.{le};
+ghost use Rattle.weights.specs.Worth.{zero64};
 ghost use Rattle.rows.specs.Row.{start_row, add_free as add_free_of, remove_free as remove_free_of, add_fixed as add_fixed_of, remove_fixed as remove_fixed_of, add_term as add_term_of, remove_term as remove_term_of, judge_of, conclude_of, is_flat as is_flat_of};
 
 // A row of the gradient: a lower and an upper bound on the gradient of one variable.
@@ -28,12 +30,7 @@ impl Verdict {
     pub fn is_flat(self) -> bool
         ensures { result ≡ is_flat_of self }
     {
-        match self {
-            Verdict::Zero(_) => false,
-            Verdict::One(_) => false,
-            Verdict::Flat => true,
-            Verdict::Open => false,
-        }
+        matches!(self, Verdict::Flat)
     }
 }
 
@@ -55,32 +52,46 @@ impl Row {
         }
     }
 
+    // Changes the lower bound where the coefficient is at most 0, and the upper where it is at least 0.
+    fn change_free<F: Fn(f64) -> f64>(self, coeff: f64, change: F) -> Row
+        requires { F.IsAlwaysCallable change }
+        ensures lower { MatchBool (le coeff zero64) (F.post change self.lower result.lower) (result.lower ≡ self.lower) }
+        ensures upper { MatchBool (le zero64 coeff) (F.post change self.upper result.upper) (result.upper ≡ self.upper) }
+    {
+        let mut row = self;
+        if coeff <= 0.0 {
+            row.lower = change(self.lower);
+        }
+        if coeff >= 0.0 {
+            row.upper = change(self.upper);
+        }
+        row
+    }
+
+    // Changes both bounds.
+    fn change_both<F: Fn(f64) -> f64>(self, change: F) -> Row
+        requires { F.IsAlwaysCallable change }
+        ensures lower { F.post change self.lower result.lower }
+        ensures upper { F.post change self.upper result.upper }
+    {
+        Row {
+            lower: change(self.lower),
+            upper: change(self.upper),
+        }
+    }
+
     // Adds an entry whose other end is free: a coefficient at most 0 to lower, one at least 0 to upper.
     pub fn add_free(self, coeff: f64) -> Row
         ensures { result ≡ add_free_of self coeff }
     {
-        let mut row = self;
-        if coeff <= 0.0 {
-            row.lower = row.lower + coeff;
-        }
-        if coeff >= 0.0 {
-            row.upper = row.upper + coeff;
-        }
-        row
+        self.change_free(coeff, |bound| bound + coeff)
     }
 
     // Takes out an entry whose other end was free, from the bounds to which its coefficient was added.
     pub fn remove_free(self, coeff: f64) -> Row
         ensures { result ≡ remove_free_of self coeff }
     {
-        let mut row = self;
-        if coeff <= 0.0 {
-            row.lower = row.lower - coeff;
-        }
-        if coeff >= 0.0 {
-            row.upper = row.upper - coeff;
-        }
-        row
+        self.change_free(coeff, |bound| bound - coeff)
     }
 
     // Adds an entry whose other end has a value: coefficient times value to both bounds.
@@ -88,10 +99,7 @@ impl Row {
         ensures { result ≡ add_fixed_of self coeff value }
     {
         let term = coeff * (value as f64);
-        Row {
-            lower: self.lower + term,
-            upper: self.upper + term,
-        }
+        self.change_both(|bound| bound + term)
     }
 
     // Takes out an entry whose other end had a value: coefficient times value from both bounds.
@@ -99,10 +107,7 @@ impl Row {
         ensures { result ≡ remove_fixed_of self coeff value }
     {
         let term = coeff * (value as f64);
-        Row {
-            lower: self.lower - term,
-            upper: self.upper - term,
-        }
+        self.change_both(|bound| bound - term)
     }
 
     // The term of an end with this byte, where 2 is free.

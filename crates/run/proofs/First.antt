@@ -1,5 +1,5 @@
 -- Where the scan passes over the first variables it changes nothing; where it passes over all, neither does the run. Assumes nothing.
-use Prim.Native.Nat.{ℕ, zero, suc, ◌+◌, ◌<◌, ◌≤◌}
+use Prim.Native.Nat.{ℕ, zero, suc, ◌≤◌}
 use mathlib.Core.Path.{◌≡◌, refl, sym, ap, ◌∙◌}
 use mathlib.Core.Bool.{Bool, true, false, not, cond, ◌&&◌, false≢true}
 use mathlib.Core.List.{List, []}
@@ -8,7 +8,9 @@ use native.Mathlib.Omega.{arith}
 use borrow.Author.Tests.{eq-eqb, ne_eqb}
 use lib.Dec.{eqb}
 use lib.Ieee.{Float}
-use lib.ListN.{length, get_or}
+use lib.ListN.{length}
+use Rattle.std.specs.Prelude.{Option}
+use Rattle.std.specs.Option.{is_some}
 use Rattle.scratch.specs.All.{all_below, Passing}
 use Rattle.scratch.proofs.All.{all_means, both}
 use Rattle.scratch.specs.Region.{region}
@@ -19,12 +21,12 @@ use Rattle.field.proofs.Faults.{FirstFail, first_is, first_end, first_there}
 use Rattle.rows.specs.declared.Row.{Row}
 use Rattle.rows.specs.declared.Verdict.{Verdict}
 use Rattle.rows.specs.declared.Verdict.TheVariants.{Zero, One, Flat, Open}
-use Rattle.rows.specs.Row.{value_of, is_forced, judge_of, is_strict}
+use Rattle.rows.specs.Row.{is_forced, judge_of, is_strict}
 use Rattle.rows.specs.Stored.{row_on, rows_on, Filled}
 use Rattle.rows.proofs.Upto.{get_d_up_to}
 use Rattle.rows.proofs.Stored.{written_rows}
 use Rattle.run.specs.Run.{Run, no_row, row_for, judged, scan_at, scan_to, work, propagate, closure_run, flat_to, flat_rows}
-use Rattle.run.specs.Cells.{Cells, cells, run_in, Placed, Does}
+use Rattle.run.specs.Cells.{Cells, cells, run_in, Placed, Does, forced_by}
 use Rattle.run.specs.First.{passes, Closes}
 use Rattle.run.proofs.Keeps.{unforced_stays, work_stays}
 use Rattle.run.proofs.Cells.{does_same}
@@ -32,21 +34,28 @@ use Rattle.run.proofs.Turns.{Scanning, propagate_does, closed_run}
 
 -- ---- a variable is passed over
 
--- the value that a verdict forces is none exactly where it forces none
-pub forced_none : (v : Verdict) → eqb (value_of v) 2 ≡ not (is_forced v)
-unfolding value_of
-forced_none (Zero b) = refl
-forced_none (One b) = refl
-forced_none Flat = refl
-forced_none Open = refl
+-- a verdict forces no value exactly where it is not forced
+forced_none : (v : Verdict) {o : Option ℕ} {b : Bool} → o ≡ forced_by v → is_some o ≡ not b → b ≡ not (is_forced v)
+forced_none v {b = b} e s = told v b (ap is_some (sym e) ∙ s)
+  where
+    told : (v : Verdict) (b : Bool) → is_some (forced_by v) ≡ not b → b ≡ not (is_forced v)
+    told (Zero a) false s = refl
+    told (Zero a) true s = s
+    told (One a) false s = refl
+    told (One a) true s = s
+    told Flat true s = refl
+    told Flat false s = s
+    told Open true s = refl
+    told Open false s = s
 
 -- a value, or the row's verdict as the code finds it
 pub passes_fixed : {x : ℕ} (strict : Bool) → x ≢ 2 → true ≡ not (eqb x 2 && strict)
 passes_fixed {x} strict ne = rw (ne_eqb x 2 ne)
 
-pub passes_told : {row r : Row} {v : Verdict} {x value : ℕ} → x ≡ 2 → row ≡ r → v ≡ judge_of row → value ≡ value_of v → eqb value 2 ≡ not (eqb x 2 && is_strict r)
-passes_told {r = r} {x = x} free er ev e =
-    ap (λ (y : ℕ). eqb y 2) (e ∙ ap value_of (ev ∙ ap (λ (w : Row). judge_of w) er)) ∙ forced_none (judge_of r) ∙ rw (eq-eqb x 2 free)
+pub passes_told : {row r : Row} {v : Verdict} {x : ℕ} {value : Option ℕ} {b : Bool} → x ≡ 2 → row ≡ r → v ≡ judge_of row → value ≡ forced_by v → is_some value ≡ not b
+    → b ≡ not (eqb x 2 && is_strict r)
+passes_told {r = r} {x = x} free er ev e s =
+    forced_none (judge_of r) (e ∙ ap forced_by (ev ∙ ap (λ (w : Row). judge_of w) er)) s ∙ rw (eq-eqb x 2 free)
 
 module _ (run : Run) (i : ℕ) {row : Row} (e : row_for run i ≡ row) where
   scan_passes : not (is_free run.values i && is_strict row) ≡ true → scan_at run i ≡ run
@@ -108,6 +117,10 @@ module _ (F : Field) (s : List ℕ) {f₀ : List Float} (f : List Float) (filled
       let all : from ≡ length s = omega (arith, B.within) in
       let run = still_run (rw all at B) in
       record { values = ap (λ (r : Run). r.values) run; rows = ap (λ (r : Run). r.rows) run; values_long = long; floats_long = filled.long }
+
+-- rows that stand do not speak of what stood before
+pub filled_there : (F : Field) (s : List ℕ) {f₀ f : List Float} → Filled F s f₀ f → Filled F s f f
+filled_there F s filled = record { long = refl; rows = filled.rows; rest = refl }
 
 -- ---- else the scan and the queue are the run
 

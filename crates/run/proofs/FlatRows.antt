@@ -8,6 +8,7 @@ use native.Mathlib.Omega.{arith}
 use borrow.Author.Tests.{eqb-true}
 use lib.ListN.{length, get_or}
 use lib.Ieee.{Float}
+use mir.Val.{bool_byte}
 use Rattle.meaning.specs.Free.{is_free}
 use Rattle.meaning.specs.Gradient.{low, high, is_zero, flats_to, flats}
 use Rattle.field.specs.Field.{Field}
@@ -24,6 +25,11 @@ use Rattle.run.specs.Ended.{RowsWorth, Ended}
 abbrev one : Bool → ℕ
 one b = cond b 1 0
 
+-- a truth as a number
+pub bit_one : (b : Bool) → bool_byte b ≡ cond b 1 0
+bit_one true = refl
+bit_one false = refl
+
 one_at_most : (b : Bool) → one b ≤ 1
 one_at_most true = omega arith
 one_at_most false = omega arith
@@ -34,8 +40,8 @@ flat_few values rows zero = omega arith
 flat_few values rows (suc i) = omega (arith, one_at_most (is_free values i && is_flat (judge_of (get_or rows i no_row))), flat_few values rows i)
 
 -- the row's verdict as the code finds it
-pub flat_told : {row r : Row} {v : Verdict} {flat b : Bool} → row ≡ r → v ≡ judge_of row → flat ≡ is_flat v → flat ≡ b → is_flat (judge_of r) ≡ b
-flat_told e d g h = ap (λ (x : Row). is_flat (judge_of x)) (sym e) ∙ ap is_flat (sym d) ∙ sym g ∙ h
+pub flat_told : {row r : Row} {v : Verdict} {flat : Bool} → row ≡ r → v ≡ judge_of row → flat ≡ is_flat v → is_flat (judge_of r) ≡ flat
+flat_told e d g = ap (λ (x : Row). is_flat (judge_of x)) (sym e) ∙ ap is_flat (sym d) ∙ sym g
 
 -- ---- the loop: i variables are behind it
 

@@ -1,15 +1,13 @@
 -- What the steps write into the cells is what the model's steps do to the run. Assumes nothing.
 use Prim.Native.Nat.{ℕ, ◌+◌, ◌<◌}
 use mathlib.Core.Path.{◌≡◌, refl, sym, ap, ◌∙◌}
-use mathlib.Core.Logic.{◌≢◌, ⊎_elim}
-use mathlib.Core.Bool.{true, false, true≢false}
-use mathlib.Core.List.{List, [], ◌∷◌}
+use mathlib.Core.Logic.{◌≢◌}
+use mathlib.Core.Bool.{Bool, true, false, true≢false}
+use mathlib.Core.List.{List}
 use native.Mathlib.Nat.{le_refl}
 use native.Mathlib.Decide.{ℕ_discrete}
 use native.Mathlib.Omega.{arith}
 use borrow.Author.Tests.{eq-eqb, ne_eqb}
-use types.Run.{OneOf}
-use denote.Enum.Declared.{tag_of}
 use lib.Ieee.{Float}
 use lib.ListN.{length, get_or, set, take, length-set}
 use lib.Seq.{take-set-le, drop-set-lt, get_or-set_same, get_or-set_other}
@@ -22,28 +20,35 @@ use Rattle.rows.specs.declared.Conclusion.{Conclusion}
 use Rattle.rows.specs.Row.{judge_of, conclude_of, value_of, is_forced}
 use Rattle.rows.specs.Model.{coeff_of}
 use Rattle.rows.specs.Stored.{row_on, put_row}
-use Rattle.rows.specs.contracts.Verdict.{the_type}
 use Rattle.rows.proofs.Upto.{get_d_up_to}
 use Rattle.rows.proofs.Stored.{length_put, rest_put, row_same, put_rows}
 use Rattle.places.specs.Places.{other_end}
 use Rattle.places.proofs.Shape.{other_end_below}
 use Rattle.places.proofs.Walk.{adjacent_front}
 use Rattle.run.specs.Run.{Run, no_row, with_row, force, settle, judged, scan_at, moved, move_row, serve_at}
-use Rattle.run.specs.Cells.{Cells, cells, base, run_in, Placed, Does, Settled}
+use Rattle.std.specs.Prelude.{Some}
+use Rattle.run.specs.Cells.{Cells, cells, base, run_in, Placed, Does, Settled, Acted, forced_by}
 use Rattle.meaning.proofs.Free.{frees_set}
 use Rattle.run.proofs.Cells.{does_same, does_as, does_then}
 use Rattle.run.proofs.Keeps.{unforced_stays}
 
 -- ---- a verdict that forces a value, or none
 
--- a verdict that is neither open nor flat forces a value
-pub tag_forces : (v : Verdict) → (v ≡ Open → ⊥) → (v ≡ Flat → ⊥) → is_forced v ≡ true
-tag_forces (Zero b) j k = refl
-tag_forces (One b) j k = refl
-tag_forces Flat j k = absurd (k refl)
-tag_forces Open j k = absurd (j refl)
+-- what forces a value forces its own
+forced_value : (v : Verdict) {x : ℕ} → forced_by v ≡ Some x → (is_forced v ≡ true) × (value_of v ≡ x)
+unfolding value_of
+forced_value (Zero b) e = (refl, cc e)
+forced_value (One b) e = (refl, cc e)
+forced_value Flat e = cc e
+forced_value Open e = cc e
 
--- it forces 0 or 1, and settles as that value
+pub acted_some : {found : Conclusion} {base tail x i j : ℕ} {vs u : List ℕ} → forced_by found.verdict ≡ Some x → i ≡ found.variable → j ≡ found.variable
+    → Acted found base tail vs u (set vs i x) (set u (base + tail) j) (tail + 1)
+acted_some {found} e i j =
+    let told = forced_value found.verdict e in
+    record { forced = λ k. record { values = rw (i, told.1); words = rw j; end = refl }; unforced = λ k. absurd (true≢false (sym told.0 ∙ k)) }
+
+-- a verdict that forces a value forces 0 or 1, and settles as that value
 forced_small : (v : Verdict) → is_forced v ≡ true → value_of v < 2
 unfolding value_of
 forced_small (Zero b) k = omega arith
@@ -114,10 +119,6 @@ module _ {F : Field} {s : Cells} (P : Placed F s) {t : ℕ} (ht : t < variables 
         ap (λ (j : Conclusion). settle (run_in F s) t j.verdict) e
         ∙ ap (λ (r : Row). settle (run_in F s) t (judge_of r)) (sym (get_d_up_to (row_on s.floats (variables F)) (variables F) t no_row ht))
 
-    -- a row that forces nothing is passed over
-    judged_unforced : is_forced found.verdict ≡ false → Does F (λ run. judged run t) s s
-    judged_unforced o = does_same P (sym (unforced_stays (run_in F s) t found.verdict o) ∙ settles)
-
     judged_forced : {vs' u' : List ℕ} {r : ℕ} → get_or s.values t 0 ≡ 2 → is_forced found.verdict ≡ true
         → Settled found (base F) s.tail s.values s.words vs' u' r
         → Does F (λ run. judged run t) s (cells vs' s.floats u' r)
@@ -125,6 +126,17 @@ module _ {F : Field} {s : Cells} (P : Placed F s) {t : ℕ} (ht : t < variables 
         let i : found.variable ≡ t = ap (λ (j : Conclusion). j.variable) e in
         rw (S.values, S.words, S.end, i)
         (does_as (λ run. judged run t) (force_does free (forced_small found.verdict k)) (forced_settles (run_in F s) t found.verdict k ∙ settles))
+
+    -- a row that forces nothing is passed over
+    judged_acted : {vs' u' : List ℕ} {r : ℕ} → get_or s.values t 0 ≡ 2 → Acted found (base F) s.tail s.values s.words vs' u' r
+        → Does F (λ run. judged run t) s (cells vs' s.floats u' r)
+    judged_acted {vs'} {u'} {r} free A = go (is_forced found.verdict) refl
+      where
+        go : (b : Bool) → is_forced found.verdict ≡ b → Does F (λ run. judged run t) s (cells vs' s.floats u' r)
+        go true k = judged_forced free k (A.forced k)
+        go false k =
+            let same = A.unforced k in
+            rw (same.0, same.1.0, same.1.1) (does_same P (sym (unforced_stays (run_in F s) t found.verdict k) ∙ settles))
 
 -- ---- a step of the scan
 
@@ -141,13 +153,9 @@ module _ {F : Field} {s : Cells} (P : Placed F s) {i : ℕ} (hi : i < variables 
     unfolding scan_at run_in
     scans = rw (eq-eqb (get_or s.values i 0) 2 free)
 
-    pub scan_unforced : is_forced found.verdict ≡ false → Does F (λ run. scan_at run i) s s
-    scan_unforced o = does_as (λ run. scan_at run i) (judged_unforced P hi of_row o) scans
-
-    pub scan_forced : {vs' u' : List ℕ} {r : ℕ} → is_forced found.verdict ≡ true
-        → Settled found (base F) s.tail s.values s.words vs' u' r
+    pub scan_acted : {vs' u' : List ℕ} {r : ℕ} → Acted found (base F) s.tail s.values s.words vs' u' r
         → Does F (λ run. scan_at run i) s (cells vs' s.floats u' r)
-    scan_forced k S = does_as (λ run. scan_at run i) (judged_forced P hi of_row free k S) scans
+    scan_acted A = does_as (λ run. scan_at run i) (judged_acted P hi of_row free A) scans
 
 -- ---- a row is put
 
@@ -210,12 +218,7 @@ module _ {F : Field} {s : Cells} (P : Placed F s) (i : ℕ) {k t : ℕ} (hk : k 
       then_judged : {s' : Cells} → Does F (λ run. judged run t) mid s' → Does F (λ run. serve_at F i v run k) s s'
       then_judged D = does_as (λ run. serve_at F i v run k) (does_then (λ run. judged run t) moved_there D) serves
 
-      pub serve_unforced : is_forced found.verdict ≡ false → Does F (λ run. serve_at F i v run k) s (cells s.values f' s.words s.tail)
-      unfolding mid
-      serve_unforced o = rw ef (then_judged (judged_unforced moved_there.kept.placed target_below of_moved o))
-
-      pub serve_forced : {vs' u' : List ℕ} {r : ℕ} → is_forced found.verdict ≡ true
-          → Settled found (base F) s.tail s.values s.words vs' u' r
+      pub serve_acted : {vs' u' : List ℕ} {r : ℕ} → Acted found (base F) s.tail s.values s.words vs' u' r
           → Does F (λ run. serve_at F i v run k) s (cells vs' f' u' r)
       unfolding mid
-      serve_forced k S = rw ef (then_judged (judged_forced moved_there.kept.placed target_below of_moved free k S))
+      serve_acted A = rw ef (then_judged (judged_acted moved_there.kept.placed target_below of_moved free A))

@@ -9,7 +9,6 @@ use lib.Ieee.{Float}
 use lib.ListN.{length, get_or}
 use Rattle.scratch.specs.Region.{region}
 use Rattle.field.specs.Field.{Field, variables}
-use Rattle.rows.specs.declared.Row.{Row}
 use Rattle.rows.specs.Stored.{rows_on, Filled}
 use Rattle.rows.proofs.Stored.{written_rows}
 use Rattle.places.specs.Places.{entry_in}

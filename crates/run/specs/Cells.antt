@@ -1,10 +1,12 @@
 -- Where a run stands in what is lent: the values; the rows at the front of the f64 scratch; the queue in the u32 scratch, behind the adjacency. Assumes nothing.
-use Rattle.std.specs.Prelude.{ℕ, ◌+◌, ◌*◌, ◌<◌, ◌≤◌, ◌≡◌, List, length, get_or, set, take, drop, Float}
+use Rattle.std.specs.Prelude.{ℕ, ◌+◌, ◌*◌, ◌<◌, ◌≤◌, ◌≡◌, true, false, List, length, get_or, set, take, drop, Float, Option, Some, None}
 use Rattle.scratch.specs.Region.{region}
 use Rattle.meaning.specs.Free.{frees}
 use Rattle.field.specs.Field.{Field, variables, Shaped}
 use Rattle.rows.specs.declared.Conclusion.{Conclusion}
-use Rattle.rows.specs.Row.{value_of}
+use Rattle.rows.specs.declared.Verdict.{Verdict}
+use Rattle.rows.specs.declared.Verdict.TheVariants.{Zero, One, Flat, Open}
+use Rattle.rows.specs.Row.{value_of, is_forced}
 use Rattle.rows.specs.Stored.{rows_on}
 use Rattle.places.specs.Places.{Adjacent}
 use Rattle.run.specs.Run.{Run}
@@ -59,3 +61,15 @@ pub record Settled (found : Conclusion) (base tail : ℕ) (vs u vs' u' : List �
   pub values : vs' ≡ set vs found.variable (value_of found.verdict)
   pub words : u' ≡ set u (base + tail) found.variable
   pub end : r ≡ tail + 1
+
+-- The value that a verdict forces, if it forces one.
+abbrev pub forced_by : Verdict → Option ℕ
+forced_by (Zero b) = Some 0
+forced_by (One b) = Some 1
+forced_by Flat = None
+forced_by Open = None
+
+-- what acting on a conclusion leaves: a forced verdict is settled, and any other leaves all as it was
+pub record Acted (found : Conclusion) (base tail : ℕ) (vs u vs' u' : List ℕ) (r : ℕ) : Type 0 where
+  pub forced : is_forced found.verdict ≡ true → Settled found base tail vs u vs' u' r
+  pub unforced : is_forced found.verdict ≡ false → (vs' ≡ vs) × ((u' ≡ u) × (r ≡ tail))

@@ -17,10 +17,7 @@ fn flat_at(values: &[u8], f: &[f64], n: usize, i: usize) -> usize
         return 0;
     }
     let flat = row_at(f, n, i).judge().is_flat();
-    if flat {
-        return 1;
-    }
-    0
+    usize::from(flat)
 }
 
 // A row is counted where its variable is free, whatever the rows of the others hold.

@@ -2,45 +2,38 @@
 ghost use Rattle.std.specs.Prelude.{◌≡◌, not, ◌&&◌, ◌+◌, ◌<◌, length};
 ghost use Rattle.field.specs.Field.{given, lent, variables, entries};
 ghost use Rattle.meaning.specs.Free.{is_free};
-ghost use Rattle.rows.specs.Row.{value_of, is_strict};
+ghost use Rattle.rows.specs.Row.{is_strict};
 ghost use Rattle.rows.specs.Stored.{row_on, put_row as put_row_of};
 ghost use Rattle.places.specs.Places.{other_end};
 ghost use Rattle.run.specs.Run as model;
-ghost use Rattle.run.specs.Cells.{cells, Placed, Does, Settled};
+ghost use Rattle.run.specs.Cells.{cells, Placed, Does, Acted, forced_by};
 
+use field::FieldRef;
 use rows::store::{put_row, row_at};
 use rows::{Conclusion, Row, Verdict};
 
-// The value that a verdict forces, or 2.
-fn forced(verdict: Verdict) -> u8
-    ensures { result ≡ value_of verdict }
+// The value that a verdict forces, if it forces one.
+fn forced(verdict: Verdict) -> Option<u8>
+    ensures { result ≡ forced_by verdict }
 {
     match verdict {
-        Verdict::Zero(_) => 0,
-        Verdict::One(_) => 1,
-        Verdict::Flat => 2,
-        Verdict::Open => 2,
+        Verdict::Zero(_) => Some(0),
+        Verdict::One(_) => Some(1),
+        Verdict::Flat | Verdict::Open => None,
     }
 }
 
-// Acts on a forced verdict: the value goes to the conclusion's variable, and the variable to the end of the queue; the queue's new end.
-fn settle(
-    conclusion: Conclusion,
-    values: &mut [u8],
-    u: &mut [u32],
-    base: usize,
-    tail: usize,
-) -> usize
-    requires variable_in_bounds { conclusion.variable < length values.old }
+// Acts on a conclusion: a forced value goes to its variable, and the variable to the end of the queue; the queue's new end.
+fn settle(found: Conclusion, values: &mut [u8], u: &mut [u32], base: usize, tail: usize) -> usize
+    requires variable_in_bounds { found.variable < length values.old }
     requires tail_in_bounds { base + tail < length u.old }
-    ensures { Settled conclusion base tail values.old u.old values.new u.new result }
+    ensures { Acted found base tail values.old u.old values.new u.new result }
 {
-    let t = conclusion.variable;
-    let verdict = conclusion.verdict;
-    let i = t as usize;
-    let at = base + tail;
-    values[i] = forced(verdict);
-    u[at] = t as u32;
+    let Some(value) = forced(found.verdict) else {
+        return tail;
+    };
+    values[usize::from(found.variable)] = value;
+    u[base + tail] = u32::from(found.variable);
     tail + 1
 }
 
@@ -65,49 +58,36 @@ pub fn passes_at(values: &[u8], f: &[f64], n: usize, i: usize) -> bool
         return true;
     }
     let value = forced(row_at(f, n, i).judge());
-    value == 2
+    value.is_none()
 }
 
 // The scan at variable i: a free one is judged by its row, and forced where that says so.
 pub fn scan_at(
-    c: &[f64],
-    rows: &[u16],
-    cols: &[u16],
-    q: &[f64],
+    field: FieldRef,
     values: &mut [u8],
     f: &[f64],
     u: &mut [u32],
     tail: usize,
     i: usize,
 ) -> usize
-    requires placed { Placed (lent c rows cols q) (cells values.old f.now u.old tail) }
-    requires i_bound { i < variables (lent c rows cols q) }
-    ensures { Does (given c rows cols q) (λ run. model.scan_at run i)
+    requires placed { Placed (lent field) (cells values.old f.now u.old tail) }
+    requires i_bound { i < variables (lent field) }
+    ensures { Does (given field) (λ run. model.scan_at run i)
         (cells values.old f.now u.old tail)
         (cells values.new f.now u.new result) }
 {
     if values[i] != 2 {
         return tail;
     }
-    let n = c.len();
-    let base = n + 1 + 2 * rows.len();
+    let n = field.c.len();
+    let base = n + 1 + 2 * field.rows.len();
     let found = row_at(f, n, i).conclude(i as u16);
-    let verdict = found.verdict;
-    if let Verdict::Open = verdict {
-        return tail;
-    }
-    if let Verdict::Flat = verdict {
-        return tail;
-    }
     settle(found, values, u, base, tail)
 }
 
 // Place k of variable i, whose value is v; t is its other end.
 pub fn serve_at(
-    c: &[f64],
-    rows: &[u16],
-    cols: &[u16],
-    q: &[f64],
+    field: FieldRef,
     values: &mut [u8],
     f: &mut [f64],
     u: &mut [u32],
@@ -117,27 +97,20 @@ pub fn serve_at(
     k: usize,
     t: usize,
 ) -> usize
-    requires placed { Placed (lent c rows cols q) (cells values.old f.old u.old tail) }
-    requires k_bound { k < entries (lent c rows cols q) }
-    requires t_value { t ≡ other_end rows.now cols.now i k }
-    ensures { Does (given c rows cols q) (λ run. model.serve_at (given c rows cols q) i v run k)
+    requires placed { Placed (lent field) (cells values.old f.old u.old tail) }
+    requires k_bound { k < entries (lent field) }
+    requires t_value { t ≡ other_end (lent field).rows (lent field).cols i k }
+    ensures { Does (given field) (λ run. model.serve_at (given field) i v run k)
         (cells values.old f.old u.old tail)
         (cells values.new f.new u.new result) }
 {
     if values[t] != 2 {
         return tail;
     }
-    let n = c.len();
-    let base = n + 1 + 2 * rows.len();
-    let weight = q[k];
+    let n = field.c.len();
+    let base = n + 1 + 2 * field.rows.len();
+    let weight = field.q[k];
     let coeff = weights::half(weight);
     let found = move_row(f, n, t, coeff, v).conclude(t as u16);
-    let verdict = found.verdict;
-    if let Verdict::Open = verdict {
-        return tail;
-    }
-    if let Verdict::Flat = verdict {
-        return tail;
-    }
     settle(found, values, u, base, tail)
 }

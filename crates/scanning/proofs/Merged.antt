@@ -3,13 +3,14 @@
 use Prim.Native.Nat.{ℕ, ◌+◌, ◌*◌, ◌-◌, ◌<◌, ◌≤◌}
 use mathlib.Core.Path.{◌≡◌, refl, sym, ap, ◌∙◌}
 use mathlib.Core.Logic.{⊎_elim}
-use mathlib.Core.Bool.{Bool, true, false, cond}
+use mathlib.Core.Bool.{Bool, true, false}
 use mathlib.Core.List.{List, []}
 use native.Mathlib.Numerals.{add-one}
 use native.Mathlib.Decide.{ℕ_discrete}
+use Rattle.std.specs.Prelude.{min}
+use Rattle.std.proofs.Math.Nat.{min-le_left, min-le_right, le-min}
 use native.Mathlib.Omega.{arith}
 use borrow.Author.Tests.{eq-eqb}
-use lib.Dec.{leb}
 use lib.ListN.{length, get_or, drop}
 use lib.Seq.{get_or-drop}
 use Rattle.scratch.specs.Region.{region}
@@ -25,9 +26,9 @@ use Rattle.run.specs.Run.{no_row, row_for, scan_at, scan_to}
 use Rattle.run.specs.Cells.{Cells, base, run_in, Kept, Does}
 use Rattle.run.proofs.Cells.{does_same, does_as, does_then}
 use Rattle.scanning.specs.declared.Cursor.{Cursor}
-use Rattle.scanning.specs.Merge.{lesser, Next, always, list_at, place_at, near_at, far_at, Through, Listed, Joined, Covers}
+use Rattle.scanning.specs.Merge.{Next, always, list_at, place_at, near_at, far_at, Through, Listed, Joined, Covers}
 use Rattle.scanning.proofs.Scanned.{scan_some}
-use Rattle.scanning.proofs.Search.{lesser_left, lesser_right, Behind, Rises, behind_next, head_from, head_least}
+use Rattle.scanning.proofs.Search.{Behind, Rises, behind_next, head_from, head_least}
 use Rattle.scanning.proofs.Order.{place_entry, above_rises, beside_rises, Stands, stands}
 
 -- ---- what is stored in the queue leaves the candidates and the places
@@ -85,13 +86,6 @@ merge_start {first = first} {last = last} empty C ef el =
       beside = record { from = omega arith; to = l; passed = λ p a z. absurd (omega arith) };
     }
 
-lesser_from : (b c d : ℕ) → b ≤ c → b ≤ d → b ≤ lesser c d
-lesser_from b c d p q = go (leb c d)
-  where
-    go : (t : Bool) → b ≤ cond t c d
-    go true = p
-    go false = q
-
 module _ {F : Field} {i many first last b h x y : ℕ} {s₀ s : Cells} (M : Merging F i many first last b h x y s₀ s) where
   most : last ≤ 2 * length F.rows
   most = omega (arith, part_most M.covers.placed.adjacent M.covers.here, M.last_is)
@@ -125,7 +119,7 @@ module _ {F : Field} {i many first last b h x y : ℕ} {s₀ s : Cells} (M : Mer
       (N₁ : Next always (list_at s.words (base F + variables F)) b h many (variables F) r₁)
       (N₂ : Next (near_at F.rows s.words (variables F + 1) i) (far_at F.cols s.words (variables F + 1)) b x last (variables F) r₂)
       (N₃ : Next (near_at F.cols s.words (variables F + 1) i) (far_at F.rows s.words (variables F + 1)) b y last (variables F) r₃)
-      (em : m ≡ lesser r₂.head r₃.head) (et : t ≡ lesser r₁.head m) where
+      (em : m ≡ min r₂.head r₃.head) (et : t ≡ min r₁.head m) where
     in_list : Next always (list_at s₀.words (base F + variables F)) b h many (variables F) r₁
     in_list = next_as N₁ (λ p z. refl) (λ p z. sym (list_kept M.does.kept p))
 
@@ -139,16 +133,16 @@ module _ {F : Field} {i many first last b h x y : ℕ} {s₀ s : Cells} (M : Mer
     in_beside = next_as N₃ (λ p z. rw (same_place p z)) (λ p z. ap (λ (k : ℕ). get_or F.rows k 0) (same_place p z))
 
     least₁ : t ≤ r₁.head
-    least₁ = omega (arith, lesser_left r₁.head m)
+    least₁ = omega (arith, min-le_left r₁.head m)
 
     least₂ : t ≤ r₂.head
-    least₂ = omega (arith, lesser_right r₁.head m, lesser_left r₂.head r₃.head)
+    least₂ = omega (arith, min-le_right r₁.head m, min-le_left r₂.head r₃.head)
 
     least₃ : t ≤ r₃.head
-    least₃ = omega (arith, lesser_right r₁.head m, lesser_right r₂.head r₃.head)
+    least₃ = omega (arith, min-le_right r₁.head m, min-le_right r₂.head r₃.head)
 
     pub from_b : b ≤ t
-    from_b = rw et (lesser_from b r₁.head m (head_from N₁ (omega arith)) (rw em (lesser_from b r₂.head r₃.head (head_from N₂ (omega arith)) (head_from N₃ (omega arith)))))
+    from_b = rw et (le-min (head_from N₁ (omega arith)) (rw em (le-min (head_from N₂ (omega arith)) (head_from N₃ (omega arith)))))
 
     -- a candidate or a neighbour from b on is t or more
     not_listed : (d : ℕ) → b ≤ d → Listed F s₀.words many d → t ≤ d

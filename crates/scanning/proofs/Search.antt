@@ -1,7 +1,7 @@
 -- A search along a list, and what the least head of rising lists says of all that is ahead. Assumes nothing.
 use Prim.Native.Nat.{ℕ, ◌+◌, ◌<◌, ◌≤◌}
 use mathlib.Core.Path.{◌≡◌, refl, sym, ◌∙◌}
-use mathlib.Core.Bool.{Bool, true, false, cond, ◌&&◌}
+use mathlib.Core.Bool.{Bool, true, false, ◌&&◌}
 use native.Mathlib.Decide.{ℕ_discrete, dec_lt}
 use native.Mathlib.Omega.{arith}
 use borrow.Author.Tests.{leb-true, leb-false}
@@ -10,21 +10,7 @@ use lib.Dec.{eqb, leb}
 use lib.ListN.{get_or}
 use Rattle.scratch.proofs.All.{both}
 use Rattle.scanning.specs.declared.Cursor.{Cursor}
-use Rattle.scanning.specs.Merge.{lesser, Next, place_at, near_at, far_at}
-
-pub lesser_left : (a b : ℕ) → lesser a b ≤ a
-lesser_left a b = go (leb a b) refl
-  where
-    go : (t : Bool) → leb a b ≡ t → cond t a b ≤ a
-    go true e = omega arith
-    go false e = omega (arith, leb-false a b e)
-
-pub lesser_right : (a b : ℕ) → lesser a b ≤ b
-lesser_right a b = go (leb a b) refl
-  where
-    go : (t : Bool) → leb a b ≡ t → cond t a b ≤ b
-    go true e = omega (arith, leb-true a b e)
-    go false e = omega arith
+use Rattle.scanning.specs.Merge.{Next, place_at, near_at, far_at}
 
 -- ---- the search: no position from `at` to p is picked with a value of b or more
 
@@ -47,8 +33,15 @@ module _ {pick : ℕ → Bool} {val : ℕ → ℕ} {b at end : ℕ} where
   pub search_hit : {p x n : ℕ} → Searching pick val b at end p → p < end → pick p ≡ true → b ≤ x → x ≡ val p → Next pick val b at end n (record { at = p; head = x })
   search_hit S l k h e = record { from = S.from; to = S.to; passed = S.passed; found = λ z. (k, e); least = λ z. h; none = λ z. absurd (omega arith) }
 
-  pub search_none : {p n : ℕ} → Searching pick val b at end p → end ≤ p → Next pick val b at end n (record { at = p; head = n })
-  search_none S h = record { from = S.from; to = S.to; passed = S.passed; found = λ z. absurd (omega arith); least = λ z. absurd (omega arith); none = λ z. refl }
+  pub search_none : {p n : ℕ} → Searching pick val b at end p → end ≤ p → Next pick val b at end n (record { at = end; head = n })
+  search_none {p} S h = record {
+    from = omega (arith, S.from, S.to);
+    to = omega arith;
+    passed = λ j l m. S.passed j l (omega (arith, h));
+    found = λ z. absurd (omega arith);
+    least = λ z. absurd (omega arith);
+    none = λ z. refl;
+  }
 
 -- ---- a search through places: entry k stands at p, and passes the test or not
 

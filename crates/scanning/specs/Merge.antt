@@ -1,6 +1,6 @@
 -- The scan over some variables alone, rising: the candidates, and the neighbours of the probed variable, whose places rise by column where
 -- it is the row, and by row where it is the column. Assumes nothing.
-use Rattle.std.specs.Prelude.{ℕ, ◌+◌, ◌<◌, ◌≤◌, ◌≡◌, ◌⊎◌, Bool, true, cond, List, eqb, leb, length, get_or}
+use Rattle.std.specs.Prelude.{ℕ, ◌+◌, ◌<◌, ◌≤◌, ◌≡◌, ◌⊎◌, Bool, true, List, eqb, length, get_or}
 use Rattle.field.specs.Field.{Field, variables}
 use Rattle.rows.specs.Row.{is_strict}
 use Rattle.rows.specs.Stored.{row_on}
@@ -13,10 +13,6 @@ pub record In (t : ℕ) (l : List ℕ) : Type 0 where
   pub place : ℕ
   pub within : place < length l
   pub holds : get_or l place 0 ≡ t
-
--- the lesser of two numbers
-abbrev pub lesser : ℕ → ℕ → ℕ
-lesser a b = cond (leb a b) a b
 
 -- from `at` on, the first position that is picked and whose value is b or more, with its value; at `end` there is none, and n stands for it
 pub record Next (pick : ℕ → Bool) (val : ℕ → ℕ) (b at end n : ℕ) (r : Cursor) : Type 0 where

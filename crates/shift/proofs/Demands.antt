@@ -1,6 +1,6 @@
 -- What the call `shift` does, over its promise alone. Assumes nothing.
 use Prim.Native.Nat.{ℕ, ◌≤◌, ◌<◌, ◌^◌, ◌+◌, ◌*◌}
-use mathlib.Core.Path.{◌≡◌, refl, sym, ap, subst, ◌∙◌}
+use mathlib.Core.Path.{◌≡◌, sym, ap, subst, ◌∙◌}
 use mathlib.Core.Logic.{◌↔◌}
 use mathlib.Core.List.{List, [], map, append-nil}
 use native.Mathlib.Omega.{arith}
@@ -10,7 +10,6 @@ use Rattle.whole.specs.Whole.{◌≈◌}
 use Rattle.scratch.specs.Over.{over}
 use Rattle.scratch.proofs.Over.{over_past}
 use Rattle.meaning.specs.Field.{twice_f}
-use Rattle.field.specs.declared.Counted.TheVariants.{Counts, Refuses}
 use Rattle.field.specs.declared.Grade.{Grade}
 use Rattle.field.specs.declared.Refusal.{Refusal}
 use Rattle.field.specs.Field.{Field, variables, linear_of, row_end, column_end, quad_of, Shaped, Standard}
@@ -20,7 +19,7 @@ use Rattle.field.specs.Grade.{grade_of, Weighs}
 use Rattle.field.specs.Reading.{whole_of}
 use Rattle.field.proofs.Means.{loose_passes}
 use Rattle.calls.specs.Call.{table, no_stage}
-use Rattle.calls.proofs.Answers.{same_refuses, counts_apart}
+use Rattle.calls.proofs.Answers.{same_refused, done_apart, same_counted}
 use Rattle.calls.proofs.Call as any
 use Rattle.calls.proofs.Usual as usual
 use Rattle.shift.specs.Closing.{closed_to, closed}
@@ -28,41 +27,40 @@ use Rattle.shift.specs.Call.{Left, left, shift_call}
 use Rattle.shift.specs.Shifted.{first_entries, shifted, WholeIn}
 use Rattle.shift.proofs.Kept.{from, new_variables, shifted_standard, shifted_shaped}
 use Rattle.shift.proofs.Keeps as keeps
+use Rattle.field.specs.Answers.{counted_answer}
+use Rattle.std.specs.Prelude.{Err}
 
 -- Theorem. Any two results that the promise permits are equal.
 pub one_result : (F : Field) (x y : Left) → x ≡ shift_call F → y ≡ shift_call F → x ≡ y
 one_result F = any.one_result (shift_call F)
 
-same_count : {g h : Grade} {m k : ℕ} → Counts g m ≡ Counts h k → (g ≡ h) × (m ≡ k)
-same_count e = let a : _ ≡ _ = e in (cc, cc)
-
 module _ (F : Field) where
   -- Theorem. The call is refused with r exactly if the tests before r's own pass, and its own fails.
-  pub refused_when : (r : Refusal) → ((shift_call F).answer ≡ Refuses r) ↔ FirstToFail (loose_tests F) r
+  pub refused_when : (r : Refusal) → ((shift_call F).answer ≡ Err r) ↔ FirstToFail (loose_tests F) r
   unfolding shift_call table
-  refused_when = usual.refused_when Refuses _ _ [] _ same_refuses counts_apart (append-nil (loose_tests F))
+  refused_when = usual.refused_when Err _ _ [] _ same_refused done_apart (append-nil (loose_tests F))
 
   -- Theorem. A refusal changes nothing lent.
-  pub refused_leaves : (r : Refusal) → (shift_call F).answer ≡ Refuses r → shift_call F ≡ left (Refuses r) F
+  pub refused_leaves : (r : Refusal) → (shift_call F).answer ≡ Err r → shift_call F ≡ left (Err r) F
   unfolding shift_call
-  refused_leaves r e = usual.refused_leaves Refuses _ _ [] _ same_refuses counts_apart r no_stage e
+  refused_leaves r e = usual.refused_leaves Err _ _ [] _ same_refused done_apart r no_stage e
 
   -- Theorem. It is done exactly if the field is as tests 1, 2, 14 to 17 and 5 ask, and then gives the grade of the field as it was given, and the new m.
-  pub done_when : ((shift_call F).answer ≡ Counts (grade_of F) (closed F).kept) ↔ Loose F
+  pub done_when : ((shift_call F).answer ≡ counted_answer (grade_of F) (closed F).kept) ↔ Loose F
   unfolding shift_call table
-  done_when = usual.done_when Refuses _ _ [] _ same_refuses counts_apart (rw (append-nil (loose_tests F)) (loose_passes F))
+  done_when = usual.done_when Err _ _ [] _ same_refused done_apart (rw (append-nil (loose_tests F)) (loose_passes F))
 
-  module _ {g : Grade} {m : ℕ} (e : (shift_call F).answer ≡ Counts g m) where
+  module _ {g : Grade} {m : ℕ} (e : (shift_call F).answer ≡ counted_answer g m) where
     -- Theorem. When it is done, the answer and the four lists are exactly those of the diagonal gone into c.
-    pub done_leaves : shift_call F ≡ left (Counts (grade_of F) (closed F).kept) (closed F).lists
+    pub done_leaves : shift_call F ≡ left (counted_answer (grade_of F) (closed F).kept) (closed F).lists
     unfolding shift_call
-    done_leaves = usual.done_leaves Refuses _ _ [] _ same_refuses counts_apart (λ r z. counts_apart r (sym e ∙ z))
+    done_leaves = usual.done_leaves Err _ _ [] _ same_refused done_apart (λ r z. done_apart r (sym e ∙ z))
 
     loose : Loose F
     loose = done_when.0 (ap (λ (l : Left). l.answer) done_leaves)
 
     new_m : m ≡ (closed F).kept
-    new_m = (same_count (sym e ∙ ap (λ (l : Left). l.answer) done_leaves)).1
+    new_m = (same_counted (sym e ∙ ap (λ (l : Left). l.answer) done_leaves)).1
 
     is_shifted : first_entries m (shift_call F).lent ≡ shifted F
     is_shifted = rw (new_m, done_leaves)

@@ -2,12 +2,16 @@
 #![tactic(auto)]
 
 ghost use Rattle.std.specs.Prelude.{◌≡◌};
-ghost use Rattle.field.specs.Field.{field_of, lent, given};
+ghost use Rattle.field.specs.Field.{field_of};
 ghost use Rattle.field.specs.Tests.{Loose};
 ghost use Rattle.shift.specs.Closing.{Closable, closing, close_at as close_at_of, closed, left_behind};
 ghost use Rattle.shift.specs.Call.{left, shift_call};
 
-use field::{Checked, Counted};
+use field::{Answer, Counted, FieldRef};
+
+// The four lists go from call to call apart. A struct of them behind a `&mut` may come back with other lists in it, so that
+// who lent them, as the C interface does, would know no more than the lengths of what is left in its own. A struct by value
+// would be taken apart and built anew at each call in a loop, and a contract could name its lists afterwards only by their place.
 
 // Half of a diagonal entry goes into its c, any other entry moves up to the place `kept`; hands back how many are kept now.
 fn close_at(
@@ -21,8 +25,8 @@ fn close_at(
     requires { Closable k kept (field_of c.old rows.old cols.old q.old) }
     ensures { closing (left_behind c rows cols q) result ≡ close_at_of k (closing (field_of c.old rows.old cols.old q.old) kept) }
 {
-    let r = scratch::wide_short(rows[k]);
-    if r == scratch::wide_short(cols[k]) {
+    let r = usize::from(rows[k]);
+    if r == usize::from(cols[k]) {
         c[r] = c[r] + weights::half(q[k]);
         return kept;
     }
@@ -45,14 +49,12 @@ fn close_up(c: &mut [f64], rows: &mut [u16], cols: &mut [u16], q: &mut [f64]) ->
 }
 
 // Entries close up in place and half of a diagonal goes into c; the answer has the new number of entries.
-pub fn shift(c: &mut [f64], rows: &mut [u16], cols: &mut [u16], q: &mut [f64]) -> Counted
+pub fn shift(c: &mut [f64], rows: &mut [u16], cols: &mut [u16], q: &mut [f64]) -> Answer<Counted>
     ensures { left result (left_behind c rows cols q) ≡ shift_call (field_of c.old rows.old cols.old q.old) }
 {
-    let checked = field::tests::loose(c, rows, cols, q);
-    if let Checked::Failed(refusal) = checked {
-        return Counted::Refuses(refusal);
-    }
-    let grade = field::grading::graded(c, rows, cols, q);
+    let field = FieldRef { c, rows, cols, q };
+    field::tests::loose(field)?;
+    let grade = field::grading::graded(field);
     let kept = close_up(c, rows, cols, q);
-    Counted::Counts(grade, kept)
+    Ok(Counted { grade, count: kept })
 }

@@ -2,10 +2,11 @@
 // its neighbours are made afresh; no other row has such an entry, and is the one at the start values.
 ghost use Rattle.std.specs.Prelude.{◌≡◌, ℕ, ◌+◌, ◌<◌, ◌≤◌, length, get_or, set};
 ghost use Rattle.std.specs.Float.{nan};
-ghost use Rattle.field.specs.Field.{given, lent, entries, column_end};
+ghost use Rattle.field.specs.Field.{given, lent, entries, column_end, variables};
 ghost use Rattle.rows.specs.Row.{start_row};
 ghost use Rattle.rows.specs.Stored.{row_on, put_row as put_row_of, add_at as add_at_of, add_entry as add_entry_of, Written, Fillable, Filled};
 
+use field::FieldRef;
 use rows::Row;
 use rows::store::{put_row, row_at};
 
@@ -22,9 +23,8 @@ fn begin(c: &[f64], f: &mut [f64])
     requires { length c.now + length c.now ≤ length f.old }
     ensures { Written (length c.now) (λ t. start_row (get_or c.now t nan)) f.old f.new (length c.now) }
 {
-    let n = c.len();
-    for t in 0..n {
-        put_row(f, n, t, Row::start(c[t]));
+    for (t, linear) in c.iter().enumerate() {
+        put_row(f, c.len(), t, Row::start(*linear));
     }
 }
 
@@ -38,55 +38,33 @@ fn add_at(f: &mut [f64], n: usize, t: usize, coeff: f64, value: u8)
 }
 
 // Entry k's term goes into the row of each end.
-fn add_entry(
-    c: &[f64],
-    rows: &[u16],
-    cols: &[u16],
-    q: &[f64],
-    start: &[u8],
-    i: usize,
-    v: u8,
-    f: &mut [f64],
-    k: usize,
-)
-    requires fillable { Fillable (lent c rows cols q) start.now f.old }
-    requires k_bound { k < entries (lent c rows cols q) }
-    ensures { f.new ≡ add_entry_of (given c rows cols q) (set start.now i v) f.old k }
+fn add_entry(field: FieldRef, start: &[u8], i: usize, v: u8, f: &mut [f64], k: usize)
+    requires fillable { Fillable (lent field) start.now f.old }
+    requires k_bound { k < entries (lent field) }
+    ensures { f.new ≡ add_entry_of (given field) (set start.now i v) f.old k }
 {
-    let n = c.len();
-    let coeff = weights::half(q[k]);
-    let r = scratch::wide_short(rows[k]);
-    let t = scratch::wide_short(cols[k]);
+    let n = field.c.len();
+    let coeff = weights::half(field.q[k]);
+    let r = usize::from(field.rows[k]);
+    let t = usize::from(field.cols[k]);
     add_at(f, n, r, coeff, value_at(start, i, v, t));
     add_at(f, n, t, coeff, value_at(start, i, v, r));
 }
 
 // Every entry's terms, where the rows stand at their start.
-fn add_entries(
-    c: &[f64],
-    rows: &[u16],
-    cols: &[u16],
-    q: &[f64],
-    start: &[u8],
-    i: usize,
-    v: u8,
-    f: &mut [f64],
-)
-    requires fillable { Fillable (lent c rows cols q) start.now f.old }
-    requires by_index { (t : ℕ) → t < length c.now → row_on f.old (length c.now) t ≡ start_row (get_or c.now t nan) }
-    ensures { Filled (given c rows cols q) (set start.now i v) f.old f.new }
+fn add_entries(field: FieldRef, start: &[u8], i: usize, v: u8, f: &mut [f64])
+    requires fillable { Fillable (lent field) start.now f.old }
+    requires by_index { (t : ℕ) → t < variables (lent field) → row_on f.old (variables (lent field)) t ≡ start_row (get_or (lent field).linear t nan) }
+    ensures { Filled (given field) (set start.now i v) f.old f.new }
 {
-    for k in 0..q.len() {
-        add_entry(c, rows, cols, q, start, i, v, f, k);
+    for k in 0..field.q.len() {
+        add_entry(field, start, i, v, f, k);
     }
 }
 
 // Entry k's term goes into the row of each end, where row j is held in `row` and not in its place; the row of the entry's column, which is held then.
 fn hold_entry(
-    c: &[f64],
-    rows: &[u16],
-    cols: &[u16],
-    q: &[f64],
+    field: FieldRef,
     start: &[u8],
     i: usize,
     v: u8,
@@ -95,15 +73,15 @@ fn hold_entry(
     row: Row,
     k: usize,
 ) -> Row
-    requires fillable { Fillable (lent c rows cols q) start.now f.old }
-    requires j_in_bounds { (j < length c.now) × (k < entries (lent c rows cols q)) }
-    ensures { put_row_of f.new (length c.now) (column_end (given c rows cols q) k) result
-        ≡ add_entry_of (given c rows cols q) (set start.now i v) (put_row_of f.old (length c.now) j row) k }
+    requires fillable { Fillable (lent field) start.now f.old }
+    requires j_in_bounds { (j < variables (lent field)) × (k < entries (lent field)) }
+    ensures { put_row_of f.new (variables (given field)) (column_end (given field) k) result
+        ≡ add_entry_of (given field) (set start.now i v) (put_row_of f.old (variables (given field)) j row) k }
 {
-    let n = c.len();
-    let coeff = weights::half(q[k]);
-    let r = scratch::wide_short(rows[k]);
-    let t = scratch::wide_short(cols[k]);
+    let n = field.c.len();
+    let coeff = weights::half(field.q[k]);
+    let r = usize::from(field.rows[k]);
+    let t = usize::from(field.cols[k]);
     if t == j && r != j {
         add_at(f, n, r, coeff, value_at(start, i, v, t));
         return row.add_term(coeff, value_at(start, i, v, r));
@@ -114,51 +92,33 @@ fn hold_entry(
 }
 
 // Every entry's terms, where the rows stand at their start, for long columns: the row of a column is held while its entries are added.
-fn add_columns(
-    c: &[f64],
-    rows: &[u16],
-    cols: &[u16],
-    q: &[f64],
-    start: &[u8],
-    i: usize,
-    v: u8,
-    f: &mut [f64],
-)
-    requires fillable { Fillable (lent c rows cols q) start.now f.old }
-    requires by_index { (t : ℕ) → t < length c.now → row_on f.old (length c.now) t ≡ start_row (get_or c.now t nan) }
-    ensures { Filled (given c rows cols q) (set start.now i v) f.old f.new }
+fn add_columns(field: FieldRef, start: &[u8], i: usize, v: u8, f: &mut [f64])
+    requires fillable { Fillable (lent field) start.now f.old }
+    requires by_index { (t : ℕ) → t < variables (lent field) → row_on f.old (variables (lent field)) t ≡ start_row (get_or (lent field).linear t nan) }
+    ensures { Filled (given field) (set start.now i v) f.old f.new }
 {
-    if q.len() == 0 {
+    if field.q.len() == 0 {
         return;
     }
-    let n = c.len();
-    let mut j = scratch::wide_short(cols[0]);
+    let n = field.c.len();
+    let mut j = usize::from(field.cols[0]);
     let mut row = row_at(f, n, j);
-    for k in 0..q.len() {
-        row = hold_entry(c, rows, cols, q, start, i, v, f, j, row, k);
-        j = scratch::wide_short(cols[k]);
+    for k in 0..field.q.len() {
+        row = hold_entry(field, start, i, v, f, j, row, k);
+        j = usize::from(field.cols[k]);
     }
     put_row(f, n, j, row);
 }
 
 // Every row's bounds, where i has the value v and every other variable its start value; what lies past them is unchanged.
-pub fn make(
-    c: &[f64],
-    rows: &[u16],
-    cols: &[u16],
-    q: &[f64],
-    start: &[u8],
-    i: usize,
-    v: u8,
-    f: &mut [f64],
-)
-    requires { Fillable (lent c rows cols q) start.now f.old }
-    ensures { Filled (given c rows cols q) (set start.now i v) f.old f.new }
+pub fn make(field: FieldRef, start: &[u8], i: usize, v: u8, f: &mut [f64])
+    requires { Fillable (lent field) start.now f.old }
+    ensures { Filled (given field) (set start.now i v) f.old f.new }
 {
-    begin(c, f);
-    if q.len() / 6 >= c.len() {
-        add_columns(c, rows, cols, q, start, i, v, f);
+    begin(field.c, f);
+    if field.q.len() / 6 >= field.c.len() {
+        add_columns(field, start, i, v, f);
         return;
     }
-    add_entries(c, rows, cols, q, start, i, v, f);
+    add_entries(field, start, i, v, f);
 }

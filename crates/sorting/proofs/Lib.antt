@@ -1,4 +1,5 @@
 pub mod Parts
+pub mod Halves
 pub mod Joining
 pub mod Thinning
 pub mod Numbers

@@ -1,273 +1,156 @@
-// Output gathers in a lent buffer, of which `used` bytes are used, and is written when that is full. What a failed write leaves out is lost, and the answers go on.
-ghost use Rattle.std.specs.Prelude.{◌≡◌, cond, ◌+◌, ◌≤◌, ltb, length};
+// The output gathers in a lent buffer and is written when that is full. What a failed write leaves out is lost, and the answers go on.
+ghost use Rattle.std.specs.Prelude.{◌≡◌, cond, ◌+◌, ◌≤◌, ltb, length, min};
 
 use std::io::{Stdout, Write as _};
 use text::put_decimal;
 
-// The lesser of two numbers of bytes.
-pub fn least(a: usize, b: usize) -> usize
-    ensures upper_bound { result ≤ a }
-    ensures upper_bound_2 { result ≤ b }
-    ensures value { result ≡ cond (ltb a b) a b }
-{
-    if a < b { a } else { b }
+// Standard output behind a lent buffer, of which `used` bytes are used.
+#[derive(Drop)]
+pub struct Output<'a> {
+    stdout: Stdout,
+    buffer: &'a mut [u8],
+    used: usize,
+    ghost within: { used ≤ length buffer.now },
 }
 
-// Writes what is used, and answers that nothing is.
-pub fn flush(stdout: Stdout, out: &[u8], used: usize) -> usize
-    ensures { result ≡ 0 }
-{
-    let end = least(used, out.len());
-    let _ = stdout.write_all(&out[..end]);
-    0
+// A value that stands as one word in a list of a line.
+pub trait Word {
+    // Writes the word of this value.
+    fn put(self, out: &mut Output<'_>);
 }
 
-// Writes one byte behind those used, after the buffer has been sent to standard output where it is full.
-pub fn put(stdout: Stdout, out: &mut [u8], used: usize, byte: u8) -> usize
-    ensures { result ≤ length out.new }
-{
-    if used < out.len() {
-        out[used] = byte;
-        return used + 1;
+// A variable or a constraint's element is its decimal digits.
+impl Word for u16 {
+    fn put(self, out: &mut Output<'_>) {
+        out.put_number(usize::from(self));
     }
-    let _ = stdout.write_all(out);
-    if out.len() == 0 {
-        return 0;
-    }
-    out[0] = byte;
-    1
 }
 
-// Writes these bytes behind those used, through `put`, and answers how many are used then.
-pub fn put_text(stdout: Stdout, out: &mut [u8], used: usize, text: &[u8]) -> usize
-    ensures { result ≤ length out.new }
-{
-    let mut at = least(used, out.len());
-    let mut i: usize = 0;
-    while i < text.len() {
-        at = put(stdout, out, at, text[i]);
-        i += 1;
+// A weight is the 16 hex digits of its bits; all NaN are one word.
+impl Word for f64 {
+    fn put(self, out: &mut Output<'_>) {
+        if self != self {
+            out.put_text(b"nan");
+            return;
+        }
+        let mut digits = [0u8; 16];
+        let mut rest = &mut digits[..];
+        let bits = f64::to_bits(self);
+        let _ = write!(rest, "{bits:016x}");
+        out.put_text(&digits);
     }
-    at
-}
-
-// Writes a number in decimal digits behind the bytes used, through `put_text`.
-pub fn put_number(stdout: Stdout, out: &mut [u8], used: usize, n: usize) -> usize
-    ensures { result ≤ length out.new }
-{
-    let mut digits = [0u8; 20];
-    let k = put_decimal(&mut digits, 0, n as u64);
-    put_text(stdout, out, used, &digits[..k])
-}
-
-// The 16 hex digits of a weight's bits; all NaN are one word.
-pub fn put_weight(stdout: Stdout, out: &mut [u8], used: usize, x: f64) -> usize
-    ensures { result ≤ length out.new }
-{
-    if x != x {
-        return put_text(stdout, out, used, b"nan");
-    }
-    let mut digits = [0u8; 16];
-    let mut rest = &mut digits[..];
-    let bits = f64::to_bits(x);
-    let _ = write!(rest, "{bits:016x}");
-    put_text(stdout, out, used, &digits)
 }
 
 // A value that is no digit is `?`.
 fn digit(value: u8) -> u8
     ensures { result ≡ cond (ltb value 10) (48 + value) 63 }
 {
-    if value < 10 { 48 + value } else { b'?' }
+    if value < 10 { b'0' + value } else { b'?' }
 }
 
-// A digit for each value.
-fn put_each(stdout: Stdout, out: &mut [u8], used: usize, values: &[u8]) -> usize
-    ensures { result ≤ length out.new }
-{
-    let mut at = least(used, out.len());
-    let mut i: usize = 0;
-    while i < values.len() {
-        at = put(stdout, out, at, digit(values[i]));
-        i += 1;
+impl<'a> Output<'a> {
+    // Begins with the bytes that are used already, at most the whole buffer.
+    pub fn new(stdout: Stdout, buffer: &'a mut [u8], used: usize) -> Output<'a>
+        ensures { result.used ≡ min used (length buffer.old) }
+    {
+        let used = used.min(buffer.len());
+        Output {
+            stdout,
+            buffer,
+            used,
+        }
     }
-    at
-}
 
-// A digit for each value, or a dash where there is none.
-pub fn put_digits(stdout: Stdout, out: &mut [u8], used: usize, values: &[u8]) -> usize
-    ensures { result ≤ length out.new }
-{
-    if values.len() == 0 {
-        return put(stdout, out, used, b'-');
+    // Writes what is used, after which nothing is.
+    pub fn flush(&mut self)
+        ensures { self.new.used ≡ 0 }
+    {
+        let _ = self.stdout.write_all(&self.buffer[..self.used]);
+        self.used = 0;
     }
-    put_each(stdout, out, used, values)
-}
 
-// Between two elements stands a comma, between two triples a semicolon.
-fn put_mark(stdout: Stdout, out: &mut [u8], used: usize, i: usize, in_triples: bool) -> usize
-    ensures { result ≤ length out.new }
-{
-    if i == 0 {
-        return put_text(stdout, out, used, b"");
+    // Writes one byte behind those used, after the buffer has been sent to standard output where it is full.
+    pub fn put(&mut self, byte: u8) {
+        if self.used == self.buffer.len() {
+            self.flush();
+        }
+        if self.used < self.buffer.len() {
+            self.buffer[self.used] = byte;
+            self.used += 1;
+        }
     }
-    if !in_triples {
-        return put(stdout, out, used, b',');
+
+    // Writes these bytes behind those used.
+    pub fn put_text(&mut self, text: &[u8]) {
+        for byte in text {
+            self.put(*byte);
+        }
     }
-    if i % 3 == 0 {
-        return put(stdout, out, used, b';');
+
+    // Writes a number in decimal digits, by `put_decimal`, which is the one writer of numbers (docs/DECISIONS.md, 88).
+    pub fn put_number(&mut self, n: usize) {
+        let mut digits = [0u8; 20];
+        let k = put_decimal(&mut digits, 0, n as u64);
+        self.put_text(&digits[..k]);
     }
-    put(stdout, out, used, b',')
-}
 
-fn put_element(
-    stdout: Stdout,
-    out: &mut [u8],
-    used: usize,
-    x: u16,
-    i: usize,
-    in_triples: bool,
-) -> usize
-    ensures { result ≤ length out.new }
-{
-    let marked = put_mark(stdout, out, used, i, in_triples);
-    put_number(stdout, out, marked, scratch::wide_short(x))
-}
-
-fn put_elements(
-    stdout: Stdout,
-    out: &mut [u8],
-    used: usize,
-    list: &[u16],
-    in_triples: bool,
-) -> usize
-    ensures { result ≤ length out.new }
-{
-    let mut at = least(used, out.len());
-    let mut i: usize = 0;
-    while i < list.len() {
-        at = put_element(stdout, out, at, list[i], i, in_triples);
-        i += 1;
+    // Writes a digit for each value, or a dash where there is none.
+    pub fn put_digits(&mut self, values: &[u8]) {
+        if values.is_empty() {
+            self.put(b'-');
+        }
+        for value in values {
+            self.put(digit(*value));
+        }
     }
-    at
-}
 
-// The elements with marks between them, or a dash where there is none.
-pub fn put_list(
-    stdout: Stdout,
-    out: &mut [u8],
-    used: usize,
-    list: &[u16],
-    in_triples: bool,
-) -> usize
-    ensures { result ≤ length out.new }
-{
-    if list.len() == 0 {
-        return put(stdout, out, used, b'-');
+    // Writes the mark before the element at i: between two elements stands a comma, between two triples a semicolon.
+    fn put_mark(&mut self, i: usize, in_triples: bool) {
+        if i > 0 {
+            let is_first = in_triples && i % 3 == 0;
+            self.put(if is_first { b';' } else { b',' });
+        }
     }
-    put_elements(stdout, out, used, list, in_triples)
-}
 
-fn put_next_weight(stdout: Stdout, out: &mut [u8], used: usize, x: f64, i: usize) -> usize
-    ensures { result ≤ length out.new }
-{
-    let marked = put_mark(stdout, out, used, i, false);
-    put_weight(stdout, out, marked, x)
-}
-
-fn put_each_weight(stdout: Stdout, out: &mut [u8], used: usize, weights: &[f64]) -> usize
-    ensures { result ≤ length out.new }
-{
-    let mut at = least(used, out.len());
-    let mut i: usize = 0;
-    while i < weights.len() {
-        at = put_next_weight(stdout, out, at, weights[i], i);
-        i += 1;
+    // Writes one value as a word.
+    pub fn put_word<T: Word>(&mut self, x: T) {
+        x.put(self);
     }
-    at
-}
 
-// The weights with commas between them, or a dash where there is none.
-pub fn put_weights(stdout: Stdout, out: &mut [u8], used: usize, weights: &[f64]) -> usize
-    ensures { result ≤ length out.new }
-{
-    if weights.len() == 0 {
-        return put(stdout, out, used, b'-');
+    // Writes the elements with marks between them, or a dash where there is none.
+    pub fn put_list<T: Word + Copy>(&mut self, list: &[T], in_triples: bool) {
+        if list.is_empty() {
+            self.put(b'-');
+        }
+        for (i, x) in list.iter().enumerate() {
+            self.put_mark(i, in_triples);
+            x.put(self);
+        }
     }
-    put_each_weight(stdout, out, used, weights)
-}
 
-fn put_entry(
-    stdout: Stdout,
-    out: &mut [u8],
-    used: usize,
-    row: u16,
-    column: u16,
-    weight: f64,
-    k: usize,
-) -> usize
-    ensures { result ≤ length out.new }
-{
-    let marked = put_mark(stdout, out, used, 3 * least(k, 1), true);
-    let row_put = put_number(stdout, out, marked, scratch::wide_short(row));
-    let row_marked = put(stdout, out, row_put, b',');
-    let column_put = put_number(stdout, out, row_marked, scratch::wide_short(column));
-    let column_marked = put(stdout, out, column_put, b',');
-    put_weight(stdout, out, column_marked, weight)
-}
-
-fn put_each_entry(
-    stdout: Stdout,
-    out: &mut [u8],
-    used: usize,
-    rows: &[u16],
-    cols: &[u16],
-    q: &[f64],
-) -> usize
-    requires rows_in_bounds { length rows.now ≤ length cols.now }
-    requires rows_in_bounds_2 { length rows.now ≤ length q.now }
-    ensures { result ≤ length out.new }
-{
-    let mut at = least(used, out.len());
-    let mut k: usize = 0;
-    while k < rows.len() {
-        at = put_entry(stdout, out, at, rows[k], cols[k], q[k], k);
-        k += 1;
+    // Writes the entries with semicolons between them, or a dash where there is none.
+    pub fn put_entries(&mut self, rows: &[u16], cols: &[u16], q: &[f64]) {
+        if rows.is_empty() {
+            self.put(b'-');
+        }
+        for (k, ((row, column), weight)) in rows.iter().zip(cols).zip(q).enumerate() {
+            if k > 0 {
+                self.put(b';');
+            }
+            row.put(self);
+            self.put(b',');
+            column.put(self);
+            self.put(b',');
+            weight.put(self);
+        }
     }
-    at
-}
 
-// The entries with semicolons between them, or a dash where there is none.
-pub fn put_entries(
-    stdout: Stdout,
-    out: &mut [u8],
-    used: usize,
-    rows: &[u16],
-    cols: &[u16],
-    q: &[f64],
-) -> usize
-    requires rows_in_bounds { length rows.now ≤ length cols.now }
-    requires rows_in_bounds_2 { length rows.now ≤ length q.now }
-    ensures { result ≤ length out.new }
-{
-    if rows.len() == 0 {
-        return put(stdout, out, used, b'-');
+    // Writes what was promised under its name, if it was found so.
+    pub fn put_promise(&mut self, promise: &[u8], is_kept: bool) {
+        if is_kept {
+            self.put_text(promise);
+        } else {
+            self.put_text(b"broken");
+        }
     }
-    put_each_entry(stdout, out, used, rows, cols, q)
-}
-
-// Writes what was promised under its name, if it was found so.
-pub fn put_promise(
-    stdout: Stdout,
-    out: &mut [u8],
-    used: usize,
-    promise: &[u8],
-    is_kept: bool,
-) -> usize
-    ensures { result ≤ length out.new }
-{
-    if is_kept {
-        return put_text(stdout, out, used, promise);
-    }
-    put_text(stdout, out, used, b"broken")
 }

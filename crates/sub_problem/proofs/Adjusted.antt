@@ -1,5 +1,5 @@
 -- What the new linear weights are worth where c is a whole number of units and q of double units. Assumes nothing.
-use Prim.Native.Nat.{ℕ, ◌*◌, ◌<◌, ◌^◌}
+use Prim.Native.Nat.{ℕ, ◌<◌, ◌^◌}
 use mathlib.Core.List.{List}
 use native.Mathlib.Omega.{arith}
 use Rattle.whole.specs.Whole.{◌⊕◌, sum}

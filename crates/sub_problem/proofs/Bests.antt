@@ -4,7 +4,7 @@ use mathlib.Core.Path.{◌≡◌, subst, ◌∙◌}
 use mathlib.Core.List.{List}
 use native.Mathlib.Omega.{arith}
 use lib.ListN.{length, length-replicate}
-use Rattle.whole.specs.Whole.{◌⊕◌, ◌⊑◌, ◌≈◌}
+use Rattle.whole.specs.Whole.{◌⊕◌, ◌≈◌}
 use Rattle.meaning.specs.Steps.{Valid}
 use Rattle.meaning.specs.Field.{twice_f, Completion, Best}
 use Rattle.weights.specs.Worth.{read}

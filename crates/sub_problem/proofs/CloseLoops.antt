@@ -1,21 +1,19 @@
 -- The loops that close up the lists: how they start, turn and end. Assumes nothing.
-use Prim.Native.Nat.{ℕ, zero, suc, ◌+◌, ◌<◌, ◌≤◌}
+use Prim.Native.Nat.{ℕ, suc, ◌+◌, ◌<◌, ◌≤◌}
 use mathlib.Core.Path.{◌≡◌, refl, sym, ap, ◌∙◌}
-use mathlib.Core.Bool.{Bool, true, false, cond, ◌&&◌}
+use mathlib.Core.Bool.{Bool, true, false, cond}
 use mathlib.Core.List.{List, [], ◌∷◌, ◌++◌, map, map-append}
-use native.Mathlib.Decide.{ℕ_discrete, dec_lt}
 use native.Mathlib.Nat.{le_antisymm}
 use native.Mathlib.Numerals.{add-one}
 use native.Mathlib.Omega.{arith}
 use borrow.Author.Tests.{eq-eqb, ne_eqb}
-use lib.ListN.{length, get_or, set, take, replicate, length-set, length-map, length-take, length-append, length-replicate, get_or-replicate}
-use lib.Seq.{take-suc, get_or-take, get_or-set_same, get_or-set_other, ext_get_or}
+use lib.ListN.{length, get_or, set, take, length-set, length-map, length-take, length-append}
+use lib.Seq.{take-suc}
 use lib.Ieee.{Float, nan, binary64, add}
 use Rattle.meaning.specs.Free.{is_free}
-use Rattle.scratch.specs.Cleared.{cleared}
 use Rattle.scratch.specs.Over.{over}
-use Rattle.scratch.proofs.Over.{length_over, over_at, over_past, over_push}
-use Rattle.field.specs.Field.{Field, field_of, variables, entries, row_end, column_end, quad_of, Shaped}
+use Rattle.scratch.proofs.Over.{over_past, over_push}
+use Rattle.field.specs.Field.{Field, entries, row_end, column_end, quad_of}
 use Rattle.shift.specs.Picked.{picked}
 use Rattle.sub_problem.specs.Reduced.{new_index, stays_at}
 use Rattle.sub_problem.specs.Working.{Usable, Rising, sum_at, Entries, entries_of, close_at, closed_to, Closable}
@@ -153,43 +151,3 @@ module _ {F : Field} {s : List ℕ} (U : Usable F s) where
 
   pub stands_done : {k m : ℕ} {rows cols : List ℕ} {q : List Float} → Stands F s k rows cols q m → entries F ≤ k → entries_of rows cols q m ≡ closed_to F s (entries F)
   stands_done T h = T.is ∙ ap (closed_to F s) (le_antisymm T.within h)
-
--- ---- zeros behind
-
-pub record ClearedFrom {A : Type 0} (z : A) (s₀ : List A) (from : ℕ) (s : List A) (i : ℕ) : Type 0 where
-  pub within : i ≤ length s₀
-  pub begun : from ≤ i
-  pub long : length s ≡ length s₀
-  pub front : (j : ℕ) → j < from → get_or s j z ≡ get_or s₀ j z
-  pub so_far : (j : ℕ) → from ≤ j → j < i → get_or s j z ≡ z
-
-module _ {A : Type 0} (z : A) (s₀ : List A) {from : ℕ} where
-  pub zero_start : from ≤ length s₀ → ClearedFrom z s₀ from s₀ from
-  zero_start h = record { within = h; begun = omega arith; long = refl; front = λ j l. refl; so_far = λ j a b. absurd (omega arith) }
-
-  pub zero_turn : {s : List A} {i : ℕ} → ClearedFrom z s₀ from s i → i < length s₀ → ClearedFrom z s₀ from (set s i z) (i + 1)
-  zero_turn {s} {i} C h = rw add-one (record {
-    within = h;
-    begun = omega (arith, C.begun);
-    long = length-set s i z ∙ C.long;
-    front = λ j l. get_or-set_other s i j z z (λ e. omega (arith, C.begun)) ∙ C.front j l;
-    so_far = λ j a l. elim (ℕ_discrete j i) [
-      | yes e ↦ rw e (get_or-set_same s i z z (omega (arith, C.long)))
-      | no n ↦ get_or-set_other s i j z z n ∙ C.so_far j a (omega arith)
-    ];
-  })
-
-  pub zero_done : {s : List A} {i : ℕ} → ClearedFrom z s₀ from s i → length s₀ ≤ i → s ≡ over (take from s₀) (cleared z s₀)
-  zero_done {s} {i} C h = ext_get_or z s (over (take from s₀) (cleared z s₀)) (C.long ∙ sym long) each
-    where
-      laid : length (take from s₀) ≡ from
-      laid = length-take from s₀ ∙ omega (arith, C.begun, C.within)
-
-      long : length (over (take from s₀) (cleared z s₀)) ≡ length s₀
-      long = length_over (take from s₀) (cleared z s₀) (omega (arith, laid, C.begun, C.within, length-replicate (length s₀) z)) ∙ length-replicate (length s₀) z
-
-      each : (j : ℕ) → j < length s → get_or s j z ≡ get_or (over (take from s₀) (cleared z s₀)) j z
-      each j l = elim (dec_lt j from) [
-        | yes b ↦ C.front j b ∙ sym (over_at (take from s₀) (cleared z s₀) j z (omega (arith, laid)) ∙ get_or-take from s₀ j z b)
-        | no b ↦ C.so_far j (omega arith) (omega (arith, C.long)) ∙ sym (over_past (take from s₀) (cleared z s₀) j z (omega (arith, laid)) ∙ get_or-replicate (length s₀) j z z (omega (arith, C.long)))
-      ]

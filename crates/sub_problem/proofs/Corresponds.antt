@@ -1,18 +1,17 @@
 -- ONE TO ONE: completions of the start values and choices of the smaller problem's variables, by `restrict` and `extend`. Assumes nothing.
-use Prim.Native.Nat.{ℕ, zero, suc, ◌<◌, ◌≤◌}
+use Prim.Native.Nat.{ℕ, ◌<◌}
 use mathlib.Core.Path.{◌≡◌, refl, sym, ap, ◌∙◌}
 use mathlib.Core.Logic.{◌⊎◌, inl, inr, ⊎_elim}
 use mathlib.Core.Bool.{Bool, true, false, cond}
-use mathlib.Core.List.{List, map}
+use mathlib.Core.List.{List}
 use native.Mathlib.Decide.{dec_lt}
 use native.Mathlib.Omega.{arith}
 use borrow.Author.Tests.{eqb-true, eqb-false}
-use lib.ListN.{length, get_or, replicate, length-map, length-replicate, get_or-replicate, get_or-eq_default}
+use lib.ListN.{length, get_or, length-map, length-replicate, get_or-replicate, get_or-eq_default}
 use lib.Seq.{ext_get_or}
 use Rattle.meaning.specs.Free.{is_free}
 use Rattle.meaning.specs.Steps.{Valid}
 use Rattle.meaning.specs.Field.{Completion}
-use Rattle.rows.specs.Stored.{up_to}
 use Rattle.rows.proofs.Upto.{length_up_to, get_d_up_to}
 use Rattle.sub_problem.specs.Reduced.{back, new_index}
 use Rattle.sub_problem.specs.Corresponds.{all_free, restrict, extend}

@@ -1,4 +1,5 @@
 -- What the call `sub_problem` does, over its promise alone. Assumes nothing.
+use Rattle.sub_problem.specs.declared.Reduced.{Reduced}
 use Prim.Native.Nat.{ℕ, ◌<◌, ◌≤◌}
 use mathlib.Core.Path.{◌≡◌, refl, sym, ap, subst, ◌∙◌}
 use mathlib.Core.Logic.{◌≢◌, ◌↔◌}
@@ -33,7 +34,6 @@ use Rattle.calls.proofs.Usual as usual
 use Rattle.calls.proofs.Usual.{this_stage, other_stage}
 use Rattle.shift.specs.Shifted.{WholeIn}
 use Rattle.shift.proofs.Keeps.{weighs_more}
-use Rattle.sub_problem.specs.declared.Reduced.TheVariants.{Done, Refused}
 use Rattle.sub_problem.specs.Reduced.{back, new_index, stays, adjusted, constant, reduced}
 use Rattle.sub_problem.specs.Corresponds.{all_free, restrict, extend, OneToOne, AllWhole}
 use Rattle.sub_problem.specs.Call.{Left, left, closed_up, closed_in, first_of, fits, sub_problem_table, finished, sub_problem_call}
@@ -41,6 +41,9 @@ use Rattle.sub_problem.proofs.Numbering.{back_free}
 use Rattle.sub_problem.proofs.Shape.{new_variables, new_entries, reduced_shaped, reduced_standard}
 use Rattle.sub_problem.proofs.Objective.{objective, reduced_whole, constant_whole}
 use Rattle.sub_problem.proofs.Bests as bests
+use Rattle.sub_problem.specs.Answers.{reduced_answer}
+use Rattle.std.specs.Prelude.{Err}
+use Rattle.calls.proofs.Answers.{done_apart, same_refused, same_done}
 
 -- Theorem. Any two results that the promise permits are equal.
 pub one_result : (F : Field) (s l : List ℕ) (f : List Float) (u : List ℕ) (x y : Left) → x ≡ sub_problem_call F s l f u → y ≡ sub_problem_call F s l f u → x ≡ y
@@ -48,13 +51,7 @@ one_result F s l f u = any.one_result (sub_problem_call F s l f u)
 
 -- ---- what an answer says
 
-same_refused : (r t : Refusal) → Refused r ≡ Refused t → r ≡ t
-same_refused r t e = cc
-
-done_apart : {A : Type 0} {g : Grade} {n m : ℕ} {k : Float} (r : Refusal) → Done g n m k ≡ Refused r → A
-done_apart r e = let z : ◌≡◌ {A = ℕ} 0 1 = cc in absurd (omega arith)
-
-not_finished : {A : Type 0} (F : Field) (s l : List ℕ) (f : List Float) (u : List ℕ) (r : Refusal) → (finished F s l f u).answer ≡ Refused r → A
+not_finished : {A : Type 0} (F : Field) (s l : List ℕ) (f : List Float) (u : List ℕ) (r : Refusal) → (finished F s l f u).answer ≡ Err r → A
 unfolding finished
 not_finished F s l f u r e = done_apart r e
 
@@ -65,52 +62,49 @@ record Told (F : Field) (s : List ℕ) (g : Grade) (n m : ℕ) (k : Float) : Typ
   new_m : length (stays F s) ≡ m
   is_constant : constant F s ≡ k
 
-told : {F : Field} {s : List ℕ} {g : Grade} {n m : ℕ} {k : Float} → Done (grade_of F) (length (back s)) (length (stays F s)) (constant F s) ≡ Done g n m k → Told F s g n m k
+told : {F : Field} {s : List ℕ} {g : Grade} {n m : ℕ} {k : Float} → reduced_answer (grade_of F) (length (back s)) (length (stays F s)) (constant F s) ≡ reduced_answer g n m k → Told F s g n m k
 told {F} {s} {g} {n} {m} {k} e =
-    let a : grade_of F ≡ g = cc in
-    let b : length (back s) ≡ n = cc in
-    let c : length (stays F s) ≡ m = cc in
-    let d : constant F s ≡ k = cc in
-    record { grade = a; new_n = b; new_m = c; is_constant = d }
+    let z = same_done e in
+    record { grade = ap (λ (x : Reduced). x.grade) z; new_n = ap (λ (x : Reduced). x.variables) z; new_m = ap (λ (x : Reduced). x.entries) z; is_constant = ap (λ (x : Reduced). x.constant) z }
 
 module _ (F : Field) (s l : List ℕ) (f : List Float) (u : List ℕ) where
   -- Theorem. DEMAND 1. The call is refused with r exactly if the tests before r's own pass, and its own fails: 9 is the last, for more free variables than the map list has places.
-  pub refused_when : (r : Refusal) → ((sub_problem_call F s l f u).answer ≡ Refused r) ↔ FirstToFail (sub_problem_table F s l (length f) (length u)) r
+  pub refused_when : (r : Refusal) → ((sub_problem_call F s l f u).answer ≡ Err r) ↔ FirstToFail (sub_problem_table F s l (length f) (length u)) r
   unfolding sub_problem_call table
-  refused_when = usual.refused_when Refused _ _ _ _ same_refused (not_finished F s l f u) refl
+  refused_when = usual.refused_when Err _ _ _ _ same_refused (not_finished F s l f u) refl
 
   -- Theorem. A refusal by another test changes nothing lent.
-  pub refused_leaves : (r : Refusal) → r ≢ Room → (sub_problem_call F s l f u).answer ≡ Refused r → sub_problem_call F s l f u ≡ left (Refused r) F l f u
+  pub refused_leaves : (r : Refusal) → r ≢ Room → (sub_problem_call F s l f u).answer ≡ Err r → sub_problem_call F s l f u ≡ left (Err r) F l f u
   unfolding sub_problem_call
-  refused_leaves r n e = usual.refused_leaves Refused _ _ _ _ same_refused (not_finished F s l f u) r (other_stage n no_stage) e
+  refused_leaves r n e = usual.refused_leaves Err _ _ _ _ same_refused (not_finished F s l f u) r (other_stage n no_stage) e
 
   -- Theorem. It is 9 exactly if all other tests pass and there are more free variables than places.
-  pub room_when : ((sub_problem_call F s l f u).answer ≡ Refused Room) ↔ (Admitted F s (length f) (length u) × (length l < length (back s)))
+  pub room_when : ((sub_problem_call F s l f u).answer ≡ Err Room) ↔ (Admitted F s (length f) (length u) × (length l < length (back s)))
   unfolding sub_problem_call
   room_when =
-      let t = usual.last_when Refused _ _ Room _ _ same_refused (not_finished F s l f u) (never_room F s (length f) (length u)) (fits s l) in
+      let t = usual.last_when Err _ _ Room _ _ same_refused (not_finished F s l f u) (never_room F s (length f) (length u)) (fits s l) in
       let p = admitted_passes F s (length f) (length u) in
       ((λ e. (p.0 (t.0 e).0, leb-false _ _ (t.0 e).1)), λ h. t.1 (p.1 h.0, lt-leb _ _ h.1))
 
   -- Theorem. On 9 the field is unchanged, and the map list and both scratches are all zeros.
-  pub room_leaves : (sub_problem_call F s l f u).answer ≡ Refused Room → sub_problem_call F s l f u ≡ left (Refused Room) F (cleared 0 l) (cleared zero64 f) (cleared 0 u)
+  pub room_leaves : (sub_problem_call F s l f u).answer ≡ Err Room → sub_problem_call F s l f u ≡ left (Err Room) F (cleared 0 l) (cleared zero64 f) (cleared 0 u)
   unfolding sub_problem_call
-  room_leaves e = usual.later_leaves Refused _ _ _ _ same_refused (not_finished F s l f u) Room _ (never_room F s (length f) (length u)) (this_stage no_stage) e
+  room_leaves e = usual.later_leaves Err _ _ _ _ same_refused (not_finished F s l f u) Room _ (never_room F s (length f) (length u)) (this_stage no_stage) e
 
   -- Theorem. It is done exactly if the field, the start values and both scratches are as the table asks, and the map list has room.
-  pub done_when : ((sub_problem_call F s l f u).answer ≡ Done (grade_of F) (length (back s)) (length (stays F s)) (constant F s)) ↔ (Admitted F s (length f) (length u) × (length (back s) ≤ length l))
+  pub done_when : ((sub_problem_call F s l f u).answer ≡ reduced_answer (grade_of F) (length (back s)) (length (stays F s)) (constant F s)) ↔ (Admitted F s (length f) (length u) × (length (back s) ≤ length l))
   unfolding sub_problem_call finished table
   done_when =
-      usual.done_when Refused _ _ _ _ same_refused done_apart
+      usual.done_when Err _ _ _ _ same_refused done_apart
       (group_is (open_tests F s (length f) (length u)) _ (admitted_passes F s (length f) (length u)) (last_is Room _ (le_is (length (back s)) (length l))))
 
-  module _ {g : Grade} {n m : ℕ} {k : Float} (e : (sub_problem_call F s l f u).answer ≡ Done g n m k) where
+  module _ {g : Grade} {n m : ℕ} {k : Float} (e : (sub_problem_call F s l f u).answer ≡ reduced_answer g n m k) where
     -- Theorem. Then the smaller problem stands at the front of the caller's lists with zeros behind it, the map back at the front of its list, and both scratches are all zeros.
     pub done_leaves : sub_problem_call F s l f u ≡ finished F s l f u
     unfolding sub_problem_call
-    done_leaves = usual.done_leaves Refused _ _ _ _ same_refused (not_finished F s l f u) (λ r z. done_apart r (sym e ∙ z))
+    done_leaves = usual.done_leaves Err _ _ _ _ same_refused (not_finished F s l f u) (λ r z. done_apart r (sym e ∙ z))
 
-    answered : Done (grade_of F) (length (back s)) (length (stays F s)) (constant F s) ≡ (sub_problem_call F s l f u).answer
+    answered : reduced_answer (grade_of F) (length (back s)) (length (stays F s)) (constant F s) ≡ (sub_problem_call F s l f u).answer
     unfolding finished
     answered = ap (λ (x : Left). x.answer) (sym done_leaves)
 
@@ -217,7 +211,7 @@ serves_whole : {F : Field} {unit : ℕ} → Serves unit F → WholeIn unit F
 serves_whole S = record { linear = λ i h. weighs_more (omega arith) (S.exact.linear i h); quad = S.exact.quad }
 
 -- DEMAND 3, on exact fields, in every unit that serves.
-module _ (F : Field) (s l : List ℕ) (f : List Float) (u : List ℕ) {n m : ℕ} {k : Float} (e : (sub_problem_call F s l f u).answer ≡ Done Exact n m k) {unit : ℕ} (serving : Serves unit F) where
+module _ (F : Field) (s l : List ℕ) (f : List Float) (u : List ℕ) {n m : ℕ} {k : Float} (e : (sub_problem_call F s l f u).answer ≡ reduced_answer Exact n m k) {unit : ℕ} (serving : Serves unit F) where
   -- Theorem. THE OBJECTIVE: f of a completion is the smaller problem's f at its free values, plus the constant.
   pub keeps_f : {x : List ℕ} → Completion s x → twice_f (whole_of unit F) x ≈ twice_f (whole_of unit (first_of n m (sub_problem_call F s l f u).lent.lists)) (restrict s x) ⊕ read unit k
   keeps_f c = whole_keeps_f F s l f u e (serves_whole serving) (omega (arith, serving.to)) c

@@ -1,5 +1,5 @@
 -- The loops that gather what the given variables weigh: how they start, turn and end. Assumes nothing.
-use Prim.Native.Nat.{ℕ, zero, suc, ◌+◌, ◌<◌, ◌≤◌}
+use Prim.Native.Nat.{ℕ, ◌+◌, ◌<◌, ◌≤◌}
 use mathlib.Core.Path.{◌≡◌, refl, sym, ap, ◌∙◌}
 use mathlib.Core.Bool.{Bool, true, false, cond}
 use mathlib.Core.List.{List}
@@ -17,30 +17,6 @@ use Rattle.field.specs.Field.{Field, variables, entries, row_end, column_end}
 use Rattle.sub_problem.specs.Reduced.{value_of, lone_at, given_at, free_end, given_end, half_of, into_gathered, gathered_to, into_constant, given_to, with_given}
 use Rattle.sub_problem.specs.Working.{Usable, Blank, Taken, Gathers}
 use Rattle.sub_problem.proofs.Worths.{gathered_long, free_end_below}
-
--- ---- the first floats set to 0.0
-
-pub record Blanking (n : ℕ) (f₀ : List Float) (i : ℕ) (f : List Float) : Type 0 where
-  pub within : i ≤ n
-  pub same : length f ≡ length f₀
-  pub at : (j : ℕ) → j < i → get_or f j nan ≡ zero64
-
-module _ {n : ℕ} {f₀ : List Float} where
-  pub blank_start : Blanking n f₀ 0 f₀
-  blank_start = record { within = omega arith; same = refl; at = λ j h. absurd (omega arith) }
-
-  pub blank_turn : {i : ℕ} {f : List Float} → n ≤ length f₀ → Blanking n f₀ i f → i < n → Blanking n f₀ (i + 1) (set f i zero64)
-  blank_turn {i} {f} room B h = rw add-one (record {
-    within = h;
-    same = length-set f i zero64 ∙ B.same;
-    at = λ j l. elim (ℕ_discrete j i) [
-      | yes e ↦ rw e (get_or-set_same f i zero64 nan (omega (arith, B.same)))
-      | no d ↦ get_or-set_other f i j zero64 nan d ∙ B.at j (omega arith)
-    ];
-  })
-
-  pub blank_done : {i : ℕ} {f : List Float} → n ≤ length f₀ → Blanking n f₀ i f → n ≤ i → Blank n f
-  blank_done room B h = record { long = omega (arith, B.same); at = λ j l. B.at j (omega arith) }
 
 -- ---- one entry, as the code does it
 

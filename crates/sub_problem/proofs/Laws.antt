@@ -1,19 +1,19 @@
 -- From the parts to the call: what each part leaves, put together. Assumes nothing.
-use Prim.Native.Nat.{ℕ, ◌+◌, ◌<◌, ◌≤◌}
+use Prim.Native.Nat.{ℕ, ◌-◌, ◌<◌, ◌≤◌}
 use mathlib.Core.Path.{◌≡◌, refl, sym, ap, ◌∙◌}
-use mathlib.Core.List.{List, map}
+use mathlib.Core.List.{List, [], map, append-nil}
+use Rattle.std.proofs.lemmas.List.{drop-replicate}
+use borrow.Rule.Slice.PartMut.{mid_of, put_mid, mid_len}
 use native.Mathlib.Decide.{dec_le}
 use native.Mathlib.Omega.{arith}
 use borrow.Author.Tests.{le-leb, lt-leb}
-use lib.ListN.{length, get_or, take, replicate, length-map, length-take}
+use lib.ListN.{length, get_or, take, drop, replicate, length-map, length-take, length-drop, drop_of_length-le}
 use lib.Seq.{get_or-take, ext_get_or}
 use lib.Ieee.{Float, nan, binary64, add}
-use Rattle.meaning.specs.Free.{is_free}
 use Rattle.weights.specs.Worth.{zero64}
 use Rattle.scratch.specs.Cleared.{cleared}
 use Rattle.scratch.specs.Over.{over}
 use Rattle.scratch.proofs.Over.{length_over, over_front}
-use Rattle.field.specs.declared.Checked.TheVariants.{Passed, Failed}
 use Rattle.field.specs.declared.Grade.{Grade}
 use Rattle.field.specs.declared.Refusal.{Refusal}
 use Rattle.field.specs.declared.Refusal.TheVariants.{Room}
@@ -22,15 +22,16 @@ use Rattle.field.specs.Table.{tested}
 use Rattle.field.specs.Tests.{open_tests}
 use Rattle.field.specs.Grade.{grade_of}
 use Rattle.calls.proofs.Usual as usual
-use Rattle.sub_problem.specs.declared.Reduced.TheVariants.{Done, Refused}
-use Rattle.shift.specs.Picked.{picked}
-use Rattle.sub_problem.specs.Reduced.{back, new_index, stays_at, stays, adjusted, given_to, with_given, constant, reduced}
+use Rattle.sub_problem.specs.Reduced.{back, new_index, stays_at, stays, adjusted, with_given}
 use Rattle.sub_problem.specs.Call.{Left, left, closed_up, finished, sub_problem_call}
-use Rattle.sub_problem.specs.Working.{Usable, Numbers, Numbered, Gathers, Rising, sum_at, Entries, entries_of, closed_to, closed_entries, Listed, Weighed}
+use Rattle.sub_problem.specs.Working.{Usable, Numbered, Gathers, Rising, sum_at, Entries, entries_of, closed_to, closed_entries, Listed, Weighed}
 use Rattle.shift.proofs.Picked.{map_at, picked_few}
-use Rattle.sub_problem.proofs.Numbering.{back_few, back_below, new_back}
+use Rattle.sub_problem.proofs.Numbering.{back_below, new_back}
 use Rattle.sub_problem.proofs.NumberLoops.{new_few}
 use Rattle.sub_problem.proofs.CloseLoops.{turn_inside}
+use Rattle.field.specs.Answers.{passed}
+use Rattle.std.specs.Prelude.{Err}
+use Rattle.sub_problem.specs.Answers.{reduced_answer}
 
 -- ---- a list that closed up, with zeros behind
 
@@ -39,6 +40,15 @@ closed_up_lem {A} z l s n long fits e f =
     f
     ∙ ap (λ (t : List A). over (take n t) (cleared z t)) e
     ∙ rw (over_front l s long, length_over l s (omega arith))
+
+-- a list whose elements from n on are set to z
+pub filled : {A : Type 0} (z : A) (n : ℕ) (s : List A) {w : List A} → n ≤ length s → w ≡ cleared z (mid_of n (length s - n) s) → put_mid n (length s - n) s w ≡ over (take n s) (cleared z s)
+unfolding over
+filled z n s {w} h zeros =
+    let long : length (take n s) ≡ n = length-take n s ∙ omega arith in
+    let mid : w ≡ replicate (length s - n) z = rw (mid_len n (length s) s (omega arith)) at zeros in
+    let past : drop (length s - n) (drop n s) ≡ [] = drop_of_length-le (drop n s) (omega (arith, length-drop n s)) in
+    rw (mid, past, append-nil (replicate (length s - n) z), long, drop-replicate n (length s) z) refl
 
 pub rising_fits : {n count : ℕ} {b : List ℕ} → Rising n b count → count ≤ n
 rising_fits {n} {count} R = elim (dec_le count n) [
@@ -58,6 +68,9 @@ module _ {F : Field} {s : List ℕ} (U : Usable F s) {rows cols : List ℕ} {q :
 
   few : length (stays F s) ≤ entries F
   few = picked_few (stays_at F s) (entries F)
+
+  pub kept_few : r ≤ 32768
+  kept_few = omega (arith, kept_is, few, U.shaped.few_entries)
 
   pub rows_fit : r ≤ length rows
   unfolding closed_to
@@ -135,21 +148,21 @@ module _ (F : Field) (s l : List ℕ) (f : List Float) (u : List ℕ) where
   pub worked : {g : Grade} {c₁ q₁ f₁ : List Float} {rows₁ cols₁ l₁ u₁ : List ℕ} {count kept : ℕ} {x : Float} (a b : ℕ) (c' : List Float) → g ≡ grade_of F → count ≡ length (back s) → l₁ ≡ over (back s) l
       → Weighed F s c₁ x → entries_of rows₁ cols₁ q₁ kept ≡ closed_entries (field_of c' F.rows F.cols F.quad) s
       → f₁ ≡ replicate a zero64 → a ≡ length f → u₁ ≡ replicate b 0 → b ≡ length u
-      → left (Done g count kept x) (field_of c₁ rows₁ cols₁ q₁) l₁ f₁ u₁ ≡ finished F s l f u
+      → left (reduced_answer g count kept x) (field_of c₁ rows₁ cols₁ q₁) l₁ f₁ u₁ ≡ finished F s l f u
   unfolding finished closed_entries
   worked a b c' eg ec el W e ef la eu lb =
       rw (eg, ec, el, W.linear, W.total, ap (λ (x : Entries). x.rows) e, ap (λ (x : Entries). x.cols) e, ap (λ (x : Entries). x.quad) e, ap (λ (x : Entries). x.kept) e, ef, la, eu, lb)
 
-  pub refused_call : {r : Refusal} → tested (open_tests F s (length f) (length u)) ≡ Failed r → left (Refused r) F l f u ≡ sub_problem_call F s l f u
+  pub refused_call : {r : Refusal} → tested (open_tests F s (length f) (length u)) ≡ Err r → left (Err r) F l f u ≡ sub_problem_call F s l f u
   unfolding sub_problem_call
-  refused_call e = usual.refused_call Refused _ _ _ _ e
+  refused_call e = usual.refused_call Err _ _ _ _ e
 
-  module _ (e : tested (open_tests F s (length f) (length u)) ≡ Passed) {count : ℕ} (N : count ≡ length (back s)) where
+  module _ (e : tested (open_tests F s (length f) (length u)) ≡ passed) {count : ℕ} (N : count ≡ length (back s)) where
     pub done_call : {x : Left} (u₁ : List ℕ) → length u₁ ≡ length u → count ≤ length l → x ≡ finished F s l f u₁ → x ≡ sub_problem_call F s l f u
     unfolding sub_problem_call finished
-    done_call u₁ lu h p = p ∙ rw lu refl ∙ usual.last_passes Refused _ _ Room _ (finished F s l f u) e (le-leb (length (back s)) (length l) (omega arith))
+    done_call u₁ lu h p = p ∙ rw lu refl ∙ usual.last_passes Err _ _ Room _ (finished F s l f u) e (le-leb (length (back s)) (length l) (omega arith))
 
     pub room_call : {l₁ u₁ : List ℕ} {f₁ : List Float} (a b d : ℕ) → length l < count → l₁ ≡ replicate d 0 → d ≡ length l → f₁ ≡ replicate a zero64 → a ≡ length f → u₁ ≡ replicate b 0 → b ≡ length u
-        → left (Refused Room) F l₁ f₁ u₁ ≡ sub_problem_call F s l f u
+        → left (Err Room) F l₁ f₁ u₁ ≡ sub_problem_call F s l f u
     unfolding sub_problem_call
-    room_call a b d h el ld ef la eu lb = rw (el, ld, ef, la, eu, lb) (usual.last_refuses Refused _ _ Room _ _ e (lt-leb (length (back s)) (length l) (omega arith)))
+    room_call a b d h el ld ef la eu lb = rw (el, ld, ef, la, eu, lb) (usual.last_refuses Err _ _ Room _ _ e (lt-leb (length (back s)) (length l) (omega arith)))

@@ -1,8 +1,8 @@
 -- The loops that number the free variables and list the map back: how they start, turn and end. Assumes nothing.
-use Prim.Native.Nat.{ℕ, zero, suc, ◌+◌, ◌<◌, ◌≤◌}
-use mathlib.Core.Path.{◌≡◌, refl, sym, ap, ◌∙◌}
+use Prim.Native.Nat.{ℕ, suc, ◌+◌, ◌<◌, ◌≤◌}
+use mathlib.Core.Path.{◌≡◌, refl, ap, ◌∙◌}
 use mathlib.Core.Bool.{Bool, true, false, cond}
-use mathlib.Core.List.{List, []}
+use mathlib.Core.List.{List}
 use native.Mathlib.Decide.{ℕ_discrete}
 use native.Mathlib.Nat.{le_antisymm}
 use native.Mathlib.Numerals.{add-one}
@@ -12,10 +12,10 @@ use lib.ListN.{length, get_or, set, length-set}
 use lib.Seq.{get_or-set_same, get_or-set_other}
 use Rattle.meaning.specs.Free.{is_free}
 use Rattle.scratch.specs.Over.{over}
-use Rattle.scratch.proofs.Over.{length_over, over_push}
+use Rattle.scratch.proofs.Over.{over_push}
 use Rattle.shift.specs.Picked.{picked}
 use Rattle.sub_problem.specs.Reduced.{back, new_index}
-use Rattle.sub_problem.specs.Working.{NumbersTo, Numbers, Numbered}
+use Rattle.sub_problem.specs.Working.{Numbers, Numbered}
 use Rattle.shift.proofs.Picked.{one_longer, picked_few, picked_more, picked_same}
 use Rattle.sub_problem.proofs.Numbering.{new_below}
 

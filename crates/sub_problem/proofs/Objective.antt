@@ -1,24 +1,24 @@
 -- THE OBJECTIVE: at every completion of the start values the field is worth what the smaller problem is at the free values, and the constant. Assumes nothing.
 use Prim.Native.Nat.{ℕ, zero, suc, ◌<◌, ◌≤◌}
-use mathlib.Core.Path.{◌≡◌, refl, sym, ap, ◌∙◌}
+use mathlib.Core.Path.{◌≡◌, refl}
 use mathlib.Core.Bool.{Bool, true, false, cond, not, ◌&&◌, false≢true}
 use mathlib.Core.List.{List}
 use native.Mathlib.Omega.{arith}
 use lib.Dec.{eqb}
 use lib.ListN.{length, get_or}
-use Rattle.whole.specs.Whole.{Whole, nothing, ◌⊕◌, ◌⊙◌, only, sum, ◌≈◌, Zero}
+use Rattle.whole.specs.Whole.{Whole, nothing, ◌⊕◌, ◌⊙◌, only, sum, ◌≈◌}
 use Rattle.whole.proofs.Sums.{sum_same, sum_add, sum_zero, sum_at, only_zero}
 use Rattle.meaning.specs.Free.{is_free}
 use Rattle.meaning.specs.Field.{variable_term, entry_term, twice_f, Completion}
 use lib.Ieee.{Float}
 use Rattle.weights.specs.Worth.{Worth, read}
 use Rattle.weights.proofs.Worth.{as_worth, worth_read}
-use Rattle.field.specs.Field.{Field, variables, entries, linear_of, row_end, column_end, quad_of, Shaped, StartFor}
+use Rattle.field.specs.Field.{Field, variables, entries, linear_of, row_end, column_end, Shaped, StartFor}
 use Rattle.field.specs.Reading.{whole_of}
 use Rattle.field.proofs.Exact.{weighs_read}
 use Rattle.shift.specs.Shifted.{WholeIn}
 use Rattle.shift.proofs.Keeps.{equal}
-use Rattle.sub_problem.specs.Reduced.{back, new_index, stays_at, lone, lone_at, given_at, free_end, given_end, stays, adjusted, constant, reduced}
+use Rattle.sub_problem.specs.Reduced.{back, stays_at, lone, lone_at, given_at, free_end, given_end, stays, adjusted, constant, reduced}
 use Rattle.sub_problem.specs.Corresponds.{restrict, AllWhole}
 use Rattle.shift.proofs.Picked.{picked_sum}
 use Rattle.sub_problem.proofs.Numbering.{back_below}

@@ -2,14 +2,13 @@
 use Prim.Native.Nat.{ℕ, ◌+◌, ◌<◌}
 use mathlib.Core.Path.{◌≡◌, refl, sym, ap, ◌∙◌}
 use mathlib.Core.Bool.{Bool, true, false, ◌&&◌, false≢true}
-use mathlib.Core.List.{List, map}
+use mathlib.Core.List.{List}
 use native.Mathlib.Omega.{arith}
 use lib.ListN.{length, get_or, length-map}
 use lib.Ieee.{nan}
 use Rattle.meaning.specs.Free.{is_free}
 use Rattle.field.specs.Field.{Field, variables, entries, linear_of, row_end, column_end, quad_of, Shaped, Standard}
 use Rattle.field.proofs.Order.{before_all}
-use Rattle.shift.specs.Picked.{picked}
 use Rattle.sub_problem.specs.Reduced.{back, new_index, stays_at, stays, adjusted, reduced}
 use Rattle.shift.proofs.Picked.{map_at, picked_few, picked_at, picked_rises}
 use Rattle.sub_problem.proofs.Numbering.{back_few, new_below, back_new, before_new}

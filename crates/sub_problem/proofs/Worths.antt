@@ -1,26 +1,24 @@
 -- Where c is a whole number of units and q of double units, nothing is rounded: what the new linear weights and the constant are worth. Assumes nothing.
-use Prim.Native.Nat.{ℕ, zero, suc, ◌+◌, ◌*◌, ◌<◌, ◌≤◌, ◌^◌}
-use mathlib.Core.Path.{◌≡◌, refl, sym, ap, ◌∙◌}
-use mathlib.Core.Logic.{◌≢◌}
-use mathlib.Core.Bool.{Bool, true, false, cond, not, ◌&&◌}
+use Prim.Native.Nat.{ℕ, zero, suc, ◌*◌, ◌<◌, ◌≤◌, ◌^◌}
+use mathlib.Core.Path.{◌≡◌, sym, ◌∙◌}
+use mathlib.Core.Bool.{Bool, true, false, cond, not}
 use mathlib.Core.List.{List}
 use native.Mathlib.Decide.{ℕ_discrete}
 use native.Mathlib.Omega.{arith}
 use borrow.Author.Tests.{eq-eqb, ne_eqb}
 use lib.Dec.{eqb}
-use lib.ListN.{length, get_or, set, replicate, length-set, length-replicate, get_or-replicate}
+use lib.ListN.{length, get_or, length-set, length-replicate, get_or-replicate}
 use lib.Seq.{get_or-set_same, get_or-set_other}
-use lib.Ieee.{Float, nan, binary64, add, mul}
-use Rattle.whole.specs.Whole.{Whole, nothing, ◌⊕◌, ◌⊙◌, only, sum, ◌≈◌, Under}
+use lib.Ieee.{nan, binary64, add, mul}
+use Rattle.whole.specs.Whole.{Whole, ◌⊕◌, ◌⊙◌, only, sum, Under}
 use Rattle.whole.proofs.Sums.{sum_under, only_under}
 use Rattle.meaning.specs.Free.{is_free}
-use Rattle.weights.specs.Worth.{Worth, read, zero64, half64}
+use Rattle.weights.specs.Worth.{Worth, read, zero64}
 use Rattle.weights.proofs.Worth.{add_worth, half_worth, times_worth, zero_worth, as_worth}
 use Rattle.field.specs.Field.{Field, variables, entries, linear_of, row_end, column_end, quad_of, Shaped, StartFor}
-use Rattle.field.specs.Grade.{Weighs}
 use Rattle.field.proofs.Exact.{weighs_read, weighs_under}
 use Rattle.shift.specs.Shifted.{WholeIn}
-use Rattle.sub_problem.specs.Reduced.{value_of, lone, lone_at, given_at, free_end, given_end, half_of, into_gathered, gathered_to, given_to, with_given, constant_to, constant}
+use Rattle.sub_problem.specs.Reduced.{value_of, lone_at, given_at, free_end, given_end, half_of, into_gathered, gathered_to, given_to, with_given, constant_to, constant}
 
 -- ---- products with a value
 

@@ -1,24 +1,19 @@
 -- What the call `sub_problem` answers and leaves, as one function of what it is given, for every input. Assumes nothing.
-use Rattle.std.specs.Prelude.{ℕ, Bool, List, [], ◌∷◌, ◌++◌, leb, length, take, Float}
+use Rattle.std.specs.Prelude.{ℕ, Bool, List, [], ◌∷◌, ◌++◌, leb, length, take, Float, Err}
 use Rattle.weights.specs.Worth.{zero64}
 use Rattle.scratch.specs.Cleared.{cleared}
 use Rattle.scratch.specs.Over.{over}
 use Rattle.field.specs.declared.Refusal.TheVariants.{Room}
 use Rattle.field.specs.Field.{Field, field_of}
-use Rattle.field.specs.Answers.{number_of}
+use Rattle.field.specs.Answers.{Answer}
 use Rattle.field.specs.Table.{Test, test}
 use Rattle.field.specs.Tests.{open_tests}
 use Rattle.field.specs.Grade.{grade_of}
 use Rattle.calls.specs.Call as any
 use Rattle.calls.specs.Call.{called, stage, usual}
 use Rattle.sub_problem.specs.declared.Reduced.{Reduced}
-use Rattle.sub_problem.specs.declared.Reduced.TheVariants.{Done, Refused}
 use Rattle.sub_problem.specs.Reduced.{back, stays, constant, reduced}
-
--- The table's number of an answer of `sub_problem`: 0 when done, else that of the refusal.
-abbrev pub reduced_number : Reduced → ℕ
-reduced_number (Done g n m k) = 0
-reduced_number (Refused r) = number_of r
+use Rattle.sub_problem.specs.Answers.{reduced_answer}
 
 -- what is lent: the field's four lists, the map list and both scratches
 pub record Lent : Type 0 where
@@ -33,10 +28,10 @@ lent G l f u = record { lists = G; map_list = l; floats = f; words = u }
 
 -- The answer of `sub_problem`, and all that is lent to it afterwards.
 abbrev pub Left : Type 0
-Left = any.Left Reduced Lent
+Left = any.Left (Answer Reduced) Lent
 
 -- What the call `sub_problem` leaves, made of its answer and of all that is lent.
-abbrev pub left : Reduced → Field → List ℕ → List Float → List ℕ → Left
+abbrev pub left : Answer Reduced → Field → List ℕ → List Float → List ℕ → Left
 left r G l f u = any.left r (lent G l f u)
 
 -- l at the front of a list as long as s, and z behind it
@@ -62,11 +57,11 @@ sub_problem_table F s l floats words = open_tests F s floats words ++ test Room 
 -- done: the smaller problem in the field's lists, the map back at the front of its list, and the scratch all zeros
 unfoldable pub finished : Field → List ℕ → List ℕ → List Float → List ℕ → Left
 finished F s l f u =
-    left (Done (grade_of F) (length (back s)) (length (stays F s)) (constant F s)) (closed_in (reduced F s) F) (over (back s) l) (cleared zero64 f) (cleared 0 u)
+    left (reduced_answer (grade_of F) (length (back s)) (length (stays F s)) (constant F s)) (closed_in (reduced F s) F) (over (back s) l) (cleared zero64 f) (cleared 0 u)
 
 -- the tests of `open_tests`, then room for the map: on 9 the field is as it was, and the map list all zeros
 unfoldable pub sub_problem_call : Field → List ℕ → List ℕ → List Float → List ℕ → Left
 sub_problem_call F s l f u =
     called
-    (usual Refused (lent F l f u) (open_tests F s (length f) (length u)) (stage Room (fits s l) (lent F (cleared 0 l) (cleared zero64 f) (cleared 0 u)) ∷ [])
+    (usual Err (lent F l f u) (open_tests F s (length f) (length u)) (stage Room (fits s l) (lent F (cleared 0 l) (cleared zero64 f) (cleared 0 u)) ∷ [])
     (finished F s l f u))

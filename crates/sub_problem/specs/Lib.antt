@@ -1,4 +1,5 @@
-pub mod Reduced
-pub mod Corresponds
+pub mod Answers
 pub mod Call
+pub mod Corresponds
+pub mod Reduced
 pub mod Working

@@ -1,10 +1,10 @@
 -- What the parts of the call leave in lent memory. Assumes nothing.
-use Rattle.std.specs.Prelude.{ℕ, zero, suc, ◌+◌, ◌<◌, ◌≤◌, ◌≡◌, cond, List, map, length, get_or, set, take, Float}
+use Rattle.std.specs.Prelude.{ℕ, ◌+◌, ◌<◌, ◌≤◌, ◌≡◌, cond, List, map, length, get_or, set, take, Float}
 use Rattle.std.specs.Float.{nan, binary64}
 use Rattle.std.specs.Float.Ieee.{add}
 use Rattle.meaning.specs.Free.{is_free}
 use Rattle.scratch.specs.Over.{over}
-use Rattle.field.specs.Field.{Field, field_of, variables, entries, row_end, column_end, quad_of, Shaped, StartFor}
+use Rattle.field.specs.Field.{Field, variables, entries, row_end, column_end, quad_of, Shaped, StartFor}
 use Rattle.shift.specs.Picked.{picked}
 use Rattle.weights.specs.Worth.{zero64}
 use Rattle.sub_problem.specs.Reduced.{back, new_index, stays_at, stays, lone_at, given_at, into_gathered, into_constant, gathered_to, adjusted, given_to, constant}

@@ -2,9 +2,8 @@
 ghost use Rattle.std.specs.Prelude.{◌≡◌, map as mapped, ◌≤◌, length, take};
 ghost use Rattle.std.specs.Float.{binary64};
 ghost use Rattle.std.specs.Float.Ieee.{of_bits};
-ghost use Rattle.scratch.specs.Cleared.{cleared};
 ghost use Rattle.scratch.specs.Over.{over};
-ghost use Rattle.field.specs.Field.{field_of, given, lent, entries};
+ghost use Rattle.field.specs.Field.{field_of, entries};
 ghost use Rattle.sub_problem.specs.Working.{Usable, Numbers, Rising, sum_at, entries_of, close_at as close_at_of, closed_to, closed_entries, Closable};
 ghost use Rattle.sub_problem.specs.Call.{closed_up};
 
@@ -15,7 +14,7 @@ pub fn close_linear(c: &mut [f64], map: &[u16], f: &[f64], count: usize)
     ensures { c.new ≡ over (mapped (sum_at f.now c.old) (take count map.now)) c.old }
 {
     for t in 0..count {
-        let i = scratch::wide_short(map[t]);
+        let i = usize::from(map[t]);
         c[t] = f[i] + c[i];
     }
 }
@@ -34,11 +33,11 @@ fn close_at(
     requires numbers { Numbers start.now u.now }
     ensures { entries_of rows.new cols.new q.new result ≡ close_at_of start.now k (entries_of rows.old cols.old q.old kept) }
 {
-    let i = scratch::wide_short(rows[k]);
+    let i = usize::from(rows[k]);
     if start[i] != 2 {
         return kept;
     }
-    let j = scratch::wide_short(cols[k]);
+    let j = usize::from(cols[k]);
     if start[j] != 2 {
         return kept;
     }
@@ -68,26 +67,6 @@ pub fn close_entries(
     kept
 }
 
-// Writes 0.0 into every f64 from index `from` on: the places behind the weights that stay.
-pub fn clear_floats_from(floats: &mut [f64], from: usize)
-    requires { from ≤ length floats.old }
-    ensures { floats.new ≡ over (take from floats.old) (cleared (of_bits binary64 0) floats.old) }
-{
-    for i in from..floats.len() {
-        floats[i] = 0.0;
-    }
-}
-
-// Writes 0 into every u16 from index `from` on: the places behind the entries that stay.
-pub fn clear_shorts_from(shorts: &mut [u16], from: usize)
-    requires { from ≤ length shorts.old }
-    ensures { shorts.new ≡ over (take from shorts.old) (cleared 0 shorts.old) }
-{
-    for i in from..shorts.len() {
-        shorts[i] = 0;
-    }
-}
-
 // The weights come to the front, and zeros stand behind them.
 pub fn close_weights(c: &mut [f64], map: &[u16], f: &[f64], count: usize)
     requires rising { Rising (length c.old) map.now count }
@@ -95,7 +74,7 @@ pub fn close_weights(c: &mut [f64], map: &[u16], f: &[f64], count: usize)
     ensures { c.new ≡ closed_up (of_bits binary64 0) (mapped (sum_at f.now c.old) (take count map.now)) c.old }
 {
     close_linear(c, map, f, count);
-    clear_floats_from(c, count);
+    c[count..].fill(0.0);
 }
 
 // The entries come to the front, and zeros stand behind them; how many they are.
@@ -112,8 +91,8 @@ pub fn close_all(
     ensures { entries_of rows.new cols.new q.new result ≡ closed_entries (field_of c.now rows.old cols.old q.old) start.now }
 {
     let kept = close_entries(c, rows, cols, q, start, u);
-    clear_shorts_from(rows, kept);
-    clear_shorts_from(cols, kept);
-    clear_floats_from(q, kept);
+    rows[kept..].fill(0);
+    cols[kept..].fill(0);
+    q[kept..].fill(0.0);
     kept
 }

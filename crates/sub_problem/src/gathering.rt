@@ -7,35 +7,26 @@ ghost use Rattle.field.specs.Field.{given, lent, variables, entries};
 ghost use Rattle.sub_problem.specs.Reduced.{value_of, with_given};
 ghost use Rattle.sub_problem.specs.Working.{Usable, Blank, Taken, Gathers};
 
+use field::FieldRef;
+
 // The first n floats become 0.0.
 pub fn blank(f: &mut [f64], n: usize)
     requires { n ≤ length f.old }
     ensures { Blank n f.new }
 {
-    for i in 0..n {
-        f[i] = 0.0;
-    }
+    f[..n].fill(0.0);
 }
 
 // Entry k: half its weight times the given end's value goes to a free end; times both values to the sum where both ends are given.
-fn gather_at(
-    c: &[f64],
-    rows: &[u16],
-    cols: &[u16],
-    q: &[f64],
-    start: &[u8],
-    f: &mut [f64],
-    k: usize,
-    sum: f64,
-) -> f64
-    requires usable { Usable (lent c rows cols q) start.now }
-    requires k_bound { k < entries (lent c rows cols q) }
-    requires q_in_bounds { variables (lent c rows cols q) ≤ length f.old }
-    ensures { Taken (given c rows cols q) start.now k f.old sum f.new result }
+fn gather_at(field: FieldRef, start: &[u8], f: &mut [f64], k: usize, sum: f64) -> f64
+    requires usable { Usable (lent field) start.now }
+    requires k_bound { k < entries (lent field) }
+    requires q_in_bounds { variables (lent field) ≤ length f.old }
+    ensures { Taken (given field) start.now k f.old sum f.new result }
 {
-    let i = scratch::wide_short(rows[k]);
-    let j = scratch::wide_short(cols[k]);
-    let half = weights::half(q[k]);
+    let i = usize::from(field.rows[k]);
+    let j = usize::from(field.cols[k]);
+    let half = weights::half(field.q[k]);
     let a = start[i];
     let b = start[j];
     if a == 2 {
@@ -53,14 +44,14 @@ fn gather_at(
 }
 
 // All entries, in order, onto floats that are 0.0 at first; what goes to the constant.
-pub fn gather(c: &[f64], rows: &[u16], cols: &[u16], q: &[f64], start: &[u8], f: &mut [f64]) -> f64
-    requires usable { Usable (lent c rows cols q) start.now }
-    requires gathers { Gathers (lent c rows cols q) start.now 0 f.old (of_bits binary64 0) }
-    ensures { Gathers (given c rows cols q) start.now (entries (given c rows cols q)) f.new result }
+pub fn gather(field: FieldRef, start: &[u8], f: &mut [f64]) -> f64
+    requires usable { Usable (lent field) start.now }
+    requires gathers { Gathers (lent field) start.now 0 f.old (of_bits binary64 0) }
+    ensures { Gathers (given field) start.now (entries (given field)) f.new result }
 {
     let mut sum: f64 = 0.0;
-    for k in 0..q.len() {
-        sum = gather_at(c, rows, cols, q, start, f, k, sum);
+    for k in 0..field.q.len() {
+        sum = gather_at(field, start, f, k, sum);
     }
     sum
 }

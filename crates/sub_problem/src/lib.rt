@@ -6,21 +6,25 @@ mod gathering;
 mod numbers;
 
 ghost use Rattle.std.specs.Prelude.{◌≡◌, ◌≤◌, length};
-ghost use Rattle.field.specs.Field.{field_of, given, lent, variables};
+ghost use Rattle.field.specs.Field.{field_of, variables};
 ghost use Rattle.field.specs.Grade.{grade_of};
 ghost use Rattle.shift.specs.Closing.{left_behind};
 ghost use Rattle.sub_problem.specs.Working.{Usable, Numbered, Listed, Weighed};
 ghost use Rattle.sub_problem.specs.Call.{left, finished, sub_problem_call};
 
 use field::tests::admitted;
-use field::{Checked, Grade, Refusal};
+use field::{Answer, FieldRef, Grade, Refusal};
 
-// What the call answers: done, with the grade of the field as it was given, the new n, the new m and the constant, or a refusal.
+// What the call finds: the grade of the field as it was given, the new n, the new m and the constant.
 #[derive(Clone, Copy)]
-pub enum Reduced {
-    Done(Grade, usize, usize, f64),
-    Refused(Refusal),
+pub struct Reduced {
+    pub grade: Grade,
+    pub variables: usize,
+    pub entries: usize,
+    pub constant: f64,
 }
+
+// The four lists go from call to call apart, as in shift.
 
 // The linear weights close up, each what the entries gather and then c; the constant.
 fn weigh(
@@ -39,7 +43,7 @@ fn weigh(
     ensures { Weighed (field_of c.old rows.now cols.now q.now) start.now c.new result }
 {
     gathering::blank(f, c.len());
-    let pairs = gathering::gather(c, rows, cols, q, start, f);
+    let pairs = gathering::gather(FieldRef { c, rows, cols, q }, start, f);
     let constant = gathering::add_all_given(c, start, pairs);
     closing::close_weights(c, map, f, count);
     constant
@@ -57,7 +61,7 @@ fn work(
     f: &mut [f64],
     u: &mut [u32],
     count: usize,
-) -> Reduced
+) -> Answer<Reduced>
     requires usable { Usable (field_of c.old rows.old cols.old q.old) start.now }
     requires grade_value { grade ≡ grade_of (field_of c.old rows.old cols.old q.old) }
     requires numbered { Numbered start.now (length start.now) u.old count }
@@ -68,9 +72,14 @@ fn work(
     numbers::list_back(start, u, map);
     let constant = weigh(c, rows, cols, q, start, map, f, count);
     let kept = closing::close_all(c, rows, cols, q, start, u);
-    scratch::clear_floats(f);
-    scratch::clear_words(u);
-    Reduced::Done(grade, count, kept, constant)
+    f.fill(0.0);
+    u.fill(0);
+    Ok(Reduced {
+        grade,
+        variables: count,
+        entries: kept,
+        constant,
+    })
 }
 
 // The smaller problem closes up within the caller's lists; the answer has its sizes and the constant.
@@ -83,20 +92,18 @@ pub fn sub_problem(
     map: &mut [u16],
     f: &mut [f64],
     u: &mut [u32],
-) -> Reduced
+) -> Answer<Reduced>
     ensures { left result (left_behind c rows cols q) map.new f.new u.new ≡ sub_problem_call (field_of c.old rows.old cols.old q.old) start.now map.old f.old u.old }
 {
-    let checked = admitted(c, rows, cols, q, start, f.len(), u.len());
-    if let Checked::Failed(refusal) = checked {
-        return Reduced::Refused(refusal);
-    }
-    let grade = field::grading::graded(c, rows, cols, q);
+    let field = FieldRef { c, rows, cols, q };
+    admitted(field, start, f.len(), u.len())?;
+    let grade = field::grading::graded(field);
     let count = numbers::number(start, u);
     if map.len() < count {
-        scratch::clear_shorts(map);
-        scratch::clear_floats(f);
-        scratch::clear_words(u);
-        return Reduced::Refused(Refusal::Room);
+        map.fill(0);
+        f.fill(0.0);
+        u.fill(0);
+        return Err(Refusal::Room);
     }
     work(c, rows, cols, q, grade, start, map, f, u, count)
 }

@@ -39,7 +39,7 @@ fn enter(start: &[u8], u: &[u32], map: &mut [u16], i: usize)
     ensures { map.new ≡ cond (is_free start.now i) (set map.old (new_index start.now i) i) map.old }
 {
     if start[i] == 2 {
-        map[scratch::wide_word(u[i])] = i as u16;
+        map[u[i] as usize] = i as u16;
     }
 }
 

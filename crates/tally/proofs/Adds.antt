@@ -1,51 +1,54 @@
 -- The totals with one field more. Assumes nothing.
-use Prim.Native.Nat.{ℕ, ◌^◌, ◌<◌, ◌≤◌}
+use Prim.Native.Nat.{ℕ, ◌^◌, ◌≤◌}
 use mathlib.Core.Path.{◌≡◌, refl, sym, ap, subst, ◌∙◌}
 use mathlib.Core.List.{List}
 use native.Mathlib.Omega.{arith}
 use mathlib.Core.Bool.{Bool, true, false, cond}
-use borrow.Author.Tests.{le-leb, leb-true, ltb-true, ltb-false, lt-ltb, le-ltb}
+use borrow.Author.Tests.{le-leb, leb-true, ltb-true, ltb-false}
 use lib.Dec.{ltb}
+use Rattle.std.specs.Prelude.{Option, Some, None, max}
+use Rattle.std.specs.declared.ops.ControlFlow.{ControlFlow}
+use Rattle.std.specs.declared.ops.ControlFlow.TheVariants.{Continue, Break}
 use Rattle.tally.specs.Pieces.{fault}
-use Rattle.tally.specs.Tally.{larger, largest, is_within, plus, counts_of, met, added, stepped, AtMost, Small}
-use Rattle.tally.specs.Counting.{SmallMet, found, malformed}
+use Rattle.tally.specs.Tally.{reached, tally, larger, largest, is_within, plus, counts_of, met, added, stepped, AtMost, Small}
 use Rattle.tally.specs.declared.Totals.{Totals}
-use Rattle.tally.specs.declared.Ending.{Ending}
 use Rattle.tally.specs.declared.Ending.TheVariants.{Malformed, Full}
-use Rattle.tally.specs.declared.Met.{Met}
-use Rattle.tally.specs.declared.Met.TheVariants.{Field, Malformed as NoField}
-use Rattle.tally.specs.declared.Stepped.{Stepped}
-use Rattle.tally.specs.declared.Stepped.TheVariants.{On, Over}
+use Rattle.tally.specs.declared.Reached.{Reached}
+use Rattle.tally.specs.declared.Tally.{Tally}
 
-pub small_counts : {m : Met} {counts : Totals} {end : ℕ} → SmallMet m → m ≡ Field counts end → Small counts
-small_counts {counts = counts} {end} (found {t} s) e = let same : t ≡ counts = cc in subst Small same s
-small_counts malformed e = let z : ◌≡◌ {A = ℕ} 0 1 = cc in absurd (omega arith)
+larger_is : (a b : ℕ) → max a b ≡ larger a b
+unfolding larger
+larger_is a b = go (ltb a b) refl
+  where
+    go : (d : Bool) → ltb a b ≡ d → max a b ≡ cond d b a
+    go true e = omega (arith, ltb-true a b e)
+    go false e = omega (arith, ltb-false a b e)
 
 -- seven comparisons give the largest of eight
-pub largest_is : (t : Totals) {x₁ x₂ x₃ x₄ x₅ x₆ r : ℕ} → x₁ ≡ larger t.read t.exact → x₂ ≡ larger t.inexact t.refused → x₃ ≡ larger x₁ x₂
-    → x₄ ≡ larger t.given t.zero → x₅ ≡ larger t.one t.free → x₆ ≡ larger x₄ x₅ → r ≡ larger x₃ x₆ → r ≡ largest t
+pub largest_is : (t : Totals)
+    → max (max (max t.read t.exact) (max t.inexact t.refused)) (max (max t.given t.zero) (max t.one t.free)) ≡ largest t
 unfolding largest
-largest_is t e₁ e₂ e₃ e₄ e₅ e₆ e = e ∙ rw (e₃, e₆, e₁, e₂, e₄, e₅)
+largest_is t = simp larger_is
 
-module _ (most : ℕ) (t : Totals) {sum : Totals} {m : Met} {b : Bool} where
-  module _ {counts : Totals} {end : ℕ} (is : m ≡ Field counts end) (s : sum ≡ plus t counts) (e : b ≡ is_within most sum) where
-    pub added_on : b ≡ true → On sum end ≡ added most t m
+module _ (most : ℕ) (t : Totals) {sum : Totals} {m : Option Reached} {b : Bool} where
+  module _ {field : Reached} (is : m ≡ Some field) (s : sum ≡ plus t field.totals) (e : b ≡ is_within most sum) where
+    pub added_on : b ≡ true → Continue (reached sum field.at) ≡ added most t m
     unfolding added
     added_on h = rw (is, s) (simp (ap (is_within most) (sym s) ∙ sym e ∙ h))
 
-    pub added_full : b ≡ false → Over Full t ≡ added most t m
+    pub added_full : b ≡ false → Break (tally Full t) ≡ added most t m
     unfolding added
     added_full h = rw is (simp (ap (is_within most) (sym s) ∙ sym e ∙ h))
 
-  module _ {fields : Totals} (is : m ≡ NoField) (one : fields ≡ counts_of fault) (s : sum ≡ plus t fields) (e : b ≡ is_within most sum) where
+  module _ {fields : Totals} (is : m ≡ None) (one : fields ≡ counts_of fault) (s : sum ≡ plus t fields) (e : b ≡ is_within most sum) where
     same : sum ≡ plus t (counts_of fault)
     same = s ∙ ap (plus t) one
 
-    pub fault_on : b ≡ true → Over Malformed sum ≡ added most t m
+    pub fault_on : b ≡ true → Break (tally Malformed sum) ≡ added most t m
     unfolding added
     fault_on h = rw (is, same) (simp (ap (is_within most) (sym same) ∙ sym e ∙ h))
 
-    pub fault_full : b ≡ false → Over Full t ≡ added most t m
+    pub fault_full : b ≡ false → Break (tally Full t) ≡ added most t m
     unfolding added
     fault_full h = rw is (simp (ap (is_within most) (sym same) ∙ sym e ∙ h))
 
@@ -57,14 +60,6 @@ larger_both a b m = go (ltb a b) refl
     go : (d : Bool) → ltb a b ≡ d → cond d b a ≤ m → (a ≤ m) × (b ≤ m)
     go true e h = (omega (arith, ltb-true a b e), h)
     go false e h = (h, omega (arith, ltb-false a b e))
-
-pub larger_second : {a b : ℕ} → a < b → b ≡ larger a b
-unfolding larger
-larger_second {a} {b} h = simp (lt-ltb a b h)
-
-pub larger_first : {a b : ℕ} → b ≤ a → a ≡ larger a b
-unfolding larger
-larger_first {a} {b} h = simp (le-ltb a b h)
 
 pub within_all : {most : ℕ} {t : Totals} → is_within most t ≡ true → AtMost most t
 unfolding is_within largest
@@ -109,19 +104,19 @@ within_small {most} {t} e few =
     }
 
 -- where the reading ends, no total is too large either
-pub over_small : (most : ℕ) (t : Totals) (s : List ℕ) → Small t → most ≤ 2 ^ 53 → {e : Ending} {t' : Totals} → stepped most t s ≡ Over e t' → Small t'
+pub over_small : (most : ℕ) (t : Totals) (s : List ℕ) → Small t → most ≤ 2 ^ 53 → {y : Tally} → stepped most t s ≡ Break y → Small y.totals
 unfolding stepped added
-over_small most t s small few {e} {t'} q = go (met s) q
+over_small most t s small few {y} q = go (met s) q
   where
-    full : (b : Bool) (x : Stepped) (sum : Totals) → is_within most sum ≡ b → ((u : Totals) → x ≡ Over e u → is_within most sum ≡ true → Small u)
-        → cond b x (Over Full t) ≡ Over e t' → Small t'
-    full true x sum w f p = f t' p w
-    full false x sum w f p = let same : t ≡ t' = cc in subst Small same small
+    full : (b : Bool) (x : ControlFlow Tally Reached) (sum : Totals) → is_within most sum ≡ b → (x ≡ Break y → is_within most sum ≡ true → Small y.totals)
+        → cond b x (Break (tally Full t)) ≡ Break y → Small y.totals
+    full true x sum w f p = f p w
+    full false x sum w f p = let same : tally Full t ≡ y = cc in subst (λ (z : Tally). Small z.totals) same small
 
-    go : (m : Met) → added most t m ≡ Over e t' → Small t'
-    go (Field counts end) p =
-        full (is_within most (plus t counts)) (On (plus t counts) end) (plus t counts) refl
-        (λ u z w. let y : ◌≡◌ {A = ℕ} 0 1 = cc in absurd (omega arith)) p
-    go NoField p =
-        full (is_within most (plus t (counts_of fault))) (Over Malformed (plus t (counts_of fault))) (plus t (counts_of fault)) refl
-        (λ u z w. let same : plus t (counts_of fault) ≡ u = cc in subst Small same (within_small w few)) p
+    go : (m : Option Reached) → added most t m ≡ Break y → Small y.totals
+    go (Some m) p =
+        full (is_within most (plus t m.totals)) (Continue (reached (plus t m.totals) m.at)) (plus t m.totals) refl
+        (λ z w. let n : ◌≡◌ {A = ℕ} 0 1 = cc in absurd (omega arith)) p
+    go None p =
+        full (is_within most (plus t (counts_of fault))) (Break (tally Malformed (plus t (counts_of fault)))) (plus t (counts_of fault)) refl
+        (λ z w. let same : tally Malformed (plus t (counts_of fault)) ≡ y = cc in subst (λ (x : Tally). Small x.totals) same (within_small w few)) p

@@ -1,17 +1,15 @@
 -- The counts of one field, from the loop over its variables to the definitions of what it adds. Assumes nothing.
-use Prim.Native.Nat.{ℕ, zero, suc, ◌+◌, ◌*◌, ◌<◌, ◌≤◌}
+use Prim.Native.Nat.{ℕ, zero, suc, ◌+◌, ◌<◌, ◌≤◌}
 use mathlib.Core.Path.{◌≡◌, refl, sym, ap, ◌∙◌}
 use mathlib.Core.Bool.{Bool, true, false, not, ◌&&◌, cond}
 use mathlib.Core.List.{List}
 use native.Mathlib.Numerals.{add-one}
 use native.Mathlib.Omega.{arith}
 use lib.Dec.{eqb}
-use lib.Ieee.{Float}
+use mir.Val.{bool_byte}
 use lib.ListN.{length, get_or, take}
-use lib.Seq.{length-take-le}
+use Rattle.std.specs.Prelude.{Option, Some, None, Err, Ok}
 use Rattle.meaning.specs.Free.{is_free}
-use Rattle.field.specs.declared.Checked.{Checked}
-use Rattle.field.specs.declared.Checked.TheVariants.{Passed, Failed}
 use Rattle.field.specs.declared.Grade.{Grade}
 use Rattle.field.specs.declared.Refusal.{Refusal}
 use Rattle.field.specs.declared.Grade.TheVariants.{Exact, Inexact}
@@ -21,18 +19,18 @@ use Rattle.field.specs.Table.{tested}
 use Rattle.field.specs.Tests.{standard_tests}
 use Rattle.run.specs.Run.{closure}
 use Rattle.records.specs.Told.{Told, field_told, parsed}
-use Rattle.records.specs.Parsing.{answer_of, Parses}
+use Rattle.records.specs.Parsing.{front, answer_of, told_by, SameLent, Room, Parses}
+use Rattle.records.specs.declared.parsing.Lists.{Lists}
 use Rattle.records.specs.declared.parsing.Parsed.{Parsed}
-use Rattle.records.specs.declared.parsing.Parsed.TheVariants.{Field as Found, Malformed as Refused}
-use Rattle.records.proofs.Laid.{Within}
+use Rattle.records.proofs.Laid.{Within, laid_lengths}
 use Rattle.records.proofs.Front.{parsed_within, field_whole, field_fronts}
-use Rattle.answering.proofs.Answers.{found_counted, front_field}
+use Rattle.answering.specs.Answer.{front_field}
 use Rattle.tally.specs.Pieces.{field, fault, one, count_to, has_passed, accepted, is_read, values_of, of_read, is_forced_to}
-use Rattle.tally.specs.Tally.{totals, counts_of, met_of, met, Small}
-use Rattle.tally.specs.Counting.{fates, fates_of, with_fates, read_counts, checked_counts, field_counts, Few, Lends, SmallMet, found, malformed}
+use Rattle.tally.specs.Tally.{totals, none, counts_of, reached, met_of, met, Small}
+use Rattle.tally.specs.Counting.{fates, fates_of, with_fates, read_counts, checked_counts, field_counts, Kept, SmallMet, found, malformed}
 use Rattle.tally.specs.declared.Totals.{Totals}
-use Rattle.tally.specs.declared.Met.TheVariants.{Field as Met-Field, Malformed}
 use Rattle.tally.specs.declared.counting.Fates.{Fates}
+use Rattle.field.specs.Answers.{Answer, passed}
 
 -- ---- the loop over the variables
 
@@ -48,6 +46,17 @@ count_few p (suc n) = omega (arith, count_few p n, one_few (p n))
 count_next : (p : ℕ → Bool) (i : ℕ) → count_to p (i + 1) ≡ count_to p i + one (p i)
 unfolding count_to
 count_next p i = ap (count_to p) (add-one i)
+
+-- a test as a number
+pub bit_one : (b : Bool) → bool_byte b ≡ one b
+bit_one true = refl
+bit_one false = refl
+
+pub bit_few : (b : Bool) {d : ℕ} → d ≡ bool_byte b → d ≤ 1
+bit_few b e = omega (arith, e, bit_one b, one_few b)
+
+forced_at : (v : ℕ) {first last first' last' : ℕ} → first ≡ first' → last ≡ last' → one (eqb first 2 && eqb last v) ≡ one (eqb first' 2 && eqb last' v)
+forced_at v a b = rw (a, b)
 
 -- the first i variables are counted
 pub record CountedTo (start values : List ℕ) (g z o f i : ℕ) : Type 0 where
@@ -75,16 +84,16 @@ module _ {start values : List ℕ} {g z o f i : ℕ} (now : CountedTo start valu
   pub count_free : f ≤ i
   count_free = omega (arith, now.free, count_few (is_free values) i)
 
-  pub count_turn : {d₁ d₂ d₃ d₄ : ℕ} → i < length start → d₁ ≡ one (not (eqb (get_or start i 0) 2)) → d₂ ≡ one (eqb (get_or start i 0) 2 && eqb (get_or values i 0) 0)
-      → d₃ ≡ one (eqb (get_or start i 0) 2 && eqb (get_or values i 0) 1) → d₄ ≡ one (eqb (get_or values i 0) 2)
+  pub count_turn : {first last d₁ d₂ d₃ d₄ : ℕ} → i < length start → first ≡ get_or start i 0 → last ≡ get_or values i 0 → d₁ ≡ bool_byte (not (eqb first 2))
+      → d₂ ≡ one (eqb first 2 && eqb last 0) → d₃ ≡ one (eqb first 2 && eqb last 1) → d₄ ≡ bool_byte (eqb last 2)
       → CountedTo start values (g + d₁) (z + d₂) (o + d₃) (f + d₄) (i + 1)
   unfolding is_forced_to
-  count_turn h e₁ e₂ e₃ e₄ = record {
+  count_turn h a b e₁ e₂ e₃ e₄ = record {
     within = omega arith;
-    given = omega (arith, now.given, e₁, count_next (λ j. not (is_free start j)) i);
-    zero = omega (arith, now.zero, e₂, count_next (is_forced_to 0 start values) i);
-    one = omega (arith, now.one, e₃, count_next (is_forced_to 1 start values) i);
-    free = omega (arith, now.free, e₄, count_next (is_free values) i);
+    given = omega (arith, now.given, e₁ ∙ bit_one _ ∙ ap (λ (x : ℕ). one (not (eqb x 2))) a, count_next (λ j. not (is_free start j)) i);
+    zero = omega (arith, now.zero, e₂ ∙ forced_at 0 a b, count_next (is_forced_to 0 start values) i);
+    one = omega (arith, now.one, e₃ ∙ forced_at 1 a b, count_next (is_forced_to 1 start values) i);
+    free = omega (arith, now.free, e₄ ∙ bit_one _ ∙ ap (λ (x : ℕ). one (eqb x 2)) b, count_next (is_free values) i);
   }
 
   pub count_done : length start ≤ i → fates g z o f ≡ fates_of start values (length start)
@@ -95,23 +104,27 @@ module _ {start values : List ℕ} {g z o f i : ℕ} (now : CountedTo start valu
 
 -- ---- a field that is read
 
-module _ (start values : List ℕ) {grade : Grade} {d : Fates} (e : d ≡ fates_of start values (length start)) where
-  pub read_exact : grade ≡ Exact → totals 1 1 0 0 d.given d.zero d.one d.free ≡ read_counts grade start values
+module _ (start values : List ℕ) {grade : Grade} {d : Fates} {n : Totals} (e : d ≡ fates_of start values (length start)) (zeros : n ≡ none) where
+  pub read_exact : grade ≡ Exact → totals 1 1 n.inexact n.refused d.given d.zero d.one d.free ≡ read_counts grade start values
   unfolding read_counts with_fates
-  read_exact g = rw (g, e)
+  read_exact g = rw (g, e, zeros)
 
-  pub read_inexact : grade ≡ Inexact → totals 1 0 1 0 d.given d.zero d.one d.free ≡ read_counts grade start values
+  pub read_inexact : grade ≡ Inexact → totals 1 n.exact 1 n.refused d.given d.zero d.one d.free ≡ read_counts grade start values
   unfolding read_counts with_fates
-  read_inexact g = rw (g, e)
+  read_inexact g = rw (g, e, zeros)
+
+pub refused_one : {n : Totals} → n ≡ none → totals n.read n.exact n.inexact 1 n.given n.zero n.one n.free ≡ counts_of fault
+unfolding counts_of of_read is_read
+refused_one e = rw e
 
 -- ---- the counts of a field
 
 module _ (F : Field) (s : List ℕ) {r : Totals} where
-  pub counts_read : {g : Grade} {v : List ℕ} → (tested (standard_tests F s) ≡ Passed) × (g ≡ grade_of F) × (v ≡ closure F s) → r ≡ read_counts g s v → r ≡ field_counts F s
+  pub counts_read : {g : Grade} {v : List ℕ} → (tested (standard_tests F s) ≡ passed) × (g ≡ grade_of F) × (v ≡ closure F s) → r ≡ read_counts g s v → r ≡ field_counts F s
   unfolding field_counts checked_counts
   counts_read is e = rw is.0 (e ∙ rw (is.1, is.2))
 
-  pub counts_refused : {refusal : Refusal} → tested (standard_tests F s) ≡ Failed refusal → r ≡ counts_of fault → r ≡ field_counts F s
+  pub counts_refused : {refusal : Refusal} → tested (standard_tests F s) ≡ Err refusal → r ≡ counts_of fault → r ≡ field_counts F s
   unfolding field_counts checked_counts
   counts_refused is e = rw is e
 
@@ -127,48 +140,47 @@ pub field_counts_lem : (t : Told) → length t.start ≡ length t.linear → fie
 unfolding field_counts checked_counts grade_of has_passed counts_of of_read is_read accepted values_of
 field_counts_lem t e = by (tested (standard_tests (field_told t) t.start))
   where
-    by : (k : Checked) → checked_counts k (field_told t) t.start
+    by : (k : Answer Unit) → checked_counts k (field_told t) t.start
         ≡ totals (cond (has_passed k) 1 0) (cond (has_passed k) (one (is_exact_of (field_told t))) 0) (cond (has_passed k) (one (not (is_exact_of (field_told t)))) 0)
         (one (not (has_passed k))) (cond (has_passed k) (count_to (λ i. not (is_free t.start i)) (length t.linear)) 0)
         (cond (has_passed k) (count_to (is_forced_to 0 t.start (closure (field_told t) t.start)) (length t.linear)) 0)
         (cond (has_passed k) (count_to (is_forced_to 1 t.start (closure (field_told t) t.start)) (length t.linear)) 0)
         (cond (has_passed k) (count_to (is_free (closure (field_told t) t.start)) (length t.linear)) 0)
-    by Passed = graded_counts t.start (closure (field_told t) t.start) (length t.linear) e (is_exact_of (field_told t))
-    by (Failed r) = refl
+    by (Ok x) = graded_counts t.start (closure (field_told t) t.start) (length t.linear) e (is_exact_of (field_told t))
+    by (Err r) = refl
 
 -- ---- the field at the front
 
-module _ {s : List ℕ} {p p' : Told} {r : Parsed} (done : Parses s p r p') where
-  pub met_field : {n m end : ℕ} {counts : Totals} → r ≡ Found n m end → counts ≡ field_counts (front_field n m p') (take n p'.start) → Met-Field counts end ≡ met s
+-- the lists that were parsed into
+pub parse_keeps : {s : List ℕ} {l l' : Lists} {r : Option Parsed} → Room (told_by l) → SameLent l l' → Parses s (told_by l) r (told_by l') → Kept l l'
+parse_keeps {s} room same done =
+    let long = laid_lengths (parsed_within s) room in
+    record {
+      same_lent = same;
+      linear_long = ap (λ (p : Told). length p.linear) done.lists ∙ long.linear;
+      rows_long = ap (λ (p : Told). length p.rows) done.lists ∙ long.rows;
+      cols_long = ap (λ (p : Told). length p.cols) done.lists ∙ long.cols;
+      quad_long = ap (λ (p : Told). length p.quad) done.lists ∙ long.quad;
+      start_long = ap (λ (p : Told). length p.start) done.lists ∙ long.start;
+    }
+
+module _ {s : List ℕ} {p p' : Told} {r : Option Parsed} (done : Parses s p r p') where
+  pub met_field : {n m end : ℕ} {counts : Totals} → r ≡ Some (front n m end) → counts ≡ field_counts (front_field n m p') (take n p'.start) → Some (reached counts end) ≡ met s
   unfolding met met_of
   met_field {end = end} {counts = counts} e same =
       let at = field_fronts done e in
       let t = (parsed s).told in
       let is : counts ≡ counts_of (field t) =
       same ∙ rw (at.linear, at.rows, at.cols, at.quad, at.start) (field_counts_lem t at.within.start) in
-      ap (λ (d : Totals). Met-Field d end) is ∙ sym (ap met_of (field_whole done e))
+      ap (λ (d : Totals). Some (reached d end)) is ∙ sym (ap met_of (field_whole done e))
 
-  pub met_malformed : r ≡ Refused → Malformed ≡ met s
+  pub met_malformed : r ≡ None → None ≡ met s
   unfolding met met_of
   met_malformed e = by (parsed s).whole (sym e ∙ done.answer)
     where
-      by : (b : Bool) → Refused ≡ answer_of b (parsed s).told (parsed s).end → Malformed ≡ cond b (Met-Field (counts_of (field (parsed s).told)) (parsed s).end) Malformed
+      by : (b : Bool) → None ≡ answer_of b (parsed s).told (parsed s).end → None ≡ cond b (Some (reached (counts_of (field (parsed s).told)) (parsed s).end)) None
       by true q = let z : ◌≡◌ {A = ℕ} 0 1 = cc in absurd (omega arith)
       by false q = refl
-
-  pub front_lends : {n m end : ℕ} (values : List ℕ) (f : List Float) (u : List ℕ) → r ≡ Found n m end → Few (length values) (length f) (length u)
-      → Lends (front_field n m p') (take n p'.start) (length (take n values)) (length (take (8 * n + 4 * m + 16) f)) (length (take (16 * n + 8 * m + 16) u))
-  front_lends {n} {m} values f u e few =
-      let at = found_counted done e in
-      record {
-        few_variables = omega (arith, at.linear, at.few_variables);
-        start_long = omega (arith, at.start, at.linear);
-        values_long = omega (arith, at.linear, length-take-le n values (omega (arith, at.few_variables, few.values)));
-        floats =
-            omega (arith, at.linear, at.quad, length-take-le (8 * n + 4 * m + 16) f (omega (arith, at.few_variables, at.few_entries, few.floats)));
-        words =
-            omega (arith, at.linear, at.quad, length-take-le (16 * n + 8 * m + 16) u (omega (arith, at.few_variables, at.few_entries, few.words)));
-      }
 
 -- ---- what one field adds is little
 
@@ -211,6 +223,6 @@ pub met_small : (s : List ℕ) → SmallMet (met s)
 unfolding met met_of
 met_small s = by (parsed s).whole
   where
-    by : (b : Bool) → SmallMet (cond b (Met-Field (counts_of (field (parsed s).told)) (parsed s).end) Malformed)
+    by : (b : Bool) → SmallMet (cond b (Some (reached (counts_of (field (parsed s).told)) (parsed s).end)) None)
     by true = found (small_field (parsed s).told (parsed_within s))
     by false = malformed

@@ -8,15 +8,17 @@ use native.Mathlib.Omega.{arith}
 use borrow.Author.Tests.{lt-ltb}
 use lib.Dec.{leb-suc-suc}
 use lib.ListN.{length, drop, length-drop}
+use Rattle.std.specs.Prelude.{Some, None}
+use Rattle.std.specs.declared.ops.ControlFlow.{ControlFlow}
+use Rattle.std.specs.declared.ops.ControlFlow.TheVariants.{Continue, Break}
 use Rattle.records.specs.Told.{Told, parsed}
 use Rattle.records.proofs.Front.{parsed_ends}
 use Rattle.tally.specs.Pieces.{Piece, field, fault, followed, pieces_from, pieces, reads, exacts, inexacts, refusals, givens, zeros, ones, frees, sum_of}
-use Rattle.tally.specs.Tally.{totals_of, is_within, counted, has_fault, ending_of, Tally, tally, tally_on, plus, counts_of, met_of, met, added, stepped}
+use Rattle.tally.specs.Tally.{totals_of, is_within, counted, has_fault, ending_of, reached, tally, tally_on, plus, counts_of, met_of, met, added, stepped}
 use Rattle.tally.specs.declared.Totals.{Totals}
 use Rattle.tally.specs.declared.Ending.TheVariants.{Whole, Malformed, Full}
-use Rattle.tally.specs.declared.Met.TheVariants.{Field, Malformed as NoField}
-use Rattle.tally.specs.declared.Stepped.{Stepped}
-use Rattle.tally.specs.declared.Stepped.TheVariants.{On, Over}
+use Rattle.tally.specs.declared.Reached.{Reached}
+use Rattle.tally.specs.declared.Tally.{Tally}
 
 -- ---- sums
 
@@ -88,25 +90,26 @@ pieces_front (b ∷ s) h = go (parsed (b ∷ s)).whole refl
 
 -- ---- a step that goes on
 
-module _ (most : ℕ) (t : Totals) (s : List ℕ) {t' : Totals} {end : ℕ} (e : stepped most t s ≡ On t' end) where
+module _ (most : ℕ) (t : Totals) (s : List ℕ) {t' : Totals} {end : ℕ} (e : stepped most t s ≡ Continue (reached t' end)) where
   -- it went over a field, and no total passes the limit
   pub step_on : ((parsed s).whole ≡ true) × (end ≡ (parsed s).end) × (t' ≡ plus t (counts_of (field (parsed s).told))) × (is_within most t' ≡ true)
   unfolding stepped met met_of added
   step_on = go (parsed s).whole e
     where
       within : (b : Bool) → is_within most (plus t (counts_of (field (parsed s).told))) ≡ b
-          → cond b (On (plus t (counts_of (field (parsed s).told))) (parsed s).end) (Over Full t) ≡ On t' end
+          → cond b (Continue (reached (plus t (counts_of (field (parsed s).told))) (parsed s).end)) (Break (tally Full t)) ≡ Continue (reached t' end)
           → (end ≡ (parsed s).end) × (t' ≡ plus t (counts_of (field (parsed s).told))) × (is_within most t' ≡ true)
       within true w q =
-          let same : t' ≡ plus t (counts_of (field (parsed s).told)) = cc in
-          (cc, same, ap (is_within most) same ∙ w)
+          let both : reached (plus t (counts_of (field (parsed s).told))) (parsed s).end ≡ reached t' end = cc in
+          let same : t' ≡ plus t (counts_of (field (parsed s).told)) = sym (ap (λ (r : Reached). r.totals) both) in
+          (sym (ap (λ (r : Reached). r.at) both), same, ap (is_within most) same ∙ w)
       within false w q = let z : ◌≡◌ {A = ℕ} 0 1 = cc in absurd (omega arith)
 
-      fails : (b : Bool) → cond b (Over Malformed (plus t (counts_of fault))) (Over Full t) ≡ On t' end → ⊥
+      fails : (b : Bool) → cond b (Break (tally Malformed (plus t (counts_of fault)))) (Break (tally Full t)) ≡ Continue (reached t' end) → ⊥
       fails true q = let z : ◌≡◌ {A = ℕ} 0 1 = cc in omega arith
       fails false q = let z : ◌≡◌ {A = ℕ} 0 1 = cc in omega arith
 
-      go : (w : Bool) → added most t (cond w (Field (counts_of (field (parsed s).told)) (parsed s).end) NoField) ≡ On t' end
+      go : (w : Bool) → added most t (cond w (Some (reached (counts_of (field (parsed s).told)) (parsed s).end)) None) ≡ Continue (reached t' end)
           → (w ≡ true) × (end ≡ (parsed s).end) × (t' ≡ plus t (counts_of (field (parsed s).told))) × (is_within most t' ≡ true)
       go true q = let rest = within (is_within most (plus t (counts_of (field (parsed s).told)))) refl q in (refl, rest.0, rest.1, rest.2)
       go false q = absurd (fails (is_within most (plus t (counts_of fault))) q)
@@ -146,28 +149,28 @@ pub tally_none : (most : ℕ) (t : Totals) → tally_on most t [] ≡ tally Whol
 unfolding tally_on pieces pieces_from tally_pieces
 tally_none most t = of_none most t
 
-abbrev pub after_step : (Totals → List ℕ → Tally) → List ℕ → Stepped → Tally
-after_step next s (On t end) = next t (drop end s)
-after_step next s (Over e t) = tally e t
+abbrev pub after_step : (Totals → List ℕ → Tally) → List ℕ → ControlFlow Tally Reached → Tally
+after_step next s (Continue r) = next r.totals (drop r.at s)
+after_step next s (Break y) = y
 
 module _ (most : ℕ) (t : Totals) (s : List ℕ) where
   behind_field : (d : Told) (end : ℕ)
-      → tally_pieces most t (field d ∷ pieces (drop end s)) ≡ after_step (λ u r. tally_pieces most u (pieces r)) s (added most t (Field (counts_of (field d)) end))
+      → tally_pieces most t (field d ∷ pieces (drop end s)) ≡ after_step (λ u r. tally_pieces most u (pieces r)) s (added most t (Some (reached (counts_of (field d)) end)))
   unfolding added
   behind_field d end = go (is_within most (plus t (counts_of (field d)))) refl
     where
       go : (b : Bool) → is_within most (plus t (counts_of (field d))) ≡ b
           → tally_pieces most t (field d ∷ pieces (drop end s))
-          ≡ after_step (λ u r. tally_pieces most u (pieces r)) s (cond b (On (plus t (counts_of (field d))) end) (Over Full t))
+          ≡ after_step (λ u r. tally_pieces most u (pieces r)) s (cond b (Continue (reached (plus t (counts_of (field d))) end)) (Break (tally Full t)))
       go true e = of_field most t d (pieces (drop end s)) e
       go false e = of_full most t (field d) (pieces (drop end s)) e
 
-  at_fault : tally_pieces most t (fault ∷ []) ≡ after_step (λ u r. tally_pieces most u (pieces r)) s (added most t NoField)
+  at_fault : tally_pieces most t (fault ∷ []) ≡ after_step (λ u r. tally_pieces most u (pieces r)) s (added most t None)
   unfolding added
   at_fault = go (is_within most (plus t (counts_of fault))) refl
     where
       go : (b : Bool) → is_within most (plus t (counts_of fault)) ≡ b
-          → tally_pieces most t (fault ∷ []) ≡ after_step (λ u r. tally_pieces most u (pieces r)) s (cond b (Over Malformed (plus t (counts_of fault))) (Over Full t))
+          → tally_pieces most t (fault ∷ []) ≡ after_step (λ u r. tally_pieces most u (pieces r)) s (cond b (Break (tally Malformed (plus t (counts_of fault)))) (Break (tally Full t)))
       go true e = of_fault most t e
       go false e = of_full most t fault [] e
 
@@ -176,6 +179,6 @@ module _ (most : ℕ) (t : Totals) (s : List ℕ) where
   tally_step h = ap (tally_pieces most t) (pieces_front s h) ∙ go (parsed s).whole
     where
       go : (w : Bool) → tally_pieces most t (cond w (field (parsed s).told ∷ pieces (drop (parsed s).end s)) (fault ∷ []))
-          ≡ after_step (λ u r. tally_pieces most u (pieces r)) s (added most t (cond w (Field (counts_of (field (parsed s).told)) (parsed s).end) NoField))
+          ≡ after_step (λ u r. tally_pieces most u (pieces r)) s (added most t (cond w (Some (reached (counts_of (field (parsed s).told)) (parsed s).end)) None))
       go true = behind_field (parsed s).told (parsed s).end
       go false = at_fault

@@ -10,9 +10,8 @@ use borrow.Author.Tests.{eqb-false, ne_eqb, lt-ltb, le-ltb}
 use lib.Dec.{eqb, ltb}
 use lib.ListN.{length, get_or, drop, length-append}
 use lib.Seq.{drop_at}
+use Rattle.std.specs.declared.ops.ControlFlow.TheVariants.{Continue, Break}
 use Rattle.meaning.specs.Free.{is_free}
-use Rattle.field.specs.declared.Checked.{Checked}
-use Rattle.field.specs.declared.Checked.TheVariants.{Passed, Failed}
 use Rattle.field.specs.Grade.{is_exact_of}
 use Rattle.field.specs.Table.{tested}
 use Rattle.field.specs.Tests.{standard_tests, Sound}
@@ -25,14 +24,15 @@ use Rattle.records.specs.WellFormed.{spelled, Spells}
 use Rattle.records.proofs.Front.{parsed_ends}
 use Rattle.records.proofs.Means.{spelled_parsed, parsed_means}
 use Rattle.tally.specs.Pieces.{Piece, field, fault, followed, pieces_from, pieces, one, count_to, has_passed, accepted, values_of, of_read, is_read, reads, exacts, inexacts, refusals, is_forced_to, givens, zeros, ones, frees, variables, sum_of}
-use Rattle.tally.specs.Tally.{totals, none, totals_of, plus, counts_of, AtMost, is_within, counted, Counts, has_fault, ending_of, tally, tally_on, tally_of, stepped}
+use Rattle.tally.specs.Tally.{none, totals_of, plus, counts_of, AtMost, is_within, counted, Counts, has_fault, ending_of, reached, tally, tally_on, tally_of, stepped}
 use Rattle.tally.specs.Text.{rate_text}
 use Rattle.tally.specs.declared.Totals.{Totals}
 use Rattle.tally.specs.declared.Ending.{Ending}
 use Rattle.tally.specs.declared.Ending.TheVariants.{Whole, Malformed, Full}
-use Rattle.tally.specs.declared.Stepped.TheVariants.{On, Over}
 use Rattle.tally.proofs.Adds.{within_all, all_within}
 use Rattle.tally.proofs.Sums.{pieces_front, step_on, step_moves, after_step, tally_step}
+use Rattle.field.specs.Answers.{Answer, passed}
+use Rattle.std.specs.Prelude.{Err, Ok}
 
 -- ---- sums
 
@@ -94,10 +94,10 @@ unfolding count_to
 all_fates s v kept small zero = refl
 all_fates s v kept small (suc n) = omega (arith, all_fates s v kept small n, one_fate s v n (kept n) (small n))
 
-has_passed_lem : (k : Checked) → has_passed k ≡ true → k ≡ Passed
+has_passed_lem : (k : Answer Unit) → has_passed k ≡ true → k ≡ passed
 unfolding has_passed
-has_passed_lem Passed e = refl
-has_passed_lem (Failed r) e = absurd (true≢false (sym e))
+has_passed_lem (Ok x) e = refl
+has_passed_lem (Err r) e = absurd (true≢false (sym e))
 
 -- a field that is read is sound
 pub accepted_sound : (t : Told) → accepted t ≡ true → Sound (field_told t) t.start
@@ -331,15 +331,15 @@ full_exactly most s = (told rest_of.rest rest_of.front rest_of.passes, needed re
 -- ---- the public step
 
 -- Theorem. A step that goes on leaves the tally of what stands behind its field, with the totals so far.
-pub step_goes_on : (most : ℕ) (t : Totals) (s : List ℕ) {t' : Totals} {end : ℕ} → stepped most t s ≡ On t' end → tally_on most t s ≡ tally_on most t' (drop end s)
+pub step_goes_on : (most : ℕ) (t : Totals) (s : List ℕ) {t' : Totals} {end : ℕ} → stepped most t s ≡ Continue (reached t' end) → tally_on most t s ≡ tally_on most t' (drop end s)
 step_goes_on most t s {t'} {end} e =
     let moved = step_moves most t s e in
     tally_step most t s (omega (arith, moved.0, moved.1)) ∙ ap (after_step (tally_on most) s) e
 
 -- Theorem. A step that does not go on gives the tally of the whole input.
-pub step_ends : (most : ℕ) (t : Totals) (s : List ℕ) {ending : Ending} {t' : Totals} → 0 < length s → stepped most t s ≡ Over ending t' → tally_on most t s ≡ tally ending t'
+pub step_ends : (most : ℕ) (t : Totals) (s : List ℕ) {ending : Ending} {t' : Totals} → 0 < length s → stepped most t s ≡ Break (tally ending t') → tally_on most t s ≡ tally ending t'
 step_ends most t s some e = tally_step most t s some ∙ ap (after_step (tally_on most) s) e
 
 -- Theorem. A step that goes on leaves no total above the limit.
-pub step_within : (most : ℕ) (t : Totals) (s : List ℕ) {t' : Totals} {end : ℕ} → stepped most t s ≡ On t' end → AtMost most t'
+pub step_within : (most : ℕ) (t : Totals) (s : List ℕ) {t' : Totals} {end : ℕ} → stepped most t s ≡ Continue (reached t' end) → AtMost most t'
 step_within most t s e = within_all (step_on most t s e).3

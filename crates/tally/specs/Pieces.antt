@@ -1,13 +1,12 @@
 -- The fields of an input, and what each adds to the totals, each total by a definition of its own (rules 20.1 to 20.5). Assumes nothing.
-use Rattle.std.specs.Prelude.{ℕ, zero, suc, ◌+◌, Bool, true, false, not, ◌&&◌, cond, List, [], ◌∷◌, eqb, length, get_or, drop}
+use Rattle.std.specs.Prelude.{ℕ, zero, suc, ◌+◌, Bool, true, false, not, ◌&&◌, cond, List, [], ◌∷◌, eqb, length, get_or, drop, Err, Ok}
 use Rattle.meaning.specs.Free.{is_free}
-use Rattle.field.specs.declared.Checked.{Checked}
-use Rattle.field.specs.declared.Checked.TheVariants.{Passed, Failed}
 use Rattle.field.specs.Grade.{is_exact_of}
 use Rattle.field.specs.Table.{tested}
 use Rattle.field.specs.Tests.{standard_tests}
 use Rattle.run.specs.Run.{closure}
 use Rattle.records.specs.Told.{Told, field_told, Outcome, parsed}
+use Rattle.field.specs.Answers.{Answer, passed}
 
 -- ---- the fields
 
@@ -42,9 +41,9 @@ count_to p zero = 0
 count_to p (suc n) = count_to p n + one (p n)
 
 -- Whether no test failed.
-unfoldable pub has_passed : Checked → Bool
-has_passed Passed = true
-has_passed (Failed r) = false
+unfoldable pub has_passed : Answer Unit → Bool
+has_passed (Ok x) = true
+has_passed (Err r) = false
 
 -- the tests 1 to 6 pass
 unfoldable pub accepted : Told → Bool

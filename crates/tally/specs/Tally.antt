@@ -1,14 +1,14 @@
 -- The tally of an input: which fields it counts, their totals, and how the reading ends (rule 20.8). Assumes nothing.
-use Rattle.std.specs.Prelude.{ℕ, ◌+◌, ◌^◌, ◌≤◌, ◌≡◌, Bool, true, false, cond, List, [], ◌∷◌, ◌++◌, leb, ltb, length}
+use Rattle.std.specs.Prelude.{ℕ, ◌+◌, ◌^◌, ◌≤◌, ◌≡◌, Bool, true, false, cond, List, [], ◌∷◌, ◌++◌, leb, ltb, length, Option, Some, None}
 use Rattle.records.specs.Told.{Outcome, parsed}
 use Rattle.tally.specs.Pieces.{Piece, field, fault, pieces, reads, exacts, inexacts, refusals, givens, zeros, ones, frees, sum_of}
 use Rattle.tally.specs.declared.Totals.{Totals}
 use Rattle.tally.specs.declared.Ending.{Ending}
 use Rattle.tally.specs.declared.Ending.TheVariants.{Whole, Malformed, Full}
-use Rattle.tally.specs.declared.Met.{Met}
-use Rattle.tally.specs.declared.Met.TheVariants.{Field, Malformed as NoField}
-use Rattle.tally.specs.declared.Stepped.{Stepped}
-use Rattle.tally.specs.declared.Stepped.TheVariants.{On, Over}
+use Rattle.tally.specs.declared.Tally.{Tally}
+use Rattle.tally.specs.declared.Reached.{Reached}
+use Rattle.std.specs.declared.ops.ControlFlow.{ControlFlow}
+use Rattle.std.specs.declared.ops.ControlFlow.TheVariants.{Continue, Break}
 
 -- ---- totals
 
@@ -80,11 +80,6 @@ has_fault (fault ∷ ps) = true
 unfoldable pub ending_of : ℕ → Totals → List Piece → Ending
 ending_of most t ps = cond (ltb (length (counted most t ps)) (length ps)) Full (cond (has_fault ps) Malformed Whole)
 
--- How the reading ends, and the totals.
-pub record Tally : Type 0 where
-  pub ending : Ending
-  pub totals : Totals
-
 -- A tally from its two parts.
 abbrev pub tally : Ending → Totals → Tally
 tally e t = record { ending = e; totals = t }
@@ -106,19 +101,23 @@ pub record Counts (most : ℕ) (ps cs : List Piece) : Type 0 where
 
 -- ---- a step
 
--- what stands at the front of s: a field's counts and the index behind it, or what is malformed
-unfoldable pub met_of : Outcome → Met
-met_of o = cond o.whole (Field (counts_of (field o.told)) o.end) NoField
+-- How far a reading has come, made of the totals and an index.
+abbrev pub reached : Totals → ℕ → Reached
+reached t at = record { totals = t; at = at }
+
+-- what stands at the front of s: a field's counts and the index behind it, or none where it is malformed
+unfoldable pub met_of : Outcome → Option Reached
+met_of o = cond o.whole (Some (reached (counts_of (field o.told)) o.end)) None
 
 -- What stands at the front of an input.
-unfoldable pub met : List ℕ → Met
+unfoldable pub met : List ℕ → Option Reached
 met s = met_of (parsed s)
 
 -- the totals with it, where none passes the limit
-unfoldable pub added : ℕ → Totals → Met → Stepped
-added most t (Field counts end) = cond (is_within most (plus t counts)) (On (plus t counts) end) (Over Full t)
-added most t NoField = cond (is_within most (plus t (counts_of fault))) (Over Malformed (plus t (counts_of fault))) (Over Full t)
+unfoldable pub added : ℕ → Totals → Option Reached → ControlFlow Tally Reached
+added most t (Some m) = cond (is_within most (plus t m.totals)) (Continue (reached (plus t m.totals) m.at)) (Break (tally Full t))
+added most t None = cond (is_within most (plus t (counts_of fault))) (Break (tally Malformed (plus t (counts_of fault)))) (Break (tally Full t))
 
 -- One step: what stands at the front is counted, or the reading ends.
-unfoldable pub stepped : ℕ → Totals → List ℕ → Stepped
+unfoldable pub stepped : ℕ → Totals → List ℕ → ControlFlow Tally Reached
 stepped most t s = added most t (met s)

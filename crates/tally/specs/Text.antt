@@ -1,7 +1,7 @@
 -- The text of a tally: one line of totals parted by spaces, and a refusal's line before it (rules 20.7 and 20.9). Assumes nothing.
 use Rattle.std.specs.Prelude.{ℕ, ◌+◌, ◌*◌, ◌/◌, ◌%◌, cond, List, [], ◌∷◌, ◌++◌, eqb}
 use Rattle.text.specs.Text.{decimal, space, newline, refused_text}
-use Rattle.tally.specs.Tally.{Tally}
+use Rattle.tally.specs.declared.Tally.{Tally}
 use Rattle.tally.specs.declared.Totals.{Totals}
 use Rattle.tally.specs.declared.Ending.{Ending}
 use Rattle.tally.specs.declared.Ending.TheVariants.{Whole, Malformed, Full}

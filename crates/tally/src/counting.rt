@@ -1,5 +1,5 @@
 // How many variables of a field are given, forced to 0, forced to 1 and free at the end.
-ghost use Rattle.std.specs.Prelude.{◌≡◌, not, ◌&&◌, ◌≤◌, eqb, length};
+ghost use Rattle.std.specs.Prelude.{◌≡◌, ◌&&◌, ◌≤◌, eqb, length};
 ghost use Rattle.tally.specs.Pieces.{one as one_of};
 ghost use Rattle.tally.specs.Counting.{fates_of};
 
@@ -12,26 +12,12 @@ pub struct Fates {
     pub free: u64,
 }
 
-fn equal(a: u8, b: u8) -> u64
-    ensures value { result ≡ one_of (eqb a b) }
-    ensures upper_bound { result ≤ 1 }
-{
-    if a == b { 1 } else { 0 }
-}
-
-fn different(a: u8, b: u8) -> u64
-    ensures value { result ≡ one_of (not (eqb a b)) }
-    ensures upper_bound { result ≤ 1 }
-{
-    if a == b { 0 } else { 1 }
-}
-
-// A variable that was free, and has the value.
+// One where the variable was free and has the value, and none elsewhere.
 fn forced(was: u8, is: u8, value: u8) -> u64
     ensures value { result ≡ one_of (eqb was 2 && eqb is value) }
     ensures upper_bound { result ≤ 1 }
 {
-    if was == 2 { equal(is, value) } else { 0 }
+    u64::from(was == 2 && is == value)
 }
 
 // Counts the variables of a field by what became of them.
@@ -44,15 +30,11 @@ pub fn count(start: &[u8], values: &[u8]) -> Fates
     let mut zero: u64 = 0;
     let mut one: u64 = 0;
     let mut free: u64 = 0;
-    let mut i: usize = 0;
-    while i < start.len() {
-        let was = start[i];
-        let is = values[i];
-        given += different(was, 2);
-        zero += forced(was, is, 0);
-        one += forced(was, is, 1);
-        free += equal(is, 2);
-        i += 1;
+    for (first, last) in start.iter().zip(values) {
+        given += u64::from(*first != 2);
+        zero += forced(*first, *last, 0);
+        one += forced(*first, *last, 1);
+        free += u64::from(*last == 2);
     }
     Fates {
         given,

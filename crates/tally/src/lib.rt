@@ -4,16 +4,18 @@
 mod counting;
 mod writing;
 
-ghost use Rattle.std.specs.Prelude.{◌≡◌, ◌≤◌, length};
-ghost use Rattle.field.specs.Field.{lent, given as given_field};
-ghost use Rattle.records.specs.Parsing.{lists_of, Room};
+ghost use Rattle.std.specs.Prelude.{◌≡◌, ◌≤◌, length, take};
+ghost use Rattle.field.specs.Field.{lent, given};
+ghost use Rattle.records.specs.Parsing.{told_by, Room};
+ghost use Rattle.answering.specs.Answer.{Fronted, front_field};
 ghost use Rattle.tally.specs.Pieces.{fault};
-ghost use Rattle.tally.specs.Tally.{none, larger as larger_of, largest as largest_of, is_within as is_within_of, plus as plus_of, counts_of, met, added, stepped, Small};
-ghost use Rattle.tally.specs.Counting.{Lends, read_counts, field_counts, Few, SmallMet};
+ghost use Rattle.tally.specs.Tally.{none, largest as largest_of, is_within as is_within_of, plus as plus_of, counts_of, met, added, stepped, Small};
+ghost use Rattle.tally.specs.Counting.{Lends, Kept, read_counts, field_counts, Few, SmallMet};
 
 use counting::count;
-use field::{Counted, Grade};
-use records::parsing::{Parsed, parse};
+use field::{Counted, FieldRef, Grade};
+use records::parsing::{Lists, Parsed, parse};
+use std::ops::ControlFlow;
 use text::put_bytes;
 pub use writing::write;
 
@@ -38,19 +40,22 @@ pub enum Ending {
     Full,
 }
 
-// What stands at the front of an input: a field, with what it adds and the index behind its ZZ, or what is malformed.
+// How a reading ended, and the totals of what was read.
 #[derive(Clone, Copy)]
-pub enum Met {
-    Field(Totals, usize),
-    Malformed,
+pub struct Tally {
+    pub ending: Ending,
+    pub totals: Totals,
 }
 
-// After a field: on behind it, or the end.
+// How far a reading has come: the totals, and the index behind what was read or how many bytes are held.
 #[derive(Clone, Copy)]
-pub enum Stepped {
-    On(Totals, usize),
-    Over(Ending, Totals),
+pub struct Reached {
+    pub totals: Totals,
+    pub at: usize,
 }
+
+// After a part of a reading: on from where it has come, or its tally.
+pub type Turn = ControlFlow<Tally, Reached>;
 
 // The totals before the first field.
 pub fn nothing() -> Totals
@@ -75,27 +80,17 @@ fn read_field(grade: Grade, start: &[u8], values: &[u8]) -> Totals
     ensures { result ≡ read_counts grade start.now values.now }
 {
     let fates = count(start, values);
+    let read = Totals {
+        read: 1,
+        given: fates.given,
+        zero: fates.zero,
+        one: fates.one,
+        free: fates.free,
+        ..nothing()
+    };
     match grade {
-        Grade::Exact => Totals {
-            read: 1,
-            exact: 1,
-            inexact: 0,
-            refused: 0,
-            given: fates.given,
-            zero: fates.zero,
-            one: fates.one,
-            free: fates.free,
-        },
-        Grade::Inexact => Totals {
-            read: 1,
-            exact: 0,
-            inexact: 1,
-            refused: 0,
-            given: fates.given,
-            zero: fates.zero,
-            one: fates.one,
-            free: fates.free,
-        },
+        Grade::Exact => Totals { exact: 1, ..read },
+        Grade::Inexact => Totals { inexact: 1, ..read },
     }
 }
 
@@ -103,93 +98,87 @@ fn refused_field() -> Totals
     ensures { result ≡ counts_of fault }
 {
     Totals {
-        read: 0,
-        exact: 0,
-        inexact: 0,
         refused: 1,
-        given: 0,
-        zero: 0,
-        one: 0,
-        free: 0,
+        ..nothing()
     }
 }
 
 // The closure works on a copy: the start values say which variables were given.
 fn count_field(
-    c: &[f64],
-    rows: &[u16],
-    cols: &[u16],
-    q: &[f64],
+    field: FieldRef,
     start: &[u8],
     values: &mut [u8],
     f: &mut [f64],
     u: &mut [u32],
 ) -> Totals
-    requires { Lends (lent c rows cols q) start.now (length values.old) (length f.old) (length u.old) }
-    ensures { result ≡ field_counts (given_field c rows cols q) start.now }
+    requires { Lends (lent field) start.now (length values.old) (length f.old) (length u.old) }
+    ensures { result ≡ field_counts (given field) start.now }
 {
     put_bytes(values, 0, start);
-    let answer = closure::closure(c, rows, cols, q, values, f, u);
+    let answer = closure::closure(field, values, f, u);
     match answer {
-        Counted::Counts(grade, _) => read_field(grade, start, values),
-        Counted::Refuses(_) => refused_field(),
+        Ok(Counted { grade, .. }) => read_field(grade, start, values),
+        Err(_) => refused_field(),
     }
 }
 
-// The field at the front of the bytes, with what it adds; the scratch is lent as far as the closure asks, so that a small field costs little.
-fn meet(
-    bytes: &[u8],
-    c: &mut [f64],
-    rows: &mut [u16],
-    cols: &mut [u16],
-    q: &mut [f64],
-    start: &mut [u8],
+// What the field at the front of the lists adds; the scratch is lent as far as the closure asks, so that a small field costs little.
+fn count_found(
+    lists: &Lists,
+    found: Parsed,
     values: &mut [u8],
     f: &mut [f64],
     u: &mut [u32],
-) -> Met
-    requires room { Room (lists_of c.old rows.old cols.old q.old start.old) }
+) -> Totals
+    requires fronted { Fronted found.variables found.entries (told_by lists.now) }
     requires few { Few (length values.old) (length f.old) (length u.old) }
-    ensures { result ≡ met bytes.now }
+    ensures { result ≡ field_counts (front_field found.variables found.entries (told_by lists.now)) (take found.variables lists.now.start.now) }
 {
-    let parsed = parse(bytes, c, rows, cols, q, start);
-    match parsed {
-        Parsed::Field {
-            variables: n,
-            entries: m,
-            end,
-        } => {
-            let floats = 8 * n + 4 * m + 16;
-            let words = 16 * n + 8 * m + 16;
-            let counts = count_field(
-                &c[..n],
-                &rows[..m],
-                &cols[..m],
-                &q[..m],
-                &start[..n],
-                &mut values[..n],
-                &mut f[..floats],
-                &mut u[..words],
-            );
-            Met::Field(counts, end)
-        }
-        Parsed::Malformed => Met::Malformed,
-    }
+    let n = found.variables;
+    let m = found.entries;
+    let floats = 8 * n + 4 * m + 16;
+    let words = 16 * n + 8 * m + 16;
+    count_field(
+        FieldRef {
+            c: &lists.c[..n],
+            rows: &lists.rows[..m],
+            cols: &lists.cols[..m],
+            q: &lists.q[..m],
+        },
+        &lists.start[..n],
+        &mut values[..n],
+        &mut f[..floats],
+        &mut u[..words],
+    )
 }
 
-fn larger(a: u64, b: u64) -> u64
-    ensures { result ≡ larger_of a b }
+// The field at the front of the bytes, with what it adds and the index behind its ZZ, or none where the bytes are malformed.
+fn meet(
+    bytes: &[u8],
+    lists: &mut Lists,
+    values: &mut [u8],
+    f: &mut [f64],
+    u: &mut [u32],
+) -> Option<Reached>
+    requires room { Room (told_by lists.old) }
+    requires few { Few (length values.old) (length f.old) (length u.old) }
+    ensures met { result ≡ met bytes.now }
+    ensures kept { Kept lists.old lists.new }
 {
-    if a < b { b } else { a }
+    let found = parse(bytes, lists)?;
+    let totals = count_found(lists, found, values, f, u);
+    Some(Reached {
+        totals,
+        at: found.end,
+    })
 }
 
 fn largest(t: Totals) -> u64
     ensures { result ≡ largest_of t }
 {
-    larger(
-        larger(larger(t.read, t.exact), larger(t.inexact, t.refused)),
-        larger(larger(t.given, t.zero), larger(t.one, t.free)),
-    )
+    let fields = t.read.max(t.exact).max(t.inexact.max(t.refused));
+    let variables = t.given.max(t.zero).max(t.one.max(t.free));
+    fields.max(variables)
 }
 
 fn is_within(t: Totals, most: u64) -> bool
@@ -216,25 +205,35 @@ fn plus(t: Totals, more: Totals) -> Totals
 }
 
 // The totals with one field more, unless one of them would pass `most`.
-fn add(found: Met, t: Totals, most: u64) -> Stepped
+fn add(found: Option<Reached>, t: Totals, most: u64) -> Turn
     requires small { Small t }
     requires small_met { SmallMet found }
     ensures { result ≡ added most t found }
 {
+    let full = ControlFlow::Break(Tally {
+        ending: Ending::Full,
+        totals: t,
+    });
     match found {
-        Met::Field(counts, end) => {
-            let sum = plus(t, counts);
-            if is_within(sum, most) {
-                return Stepped::On(sum, end);
+        Some(field) => {
+            let totals = plus(t, field.totals);
+            if is_within(totals, most) {
+                return ControlFlow::Continue(Reached {
+                    totals,
+                    at: field.at,
+                });
             }
-            Stepped::Over(Ending::Full, t)
+            full
         }
-        Met::Malformed => {
-            let sum = plus(t, refused_field());
-            if is_within(sum, most) {
-                return Stepped::Over(Ending::Malformed, sum);
+        None => {
+            let totals = plus(t, refused_field());
+            if is_within(totals, most) {
+                return ControlFlow::Break(Tally {
+                    ending: Ending::Malformed,
+                    totals,
+                });
             }
-            Stepped::Over(Ending::Full, t)
+            full
         }
     }
 }
@@ -242,22 +241,19 @@ fn add(found: Met, t: Totals, most: u64) -> Stepped
 // One field more: the totals with it and the index behind its ZZ, or how the reading ends.
 pub fn step(
     bytes: &[u8],
-    c: &mut [f64],
-    rows: &mut [u16],
-    cols: &mut [u16],
-    q: &mut [f64],
-    start: &mut [u8],
+    lists: &mut Lists,
     values: &mut [u8],
     f: &mut [f64],
     u: &mut [u32],
     t: Totals,
     most: u64,
-) -> Stepped
-    requires room { Room (lists_of c.old rows.old cols.old q.old start.old) }
+) -> Turn
+    requires room { Room (told_by lists.old) }
     requires few { Few (length values.old) (length f.old) (length u.old) }
     requires small { Small t }
-    ensures { result ≡ stepped most t bytes.now }
+    ensures stepped { result ≡ stepped most t bytes.now }
+    ensures kept { Kept lists.old lists.new }
 {
-    let found = meet(bytes, c, rows, cols, q, start, values, f, u);
+    let found = meet(bytes, lists, values, f, u);
     add(found, t, most)
 }

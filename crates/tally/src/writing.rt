@@ -1,10 +1,10 @@
 // The text of a tally, written into lent bytes.
 ghost use Rattle.std.specs.Prelude.{◌+◌, ◌*◌, ◌^◌, ◌≤◌, [], ◌∷◌, ◌++◌, length};
 ghost use Rattle.text.specs.Text.{decimal, space, Wrote, Written};
-ghost use Rattle.tally.specs.Tally.{tally, Small};
+ghost use Rattle.tally.specs.Tally.{Small};
 ghost use Rattle.tally.specs.Text.{each_text, rate_text, line_of, ending_text, tally_text};
 
-use crate::{Ending, Totals};
+use crate::{Ending, Tally, Totals};
 use text::{put_bytes, put_decimal, write_refused};
 
 // A total and a space.
@@ -76,19 +76,19 @@ fn put_ending(ending: Ending, out: &mut [u8]) -> usize
     }
 }
 
-fn write_in(ending: Ending, t: Totals, out: &mut [u8]) -> usize
-    requires small { Small t }
+fn write_in(tally: Tally, out: &mut [u8]) -> usize
+    requires small { Small tally.totals }
     requires in_bounds { 171 ≤ length out.old }
-    ensures { Written (tally_text (tally ending t)) out.old out.new result }
+    ensures { Written (tally_text tally) out.old out.new result }
 {
-    let at = put_ending(ending, out);
-    put_line(out, at, t)
+    let at = put_ending(tally.ending, out);
+    put_line(out, at, tally.totals)
 }
 
 // The text of a tally, at the front of `out`, which has room for the longest: twelve bytes for a refusal, seventeen for each total, and the rate.
-pub fn write(ending: Ending, t: Totals, out: &mut [u8; 192]) -> usize
-    requires { Small t }
-    ensures { Written (tally_text (tally ending t)) out.old out.new result }
+pub fn write(tally: Tally, out: &mut [u8; 192]) -> usize
+    requires { Small tally.totals }
+    ensures { Written (tally_text tally) out.old out.new result }
 {
-    write_in(ending, t, out)
+    write_in(tally, out)
 }

@@ -7,8 +7,9 @@ ghost use Rattle.records.specs.WellFormed.{longest_input};
 use input::read_full;
 use record_program::write;
 use std::io::{Stdin, Stdout};
-use tallying::{Turned, turn};
-use text::put_bytes;
+use std::ops::ControlFlow;
+use tally::Reached;
+use tallying::turn;
 
 fn limit(byte: u8) -> u64
     ensures { result ≤ 2 ^ 53 }
@@ -16,15 +17,8 @@ fn limit(byte: u8) -> u64
     if byte == 0 {
         0x20_0000_0000_0000
     } else {
-        byte as u64
+        u64::from(byte)
     }
-}
-
-fn least(a: usize, b: usize) -> usize
-    ensures upper_bound { result ≤ a }
-    ensures upper_bound_2 { result ≤ b }
-{
-    if a < b { a } else { b }
 }
 
 // Reads at most `size` bytes of the input behind those that are held; how many.
@@ -34,8 +28,8 @@ fn read_more(buffer: &mut [u8], held: usize, input: &[u8], at: usize, size: usiz
     ensures result_in_bounds { held + result ≤ length buffer.new }
     ensures result_in_bounds_2 { at + result ≤ length input.now }
 {
-    let n = least(size, least(input.len() - at, buffer.len() - held));
-    put_bytes(buffer, held, &input[at..at + n]);
+    let n = size.min(input.len() - at).min(buffer.len() - held);
+    buffer[held..held + n].copy_from_slice(&input[at..at + n]);
     n
 }
 
@@ -45,19 +39,17 @@ fn tally_reads(stdout: Stdout, input: &[u8], size: usize, buffer: &mut [u8], mos
     requires most_bound { most ≤ 2 ^ 53 }
 {
     let mut at: usize = 0;
-    let mut held: usize = 0;
-    let mut totals = tally::nothing();
+    let mut reached = Reached {
+        totals: tally::nothing(),
+        at: 0,
+    };
     loop {
-        let n = read_more(buffer, held, input, at, size);
+        let n = read_more(buffer, reached.at, input, at, size);
         at += n;
-        let turned = turn(buffer, held, n, totals, most);
-        match turned {
-            Turned::On(next, kept) => {
-                totals = next;
-                held = kept;
-            }
-            Turned::Over(ending, last) => {
-                write(stdout, ending, last);
+        match turn(buffer, reached, n, most) {
+            ControlFlow::Continue(next) => reached = next,
+            ControlFlow::Break(tally) => {
+                write(stdout, tally);
                 return;
             }
         }
@@ -83,17 +75,15 @@ fn next(stdin: Stdin, stdout: Stdout) -> bool {
     if read_full(stdin, &mut head) < 5 {
         return false;
     }
-    let length = scratch::wide_short(endian::short(&head, 0));
-    let size = scratch::wide_short(endian::short(&head, 2));
+    let length = usize::from(endian::short(&head, 0));
+    let size = usize::from(endian::short(&head, 2));
     let most = limit(head[4]);
     let mut input = [0u8; 65535];
     tally_next(stdin, stdout, &mut input[..length], size, most)
 }
 
 fn main(rt: HostRuntime) {
-    let mut left: usize = 1000;
-    while left > 0 {
-        left -= 1;
+    for _ in 0..1000 {
         if !next(rt.stdin(), rt.stdout()) {
             return;
         }

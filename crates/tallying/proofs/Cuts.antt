@@ -2,16 +2,18 @@
 use Prim.Native.Nat.{ℕ, suc}
 use mathlib.Core.Path.{◌≡◌, refl, sym, ap, ◌∙◌}
 use mathlib.Core.List.{List, [], ◌∷◌, ◌++◌, append-nil, append_assoc}
-use Rattle.tally.specs.Tally.{none, Tally, tally, tally_on, tally_of}
+use Rattle.std.specs.declared.ops.ControlFlow.{ControlFlow}
+use Rattle.std.specs.declared.ops.ControlFlow.TheVariants.{Continue, Break}
+use Rattle.tally.specs.Tally.{none, tally, tally_on, tally_of}
+use Rattle.tally.specs.declared.Reached.{Reached}
+use Rattle.tally.specs.declared.Tally.{Tally}
 use Rattle.tally.specs.declared.Totals.{Totals}
 use Rattle.tally.specs.declared.Ending.TheVariants.{Whole}
 use Rattle.tallying.specs.Reads.{Bytes, Loops, at_end, before_end, onward, joined}
-use Rattle.tallying.specs.declared.Turned.{Turned}
-use Rattle.tallying.specs.declared.Turned.TheVariants.{On, Over}
 
-abbrev tally_in : Turned → Tally
-tally_in (On t held) = tally Whole t
-tally_in (Over e t) = tally e t
+abbrev tally_in : ControlFlow Tally Reached → Tally
+tally_in (Continue r) = tally Whole r.totals
+tally_in (Break y) = y
 
 back_bytes : (x more : List ℕ) → Bytes (x ++ more) → Bytes more
 back_bytes [] more h = h

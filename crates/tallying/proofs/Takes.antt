@@ -5,29 +5,28 @@ use mathlib.Core.Bool.{Bool, true, false, true≢false}
 use mathlib.Core.List.{List, [], ◌∷◌, ◌++◌, append-nil}
 use native.Mathlib.Omega.{arith}
 use borrow.Author.Tests.{ltb-true, ltb-false}
-use lib.Ieee.{Float}
 use lib.ListN.{length, take, drop, length-append, length-drop, drop_of_length-le}
-use lib.Seq.{take-length, drop-drop, drop-append-le, get_or-drop}
-use Rattle.records.specs.Parsing.{lists_of, Room}
+use lib.Seq.{drop-drop, drop-append-le, get_or-drop}
+use Rattle.std.specs.Prelude.{None}
+use Rattle.std.proofs.lemmas.List.{take_rest}
+use Rattle.std.specs.declared.ops.ControlFlow.{ControlFlow}
+use Rattle.std.specs.declared.ops.ControlFlow.TheVariants.{Continue, Break}
+use Rattle.records.specs.declared.parsing.Lists.{Lists}
 use Rattle.records.specs.Told.{Outcome, parsed}
 use Rattle.records.specs.WellFormed.{longest_input}
 use Rattle.records.proofs.Longest.{decided_whole, decided_fault}
-use Rattle.tally.specs.Counting.{Few}
+use Rattle.tally.specs.Counting.{Kept}
 use Rattle.tally.specs.Pieces.{field}
-use Rattle.tally.specs.Tally.{plus, counts_of, met_of, met, added, stepped, Tally, tally, tally_on, Small}
+use Rattle.tally.specs.Tally.{plus, counts_of, met_of, met, added, stepped, reached, tally, tally_on, Small}
 use Rattle.tally.specs.declared.Totals.{Totals}
-use Rattle.tally.specs.declared.Ending.{Ending}
 use Rattle.tally.specs.declared.Ending.TheVariants.{Whole}
-use Rattle.tally.specs.declared.Met.TheVariants.{Malformed}
-use Rattle.tally.specs.declared.Stepped.{Stepped}
-use Rattle.tally.specs.declared.Stepped.TheVariants.{On as Next, Over as Last}
+use Rattle.tally.specs.declared.Reached.{Reached}
+use Rattle.tally.specs.declared.Tally.{Tally}
 use Rattle.tally.proofs.Adds.{within_small, over_small}
 use Rattle.tally.proofs.Sums.{step_on, step_moves, tally_none}
 use Rattle.tally.proofs.Theorems.{read_or_refused, step_goes_on, step_ends}
-use Rattle.tallying.specs.Reads.{Bytes, fields_of, over_of}
+use Rattle.tallying.specs.Reads.{Bytes, fields_of}
 use Rattle.tallying.specs.Taking.{is_enough, Follows, left_of, Onto, Went, Takes}
-use Rattle.tallying.specs.declared.Turned.{Turned}
-use Rattle.tallying.specs.declared.Turned.TheVariants.{On, Over}
 
 -- ---- bytes
 
@@ -39,13 +38,9 @@ append_bytes (x ∷ b) more h m (suc i) = append_bytes b more (λ j. h (suc j)) 
 drop_bytes : (n : ℕ) (s : List ℕ) → Bytes s → Bytes (drop n s)
 drop_bytes n s h i = omega (arith, get_or-drop n s i 0, h (n + i))
 
--- the part from an index on
-part_whole : (at : ℕ) (s : List ℕ) → take (length s - at) (drop at s) ≡ drop at s
-part_whole at s = ap (λ (n : ℕ). take n (drop at s)) (sym (length-drop at s)) ∙ take-length (drop at s)
-
 -- ---- a step
 
-not_whole : (o : Outcome) → o.whole ≡ false → met_of o ≡ Malformed
+not_whole : (o : Outcome) → o.whole ≡ false → met_of o ≡ None
 unfolding met_of
 not_whole o e = simp e
 
@@ -66,7 +61,7 @@ step_same true most t b more bytes e f = ap (stepped most t) (ap (λ (l : List �
 step_same false most t b more bytes e f = step_decided most t b more bytes f.bytes (ltb-true longest_input (length b) e)
 
 -- a field is counted
-counts_one : (most : ℕ) (t : Totals) (s : List ℕ) {t' : Totals} {used : ℕ} → stepped most t s ≡ Next t' used → fields_of t' ≡ fields_of t + 1
+counts_one : (most : ℕ) (t : Totals) (s : List ℕ) {t' : Totals} {used : ℕ} → stepped most t s ≡ Continue (reached t' used) → fields_of t' ≡ fields_of t + 1
 unfolding plus counts_of
 counts_one most t s {t'} e =
     let one = read_or_refused (field (parsed s).told) in
@@ -99,18 +94,8 @@ pub record Taking (last : Bool) (most : ℕ) (t₀ : Totals) (s : List ℕ) (t :
   pub no_fewer : fields_of t₀ ≤ fields_of t
   pub further : 0 < at → fields_of t₀ < fields_of t
 
-pub taking_start : (last : Bool) (most : ℕ) (t : Totals) (s : List ℕ) → Bytes s → Small t → Taking last most t s t 0
-taking_start last most t s bytes small = record {
-  bytes = bytes;
-  small = small;
-  inside = omega arith;
-  same = λ more f. refl;
-  no_fewer = omega arith;
-  further = λ h. absurd (omega arith);
-}
-
 module _ {last : Bool} {most : ℕ} {t₀ : Totals} {s : List ℕ} {t : Totals} {at : ℕ} (now : Taking last most t₀ s t at) where
-  pub taking_done : {b : Bool} → b ≡ is_enough last (length s - at) → b ≡ false → Takes last most t₀ s (On t at)
+  pub taking_done : {b : Bool} → b ≡ is_enough last (length s - at) → b ≡ false → Takes last most t₀ s (Continue (reached t at))
   taking_done is e =
       let behind-some : longest_input < length s → 0 < at = λ h. omega (arith, short_left last (length s - at) (sym is ∙ e)) in
       record {
@@ -124,32 +109,32 @@ module _ {last : Bool} {most : ℕ} {t₀ : Totals} {s : List ℕ} {t : Totals} 
         };
       }
 
-  module _ {b : Bool} {r : Stepped} (enough : b ≡ is_enough last (length s - at)) (true-now : b ≡ true) (told : r ≡ stepped most t (take (length s - at) (drop at s))) where
+  module _ {b : Bool} {r : ControlFlow Tally Reached} (enough : b ≡ is_enough last (length s - at)) (true-now : b ≡ true) (told : r ≡ stepped most t (take (length s - at) (drop at s))) where
     is : r ≡ stepped most t (drop at s)
-    is = told ∙ ap (stepped most t) (part_whole at s)
+    is = told ∙ ap (stepped most t) (take_rest s at)
 
     same_step : (more : List ℕ) → Follows last more → stepped most t (drop at s ++ more) ≡ r
     same_step more f =
         step_same last most t (drop at s) more (drop_bytes at s now.bytes) (ap (is_enough last) (length-drop at s) ∙ sym enough ∙ true-now) f ∙ sym is
 
-    module _ {t' : Totals} {used : ℕ} (q : r ≡ Next t' used) where
-      moves : (0 < used) × (used ≤ length s - at)
+    module _ {n : Reached} (q : r ≡ Continue n) where
+      moves : (0 < n.at) × (n.at ≤ length s - at)
       moves = let m = step_moves most t (drop at s) (sym is ∙ q) in (m.0, omega (arith, m.1, length-drop at s))
 
-      pub taking_room : at + used ≤ length s
+      pub taking_room : at + n.at ≤ length s
       taking_room = omega (arith, moves.1, now.inside)
 
-      pub taking_less : length s - (at + used) < length s - at
+      pub taking_less : length s - (at + n.at) < length s - at
       taking_less = omega (arith, moves.0, moves.1)
 
       -- the tally behind the field
-      behind : (more : List ℕ) → Follows last more → tally_on most t' (drop (at + used) s ++ more) ≡ tally_on most t₀ (s ++ more)
+      behind : (more : List ℕ) → Follows last more → tally_on most n.totals (drop (at + n.at) s ++ more) ≡ tally_on most t₀ (s ++ more)
       behind more f =
-          let rest : drop used (drop at s ++ more) ≡ drop (at + used) s ++ more =
-          drop-append-le used (drop at s) more (step_moves most t (drop at s) (sym is ∙ q)).1 ∙ ap (λ (l : List ℕ). l ++ more) (drop-drop used at s) in
-          sym (step_goes_on most t (drop at s ++ more) (same_step more f ∙ q) ∙ ap (tally_on most t') rest) ∙ now.same more f
+          let rest : drop n.at (drop at s ++ more) ≡ drop (at + n.at) s ++ more =
+          drop-append-le n.at (drop at s) more (step_moves most t (drop at s) (sym is ∙ q)).1 ∙ ap (λ (l : List ℕ). l ++ more) (drop-drop n.at at s) in
+          sym (step_goes_on most t (drop at s ++ more) (same_step more f ∙ q) ∙ ap (tally_on most n.totals) rest) ∙ now.same more f
 
-      pub taking_turn : most ≤ 2 ^ 53 → Taking last most t₀ s t' (at + used)
+      pub taking_turn : most ≤ 2 ^ 53 → Taking last most t₀ s n.totals (at + n.at)
       taking_turn few =
           let one = counts_one most t (drop at s) (sym is ∙ q) in
           record {
@@ -161,7 +146,7 @@ module _ {last : Bool} {most : ℕ} {t₀ : Totals} {s : List ℕ} {t : Totals} 
             further = λ h. omega (arith, one, now.no_fewer);
           }
 
-    pub taking_over : {ending : Ending} {t' : Totals} → r ≡ Last ending t' → most ≤ 2 ^ 53 → Takes last most t₀ s (Over ending t')
+    pub taking_over : {y : Tally} → r ≡ Break y → most ≤ 2 ^ 53 → Takes last most t₀ s (Break y)
     taking_over q few =
         let some : 0 < length (drop at s) = omega (arith, enough_some last (length s - at) (sym enough ∙ true-now), length-drop at s) in
         record {
@@ -171,56 +156,39 @@ module _ {last : Bool} {most : ℕ} {t₀ : Totals} {s : List ℕ} {t : Totals} 
 
 -- ---- the memory of one field
 
--- lists as long as they were
-pub record Long (c₀ : List Float) (rows₀ cols₀ : List ℕ) (q₀ : List Float) (start₀ values₀ : List ℕ) (f₀ : List Float) (u₀ : List ℕ) (c : List Float) (rows cols : List ℕ)
-    (q : List Float) (start values : List ℕ) (f : List Float) (u : List ℕ) : Type 0 where
-  pub linear_long : length c ≡ length c₀
-  pub rows_long : length rows ≡ length rows₀
-  pub cols_long : length cols ≡ length cols₀
-  pub quad_long : length q ≡ length q₀
-  pub start_long : length start ≡ length start₀
-  pub values_long : length values ≡ length values₀
-  pub floats_long : length f ≡ length f₀
-  pub words_long : length u ≡ length u₀
-
-module _ {c₀ : List Float} {rows₀ cols₀ : List ℕ} {q₀ : List Float} {start₀ values₀ : List ℕ} {f₀ : List Float} {u₀ : List ℕ} {c : List Float} {rows cols : List ℕ}
-    {q : List Float} {start values : List ℕ} {f : List Float} {u : List ℕ} (long : Long c₀ rows₀ cols₀ q₀ start₀ values₀ f₀ u₀ c rows cols q start values f u) where
-  pub long_room : Room (lists_of c₀ rows₀ cols₀ q₀ start₀) → Room (lists_of c rows cols q start)
-  long_room r = record {
-    linear = omega (arith, r.linear, long.linear_long);
-    rows = omega (arith, r.rows, long.rows_long);
-    cols = omega (arith, r.cols, long.cols_long);
-    quad = omega (arith, r.quad, long.quad_long);
-    start = omega (arith, r.start, long.start_long);
-  }
-
-  pub long_few : Few (length values₀) (length f₀) (length u₀) → Few (length values) (length f) (length u)
-  long_few w = record {
-    values = omega (arith, w.values, long.values_long);
-    floats = omega (arith, w.floats, long.floats_long);
-    words = omega (arith, w.words, long.words_long);
-  }
+pub kept_then : {l₀ l l' : Lists} → Kept l₀ l → Kept l l' → Kept l₀ l'
+kept_then a b = record {
+  same_lent = record {
+    linear = b.same_lent.linear ∙ a.same_lent.linear;
+    rows = b.same_lent.rows ∙ a.same_lent.rows;
+    cols = b.same_lent.cols ∙ a.same_lent.cols;
+    quad = b.same_lent.quad ∙ a.same_lent.quad;
+    start = b.same_lent.start ∙ a.same_lent.start;
+  };
+  linear_long = b.linear_long ∙ a.linear_long;
+  rows_long = b.rows_long ∙ a.rows_long;
+  cols_long = b.cols_long ∙ a.cols_long;
+  quad_long = b.quad_long ∙ a.quad_long;
+  start_long = b.start_long ∙ a.start_long;
+}
 
 -- ---- the end of the input
 
 no_more : Follows true []
 no_more = record { bytes = λ i. omega arith; none = λ e. refl }
 
-module _ {most : ℕ} {t : Totals} {s : List ℕ} {r : Turned} (taken : Takes true most t s r) where
+module _ {most : ℕ} {t : Totals} {s : List ℕ} {r : ControlFlow Tally Reached} (taken : Takes true most t s r) where
   -- no field is left
-  pub end_on : {t' : Totals} {at : ℕ} → r ≡ On t' at → (Over Whole t' ≡ over_of (tally_on most t s)) × Small (tally_on most t s).totals
-  end_on {t'} {at} q =
-      let went : Onto true t s t' at = subst (Went true t s) q taken.went in
-      let rest : drop at s ++ [] ≡ [] = ap (λ (l : List ℕ). l ++ []) (drop_of_length-le s {i = at} (omega (arith, went.all refl))) in
-      let same : tally_on most t' (drop at s ++ []) ≡ tally_on most t (s ++ []) =
-      ap (λ (x : Turned). left_of most x s []) (sym q) ∙ taken.same [] no_more in
-      let is : tally Whole t' ≡ tally_on most t s =
-      sym (tally_none most t') ∙ ap (tally_on most t') (sym rest) ∙ same ∙ ap (tally_on most t) (append-nil s) in
-      (ap over_of is, subst (λ (y : Tally). Small y.totals) is went.small)
+  pub end_on : {p : Reached} → r ≡ Continue p → (tally Whole p.totals ≡ tally_on most t s) × Small p.totals
+  end_on {p} q =
+      let went : Onto true t s p.totals p.at = subst (Went true t s) q taken.went in
+      let rest : drop p.at s ++ [] ≡ [] = ap (λ (l : List ℕ). l ++ []) (drop_of_length-le s {i = p.at} (omega (arith, went.all refl))) in
+      let same : tally_on most p.totals (drop p.at s ++ []) ≡ tally_on most t (s ++ []) =
+      ap (λ (x : ControlFlow Tally Reached). left_of most x s []) (sym q) ∙ taken.same [] no_more in
+      (sym (tally_none most p.totals) ∙ ap (tally_on most p.totals) (sym rest) ∙ same ∙ ap (tally_on most t) (append-nil s), went.small)
 
-  pub end_over : {e : Ending} {t' : Totals} → r ≡ Over e t' → (Over e t' ≡ over_of (tally_on most t s)) × Small (tally_on most t s).totals
-  end_over {e} {t'} q =
-      let small : Small t' = subst (Went true t s) q taken.went in
-      let is : tally e t' ≡ tally_on most t s =
-      ap (λ (x : Turned). left_of most x s []) (sym q) ∙ taken.same [] no_more ∙ ap (tally_on most t) (append-nil s) in
-      (ap over_of is, subst (λ (y : Tally). Small y.totals) is small)
+  pub end_over : {y : Tally} → r ≡ Break y → (y ≡ tally_on most t s) × Small y.totals
+  end_over {y} q = (
+    ap (λ (x : ControlFlow Tally Reached). left_of most x s []) (sym q) ∙ taken.same [] no_more ∙ ap (tally_on most t) (append-nil s),
+    subst (Went true t s) q taken.went,
+  )

@@ -1,6 +1,6 @@
 -- One read: what it leaves of the tally to come, and that the loop is nearer to its end. Assumes nothing.
 use Prim.Native.Nat.{ℕ, ◌+◌, ◌-◌, ◌*◌, ◌^◌, ◌<◌, ◌≤◌}
-use mathlib.Core.Path.{◌≡◌, refl, sym, ap, subst, ◌∙◌}
+use mathlib.Core.Path.{◌≡◌, sym, ap, subst, ◌∙◌}
 use mathlib.Core.Bool.{false, true≢false}
 use mathlib.Core.List.{List, ◌++◌}
 use native.Mathlib.Nat.{add-mul}
@@ -10,13 +10,14 @@ use lib.Seq.{length-take-le, take-add}
 use Rattle.scratch.specs.Over.{over}
 use Rattle.scratch.proofs.Over.{over_front}
 use Rattle.records.specs.WellFormed.{longest_input}
-use Rattle.tally.specs.Tally.{tally_on, Small}
+use Rattle.std.specs.declared.ops.ControlFlow.{ControlFlow}
+use Rattle.std.specs.declared.ops.ControlFlow.TheVariants.{Continue}
+use Rattle.tally.specs.Tally.{tally_on, reached, Small}
+use Rattle.tally.specs.declared.Reached.{Reached}
+use Rattle.tally.specs.declared.Tally.{Tally}
 use Rattle.tally.specs.declared.Totals.{Totals}
-use Rattle.tally.specs.declared.Ending.{Ending}
-use Rattle.tallying.specs.Reads.{Bytes, to_come, over_of, Turns, fields_of, to_go, Goes}
+use Rattle.tallying.specs.Reads.{Bytes, to_come, Turns, fields_of, to_go, Goes}
 use Rattle.tallying.specs.Taking.{Follows, left_of, Onto, Went, Takes}
-use Rattle.tallying.specs.declared.Turned.{Turned}
-use Rattle.tallying.specs.declared.Turned.TheVariants.{On, Over}
 use Rattle.tallying.proofs.Moves.{held}
 
 -- ---- how far the loop is from its end
@@ -45,60 +46,34 @@ module _ (most : ℕ) (t : Totals) (b : List ℕ) (last n : ℕ) (inside : last 
   all_long = length-take-le (last + n) b inside
 
   -- some bytes were read, and whatever follows, the tally to come is what it was
-  turned : {r : Turned} {b' : List ℕ} → 0 < n → ((more : List ℕ) → Bytes more → to_come most r b' more ≡ tally_on most t (take (last + n) b ++ more))
+  turned : {r : ControlFlow Tally Reached} {b' : List ℕ} → 0 < n → ((more : List ℕ) → Bytes more → to_come most r b' more ≡ tally_on most t (take (last + n) b ++ more))
       → Turns most t (take last b) (take n (drop last b)) r b'
   turned some same = record {
     keeps = λ h more bytes. same more bytes ∙ ap (λ (l : List ℕ). tally_on most t (l ++ more)) (sym joins);
     ends = λ e. absurd (omega (arith, read_long));
   }
 
-  -- there is room for more
-  pub turn_holds : 0 < n → last + n < length b → Turns most t (take last b) (take n (drop last b)) (On t (last + n)) b
-  turn_holds some less = turned some (λ more bytes. refl)
-
-  pub goes_holds : 0 < n → last + n < length b → Small t → Goes (length b) t last (On t (last + n))
-  goes_holds some less small = record { small = small; inside = less; less = omega arith }
-
-  module _ (some : 0 < n) (full : length b ≤ last + n) {r : Turned} (taken : Takes false most t (take (last + n) b) r) where
+  module _ (some : 0 < n) (full : length b ≤ last + n) {r : ControlFlow Tally Reached} (taken : Takes false most t (take (last + n) b) r) where
     follows : (more : List ℕ) → Bytes more → Follows false more
     follows more bytes = record { bytes = bytes; none = λ e. absurd (true≢false (sym e)) }
 
-    module _ {t' : Totals} {at : ℕ} (q : r ≡ On t' at) where
-      went : Onto false t (take (last + n) b) t' at
+    module _ {p : Reached} (q : r ≡ Continue p) where
+      went : Onto false t (take (last + n) b) p.totals p.at
       went = subst (Went false t (take (last + n) b)) q taken.went
 
-      pub taken_inside : at ≤ last + n
-      taken_inside = omega (arith, went.inside, all_long)
-
       -- the bytes behind the fields are held
-      pub turn_on : {k : ℕ} {b' : List ℕ} → k ≡ last + n - at → b' ≡ over (held at (last + n) b) b → Turns most t (take last b) (take n (drop last b)) (On t' k) b'
+      pub turn_on : {k : ℕ} {b' : List ℕ} → k ≡ last + n - p.at → b' ≡ over (held p.at (last + n) b) b → Turns most t (take last b) (take n (drop last b)) (Continue (reached p.totals k)) b'
       turn_on {k} {b'} few e =
-          let l = held at (last + n) b in
-          let long : length l ≡ k = omega (arith, length-drop at (take (last + n) b), all_long, few) in
+          let l = held p.at (last + n) b in
+          let long : length l ≡ k = omega (arith, length-drop p.at (take (last + n) b), all_long, few) in
           let front : take k b' ≡ l = ap (take k) e ∙ over_front l b long in
           turned some
           (λ more bytes.
-          ap (λ (d : List ℕ). tally_on most t' (d ++ more)) front
-          ∙ ap (λ (x : Turned). left_of most x (take (last + n) b) more) (sym q)
+          ap (λ (d : List ℕ). tally_on most p.totals (d ++ more)) front
+          ∙ ap (λ (x : ControlFlow Tally Reached). left_of most x (take (last + n) b) more) (sym q)
           ∙ taken.same more (follows more bytes))
 
-      pub goes_on : {k : ℕ} → longest_input < length b → k ≡ last + n - at → Goes (length b) t last (On t' k)
+      pub goes_on : {k : ℕ} → longest_input < length b → k ≡ last + n - p.at → Goes (length b) t last (Continue (reached p.totals k))
       goes_on {k} wide few =
-          let more : fields_of t < fields_of t' = went.further (omega (arith, all_long)) in
-          record { small = went.small; inside = omega (arith, went.moved (omega (arith, all_long)), inside); less = field_less (length b) t last t' k went.small more }
-
-    module _ {e : Ending} {t' : Totals} (q : r ≡ Over e t') where
-      pub turn_over : {b' : List ℕ} → Turns most t (take last b) (take n (drop last b)) (Over e t') b'
-      turn_over =
-          turned some (λ more bytes. ap (λ (x : Turned). left_of most x (take (last + n) b) more) (sym q) ∙ taken.same more (follows more bytes))
-
-      pub goes_over : Goes (length b) t last (Over e t')
-      goes_over = subst (Went false t (take (last + n) b)) q taken.went
-
-  -- none was read
-  module _ (none : n ≡ 0) {r : Turned} (is : r ≡ over_of (tally_on most t (take last b))) where
-    pub turn_end : {b' : List ℕ} → Turns most t (take last b) (take n (drop last b)) r b'
-    turn_end = record { keeps = λ h. absurd (omega (arith, read_long)); ends = λ e. is }
-
-    pub goes_end : Small (tally_on most t (take last b)).totals → Goes (length b) t last r
-    goes_end small = subst (Goes (length b) t last) (sym is) small
+          let more : fields_of t < fields_of p.totals = went.further (omega (arith, all_long)) in
+          record { small = went.small; inside = omega (arith, went.moved (omega (arith, all_long)), inside); less = field_less (length b) t last p.totals k went.small more }

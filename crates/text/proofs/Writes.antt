@@ -1,5 +1,5 @@
 -- Texts written one behind another are one text, and the pieces of an answer make its text. Assumes nothing.
-use Prim.Native.Nat.{ℕ, zero, suc, ◌+◌, ◌*◌, ◌/◌, ◌%◌, ◌^◌, ◌<◌, ◌≤◌}
+use Prim.Native.Nat.{ℕ, zero, suc, ◌+◌, ◌-◌, ◌*◌, ◌/◌, ◌%◌, ◌^◌, ◌<◌, ◌≤◌}
 use mathlib.Core.Path.{◌≡◌, refl, sym, ap, ◌∙◌}
 use mathlib.Core.Bool.{Bool, true, false, cond}
 use mathlib.Core.List.{List, [], ◌∷◌, ◌++◌, append_assoc, append-nil}
@@ -8,8 +8,9 @@ use native.Mathlib.Numerals.{add-one}
 use native.Mathlib.Omega.{arith}
 use borrow.Author.Tests.{lt-ltb, le-ltb, eq-eqb, ne_eqb}
 use lib.Dec.{ltb}
-use lib.ListN.{length, get_or, set, take, drop, length-append, drop_of_length-le}
-use lib.Seq.{sets, length-sets, length-take-le, take-suc, take-length}
+use lib.ListN.{length, get_or, take, drop, length-append, drop_of_length-le}
+use lib.Seq.{sets, sets-eq}
+use borrow.Rule.Slice.PartMut.{put_mid, Post-is}
 use Rattle.field.specs.declared.Grade.{Grade}
 use Rattle.scratch.specs.Over.{over}
 use Rattle.scratch.proofs.Over.{sets_then, over_sets}
@@ -57,39 +58,17 @@ copied {s} {v} w long =
 pub written_once : {text o o₁ o₂ : List ℕ} {r₁ r₂ : ℕ} → Written text o o₁ r₁ → Written text o o₂ r₂ → (r₁ ≡ r₂) × (o₁ ≡ o₂)
 written_once a b = (a.size ∙ sym b.size, a.list ∙ sym b.list)
 
--- ---- a text from bytes, one a turn
-
-pub record Putting (text o₀ : List ℕ) (at : ℕ) (o : List ℕ) (i : ℕ) : Type 0 where
-  pub within : i ≤ length text
-  pub long : length o ≡ length o₀
-  pub list : o ≡ sets o₀ at (take i text)
-
-pub put_start : (text o₀ : List ℕ) (at : ℕ) → Putting text o₀ at o₀ 0
-put_start text o₀ at = record { within = omega arith; long = refl; list = refl }
-
-module _ {text o₀ : List ℕ} {at : ℕ} {o : List ℕ} {i : ℕ} where
-  pub put_turn : Putting text o₀ at o i → i < length text → Putting text o₀ at (set o (at + i) (get_or text i 0)) (i + 1)
-  put_turn p h =
-      let x = get_or text i 0 in
-      let passed : length (take i text) ≡ i = length-take-le i text (omega arith) in
-      let stored : set o (at + i) x ≡ sets o₀ at (take (i + 1) text) =
-      ap (λ (l : List ℕ). set l (at + i) x) p.list
-      ∙ ap (λ (j : ℕ). set (sets o₀ at (take i text)) (at + j) x) (sym passed)
-      ∙ sets_then (take i text) (x ∷ []) o₀ at
-      ∙ ap (sets o₀ at) (sym (take-suc text i 0 h) ∙ ap (λ (j : ℕ). take j text) (sym (add-one i))) in
-      record {
-        within = omega arith;
-        long = ap length stored ∙ length-sets o₀ at (take (i + 1) text);
-        list = stored;
-      }
-
-  pub put_done : Putting text o₀ at o i → length text ≤ i → Wrote text o₀ at o (at + i)
-  put_done p h =
-      let all : i ≡ length text = omega (arith, p.within) in
-      record {
-        list = p.list ∙ ap (λ (j : ℕ). sets o₀ at (take j text)) all ∙ ap (sets o₀ at) (take-length text);
-        next = omega arith;
-      }
+-- bytes copied into a part of as many are written there
+pub copied_in : (text o : List ℕ) (at : ℕ) {part : List ℕ} → at + length text ≤ length o → part ≡ text
+    → Wrote text o at (put_mid at (at + length text - at) o part) (at + length text)
+copied_in text o at {part} room e = record {
+  list =
+      ap (put_mid at (at + length text - at) o) e
+      ∙ ap (λ (l : List ℕ). take at o ++ (text ++ l)) (Post-is at (at + length text) o (omega arith))
+      ∙ sym (append_assoc (take at o) text (drop (at + length text) o))
+      ∙ sym (sets-eq text o at room);
+  next = refl;
+}
 
 -- ---- numbers
 
@@ -220,12 +199,6 @@ module _ {start values o₀ : List ℕ} {from : ℕ} {o : List ℕ} {r count i :
           short = omega (arith, one.short, so_far.short);
         };
       }
-
-  pub show_done : Showing start values o₀ from o r count i → length start ≤ i
-      → Shows values (forced start values (length start)) o₀ from 0 o r count (10 * length start)
-  show_done now h =
-      let all : i ≡ length start = omega (arith, now.within) in
-      rw all at now.shows
 
 -- ---- the grade
 

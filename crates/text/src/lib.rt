@@ -6,6 +6,8 @@ ghost use Rattle.text.specs.Text.{decimal, refused_text, grade_line, forced_line
 
 use field::Grade;
 
+// Each writer is handed the index to write at and answers the one behind, as `put_bytes` and `put_decimal` do for other crates, which lend bytes that they go
+// on using: a struct of the bytes and the index would be a second form beside these.
 fn put(out: &mut [u8], at: usize, byte: u8) -> usize
     requires { at < length out.old }
     ensures { Wrote (byte ∷ []) out.old at out.new result }
@@ -15,26 +17,25 @@ fn put(out: &mut [u8], at: usize, byte: u8) -> usize
 }
 
 // Writes these bytes from index `at` on, and answers the index behind them.
+#[tactic(auto, using(crate::proofs::Writes::copied_in))]
 pub fn put_bytes(out: &mut [u8], at: usize, text: &[u8]) -> usize
     requires { at + length text.now ≤ length out.old }
     ensures { Wrote text.now out.old at out.new result }
 {
-    let mut i: usize = 0;
-    while i < text.len() {
-        out[at + i] = text[i];
-        i += 1;
-    }
-    at + i
+    let end = at + text.len();
+    out[at..end].copy_from_slice(text);
+    end
 }
 
 fn digit(n: u64) -> u8
     requires { n < 10 }
     ensures { result ≡ 48 + n }
 {
-    48 + (n as u8)
+    b'0' + (n as u8)
 }
 
-// The digits of a number, the highest first.
+// The digits of a number, the highest first. It is written by hand, since the library's text of a number without a heap, `InlineText`, promises the digits
+// or a text that ends in dots, and what writes by `Display` into lent bytes may refuse.
 pub fn put_decimal(out: &mut [u8], at: usize, n: u64) -> usize
     requires { at + length (decimal n) ≤ length out.old }
     ensures { Wrote (decimal n) out.old at out.new result }
@@ -75,7 +76,7 @@ fn put_forced(out: &mut [u8], at: usize, variable: usize, value: u8) -> usize
     let first = put_bytes(out, at, b"x ");
     let second = put_number(out, first, variable);
     let third = put(out, second, b' ');
-    let fourth = put_number(out, third, scratch::wide_byte(value));
+    let fourth = put_number(out, third, usize::from(value));
     put(out, fourth, b'\n')
 }
 
@@ -127,10 +128,8 @@ fn put_variables(out: &mut [u8], from: usize, start: &[u8], values: &[u8]) -> Sh
     ensures { Shows values.now (forced start.now values.now (length start.now)) out.old from 0 out.new result.at result.count (10 * length start.now) }
 {
     let mut shown = Shown { at: from, count: 0 };
-    let mut i: usize = 0;
-    while i < start.len() {
+    for i in 0..start.len() {
         shown = put_variable(out, shown, start, values, i);
-        i += 1;
     }
     shown
 }

@@ -7,8 +7,6 @@ use Rattle.weights.specs.Worth.{magnitude}
 use Rattle.scratch.specs.All.{all_below}
 use Rattle.scratch.specs.Over.{over}
 use Rattle.expansion.specs.Sum as expansion
-use Rattle.field.specs.declared.Answer.TheVariants.{Done}
-use Rattle.field.specs.declared.Counted.TheVariants.{Counts}
 use Rattle.field.specs.declared.Grade.TheVariants.{Exact, Inexact}
 use Rattle.field.specs.Tests.{ends_below, all_rise, all_finite, bytes_small, few_variables, lists_match, in_order, is_fine, first_from, wrong_at, fault_of, off_diagonal, weights_finite, start_fits, floats_fit, words_fit, shape_tests, loose_tests, open_tests, standard_tests, ready_tests}
 use Rattle.field.specs.Grade.{weighs, all_weigh, serves, first_of, unit_of, is_exact_of, grade_of}
@@ -27,6 +25,8 @@ use Rattle.anchors.specs.Sums as sums
 use Rattle.anchors.specs.Model as model
 use Rattle.anchors.specs.Call as anchors
 use Rattle.together.specs.Worked.{two_pairs, swallowing, one_pair, listings, given, expected, closed, enumerated}
+use Rattle.std.specs.Prelude.{Ok}
+use Rattle.field.specs.Answers.{counted_answer}
 
 -- Theorem. The anchors are those worked by hand.
 pub anchors_worked : map given listings ≡ map expected listings
@@ -42,7 +42,7 @@ unfolding called staged keeping anchors.anchors_call
 anchors_worked = refl
 
 -- the gradient values of the swallowed rate beside case m
-pub closure_worked : ((closed swallowing).answer ≡ Counts Inexact 0) × ((closed swallowing).lent.values ≡ 0 ∷ 0 ∷ 1 ∷ 1 ∷ 2 ∷ 2 ∷ [])
+pub closure_worked : ((closed swallowing).answer ≡ counted_answer Inexact 0) × ((closed swallowing).lent.values ≡ 0 ∷ 0 ∷ 1 ∷ 1 ∷ 2 ∷ 2 ∷ [])
 unfolding called staged keeping values_by
     ready_tests standard_tests loose_tests shape_tests few_variables lists_match in_order is_fine first_from wrong_at fault_of off_diagonal weights_finite start_fits floats_fit words_fit
     ends_below all_rise all_finite bytes_small all_below grade_of is_exact_of unit_of first_of serves all_weigh weighs whole_in plus minus
@@ -52,7 +52,7 @@ unfolding called staged keeping values_by
 closure_worked = (refl, refl)
 
 -- the enumerated values of case m
-pub components_worked : ((enumerated one_pair).answer ≡ Done Exact) × ((enumerated one_pair).lent.values ≡ 1 ∷ 0 ∷ [])
+pub components_worked : ((enumerated one_pair).answer ≡ Ok Exact) × ((enumerated one_pair).lent.values ≡ 1 ∷ 0 ∷ [])
 unfolding called staged keeping values_by
     ready_tests standard_tests loose_tests shape_tests few_variables lists_match in_order is_fine first_from wrong_at fault_of off_diagonal weights_finite start_fits floats_fit words_fit
     ends_below all_rise all_finite bytes_small all_below grade_of is_exact_of unit_of first_of serves all_weigh weighs whole_in plus minus

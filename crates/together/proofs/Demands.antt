@@ -6,7 +6,6 @@ use native.Mathlib.Omega.{arith}
 use lib.ListN.{length, get_or, take}
 use lib.Seq.{get_or-take}
 use lib.Ieee.{Float}
-use Rattle.field.specs.declared.Counted.TheVariants.{Counts}
 use Rattle.field.specs.declared.Grade.TheVariants as grade
 use Rattle.field.specs.Field.{Field}
 use Rattle.field.specs.Grade.{Serves}
@@ -15,8 +14,9 @@ use Rattle.anchors.proofs.Demands.{fit, told, items, anchors_by_rule}
 use Rattle.together.specs.Together.{AllAtOnce}
 use Rattle.together.proofs.Choice.{choices_stand}
 use Rattle.together.proofs.Obeying.{best_obeys_all}
+use Rattle.field.specs.Answers.{counted_answer}
 
-module _ (F : Field) (s : List ℕ) (least : ℕ) (list : List ℕ) (f : List Float) (u : List ℕ) (k : ℕ) (e : (anchors_call F s least list f u).answer ≡ Counts grade.Exact k) where
+module _ (F : Field) (s : List ℕ) (least : ℕ) (list : List ℕ) (f : List Float) (u : List ℕ) (k : ℕ) (e : (anchors_call F s least list f u).answer ≡ counted_answer grade.Exact k) where
   -- Theorem. On an exact field, for every choice of 0 or 1 at each of the listed anchors, some best completion makes all those choices at once,
   -- and obeys every gradient value, probe value, probe constraint and pair constraint found from the same start values.
   pub all_at_once : {unit : ℕ} → Serves unit F → (choice : ℕ → ℕ) → ((j : ℕ) → j < k → choice j < 2)

@@ -12,7 +12,6 @@ use lib.Ieee.{Float}
 use Rattle.meaning.specs.Kinds.{Pair}
 use Rattle.meaning.specs.Records.{Record, pairs_in}
 use Rattle.meaning.proofs.Sets.{some_pair, pair_small}
-use Rattle.field.specs.declared.Counted.TheVariants.{Counts}
 use Rattle.field.specs.declared.Grade.TheVariants as grade
 use Rattle.field.specs.Field.{Field, variables}
 use Rattle.field.specs.Grade.{unit_of, Serves}
@@ -23,13 +22,14 @@ use Rattle.together.specs.Found.{Leaves, Lists}
 use Rattle.together.specs.Together.{AllAtOnce}
 use Rattle.together.proofs.Obeying.{lists_fit}
 use Rattle.together.proofs.Demands.{all_at_once}
+use Rattle.field.specs.Answers.{counted_answer}
 
 one_inside : (x : List ℕ) (i : ℕ) → get_or x i 0 ≡ 1 → i < length x
 one_inside [] i h = omega arith
 one_inside (v ∷ x) zero h = omega arith
 one_inside (v ∷ x) (suc i) h = omega (arith, one_inside x i h)
 
-module _ (F : Field) (s : List ℕ) (least : ℕ) (list : List ℕ) (f : List Float) (u : List ℕ) (k : ℕ) (e : (anchors_call F s least list f u).answer ≡ Counts grade.Exact k) where
+module _ (F : Field) (s : List ℕ) (least : ℕ) (list : List ℕ) (f : List Float) (u : List ℕ) (k : ℕ) (e : (anchors_call F s least list f u).answer ≡ counted_answer grade.Exact k) where
   unit_serves : Serves (unit_of F) F
   unit_serves = (exact_means F (fit F s least list f u _ k e).shaped.rows_long).0 (told F s least list f u _ k e).0
 

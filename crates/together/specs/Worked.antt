@@ -4,7 +4,6 @@ use Rattle.std.specs.Float.{fin}
 use Rattle.weights.specs.Worth.{zero64}
 use Rattle.meaning.specs.Steps.{Extends}
 use Rattle.meaning.specs.Field.{Best}
-use Rattle.field.specs.declared.Counted.TheVariants.{Counts}
 use Rattle.field.specs.declared.Grade.{Grade}
 use Rattle.field.specs.declared.Grade.TheVariants.{Exact, Inexact}
 use Rattle.field.specs.Field.{Field, field_of, variables, entries}
@@ -14,6 +13,7 @@ use Rattle.calls.specs.Values as values
 use Rattle.anchors.specs.Call as anchors
 use Rattle.closure.specs.Call as closure
 use Rattle.components.specs.Call as components
+use Rattle.field.specs.Answers.{counted_answer}
 
 -- ---- fields
 
@@ -87,7 +87,7 @@ given x = anchors.anchors_call x.field x.start 0 (replicate (length x.list) 0) (
 
 -- What stands worked by hand: the grade, how many anchors, and the anchors in the list.
 abbrev pub expected : Listing → anchors.Left
-expected x = anchors.left (Counts x.grade (length x.list)) x.list (floats x.field) (words x.field)
+expected x = anchors.left (counted_answer x.grade (length x.list)) x.list (floats x.field) (words x.field)
 
 -- What `closure` answers and leaves with nothing given: the gradient values.
 abbrev pub closed : Field → closure.Left

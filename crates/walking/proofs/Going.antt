@@ -10,11 +10,8 @@ use lib.Seq.{take-take}
 use Rattle.probing.specs.declared.Known.{Known}
 use Rattle.scratch.specs.Region.{region}
 use Rattle.scratch.proofs.Region.{length_region}
-use Rattle.constraints.specs.Record.{room}
 use Rattle.meaning.specs.Rising.{merged_list}
 use Rattle.constraints.proofs.Records.{length_filled}
-use Rattle.found.specs.declared.Merged.{Merged}
-use Rattle.found.specs.declared.Merged.TheVariants.{Holds, Full}
 use Rattle.found.specs.Joint.{Held}
 use Rattle.found.specs.Flush.{left, flushed}
 use Rattle.found.proofs.Gathering.{gathering_held}
@@ -23,8 +20,9 @@ use Rattle.field.specs.Field.{Field, variables}
 use Rattle.places.proofs.Slices.{front_get_d}
 use Rattle.twin.specs.Twin.{first_at, Twinnable, EndFor, Twinned}
 use Rattle.twin.proofs.Framed.{remembers_front}
-use Rattle.walking.specs.Walk.{candidates_at, gather_at, roomed, end_after, held_of, Workspace, Walkable, Stays, Begins, Adds, Stands, Walks, Valued, Walked, full}
+use Rattle.walking.specs.Walk.{candidates_at, gather_at, roomed, end_after, Workspace, Walkable, Stays, Begins, Adds, Stands, Walks, Valued, Walked, full}
 use Rattle.walking.proofs.Turned.{stands_start, stands_values, candidate_free, stands_more, walks_start, walks_more, roomed_walks, roomed_enough, roomed_full, walks_done}
+use Rattle.std.specs.Prelude.{Option, Some, None}
 
 list_long : {F : Field} {s : List ℕ} {P : List ℕ → Type 0} {cands : List ℕ} {k : ℕ} {list₀ list : List ℕ} {held : ℕ} {u : List ℕ} {end : ℕ}
     → Walks F s P cands k list₀ list held u end → length list ≡ length list₀
@@ -67,17 +65,17 @@ module _ {F : Field} {s : List ℕ} {P : List ℕ → Type 0} {count : ℕ} {lis
   going_list = list_long G.walks
 
   module _ (stays : Stays F P) where
-    pub going_done : count ≤ h → {r : Merged} {list' u' : List ℕ} → left r list' u' ≡ flushed list held u (gather_at F) end
+    pub going_done : count ≤ h → {r : Option ℕ} {list' u' : List ℕ} → left r list' u' ≡ flushed list held u (gather_at F) end
         → Walked F s (region (candidates_at F) count u₀) list₀ r list' u'
     going_done l e = let z : h ≡ length (region (candidates_at F) count u₀) = omega (arith, G.within, G.long) in walks_done stays (rw z at G.walks) e
 
-    module _ {r : Merged} {list' u' : List ℕ} (e : left r list' u' ≡ roomed list held u (gather_at F) end (variables F)) where
-      pub going_full : r ≡ Full → Walked F s (region (candidates_at F) count u₀) list₀ Full list' u'
+    module _ {r : Option ℕ} {list' u' : List ℕ} (e : left r list' u' ≡ roomed list held u (gather_at F) end (variables F)) where
+      pub going_full : r ≡ None → Walked F s (region (candidates_at F) count u₀) list₀ None list' u'
       going_full a = full (roomed_full stays G.walks e (omega (arith, G.within, G.long)) a)
 
-      module _ (more : h < count) {m : ℕ} (a : r ≡ Holds m) {held' next : ℕ} (b : held' ≡ held_of r) (d : next ≡ end_after (length u) (gather_at F) end (variables F)) where
+      module _ (more : h < count) {held' next : ℕ} (a : r ≡ Some held') (d : next ≡ end_after (length u) (gather_at F) end (variables F)) where
         pub roomed_here : Walks F s P (region (candidates_at F) count u₀) h list₀ list' held' u' next
-        roomed_here = rw (b, d) (roomed_walks stays G.walks e a)
+        roomed_here = rw d (roomed_walks stays G.walks e a)
 
         inside : h < length (region (candidates_at F) count u₀)
         inside = omega (arith, more, G.long)
@@ -140,26 +138,26 @@ walking_start W e list = record { going = going_start (walkable_begins W) list; 
 
 module _ {F : Field} {s : List ℕ} {known : Known} {count : ℕ} {list₀ : List ℕ} {f₀ : List Float} {u₀ values list : List ℕ} {f : List Float} {u : List ℕ} {held end h : ℕ}
     (W : Walking F s known count list₀ f₀ u₀ values list f u held end h) where
-  pub walking_done : count ≤ h → {r : Merged} {list' u' : List ℕ} → left r list' u' ≡ flushed list held u (gather_at F) end
+  pub walking_done : count ≤ h → {r : Option ℕ} {list' u' : List ℕ} → left r list' u' ≡ flushed list held u (gather_at F) end
       → Walked F s (region (candidates_at F) count u₀) list₀ r list' u'
   walking_done l e = going_done W.going workspace_stays l e
 
-  module _ {r : Merged} {list' u' : List ℕ} (e : left r list' u' ≡ roomed list held u (gather_at F) end (variables F)) where
-    pub walking_full : r ≡ Full → Walked F s (region (candidates_at F) count u₀) list₀ Full list' u'
+  module _ {r : Option ℕ} {list' u' : List ℕ} (e : left r list' u' ≡ roomed list held u (gather_at F) end (variables F)) where
+    pub walking_full : r ≡ None → Walked F s (region (candidates_at F) count u₀) list₀ None list' u'
     walking_full a = going_full W.going workspace_stays e a
 
-    module _ (more : h < count) {m : ℕ} (a : r ≡ Holds m) {held' next : ℕ} (b : held' ≡ held_of r) (d : next ≡ end_after (length u) (gather_at F) end (variables F))
+    module _ (more : h < count) {held' next : ℕ} (a : r ≡ Some held') (d : next ≡ end_after (length u) (gather_at F) end (variables F))
         {i : ℕ} (q : i ≡ get_or u' (candidates_at F + h) 0) where
       pub walking_twin : Twinnable F s f u' known i × (EndFor F u' next × (values ≡ s))
       walking_twin = (
-        twinnable (roomed_here W.going workspace_stays e more a b d).stands (going_free W.going workspace_stays e more a b d q),
-        (going_room W.going workspace_stays e more a b d, W.same),
+        twinnable (roomed_here W.going workspace_stays e more a d).stands (going_free W.going workspace_stays e more a d q),
+        (going_room W.going workspace_stays e more a d, W.same),
       )
 
       pub walking_turn : {values'' u'' : List ℕ} {f'' : List Float} {r'' : ℕ} → length u'' ≡ length u → values'' ≡ s → f'' ≡ f → Twinned F s f known i u' next u'' r''
           → Walking F s known count list₀ f₀ u₀ values'' list' f'' u'' held' r'' (h + 1)
       walking_turn w v g T = record {
-        going = rw g (going_turn W.going workspace_stays e more a b d q w (twin_adds T) (twin_stands T));
+        going = rw g (going_turn W.going workspace_stays e more a d q w (twin_adds T) (twin_stands T));
         same = v;
         floats = g ∙ W.floats;
       }

@@ -18,8 +18,6 @@ use Rattle.constraints.specs.Record.{room}
 use Rattle.sorting.specs.Numbers.{distinct_at}
 use Rattle.sorting.proofs.Numbers.{distinct_front, distinct_long}
 use Rattle.sorting.proofs.Joining.{words_proper}
-use Rattle.found.specs.declared.Merged.{Merged}
-use Rattle.found.specs.declared.Merged.TheVariants.{Holds, Full}
 use Rattle.found.specs.Flush.{Left, left, flushed}
 use Rattle.found.specs.Holding.{Gathering}
 use Rattle.found.proofs.Gathering.{gathering_start, gathering_flush, gathering_full, gathering_done, gathering_count}
@@ -31,7 +29,8 @@ use Rattle.places.proofs.Slices.{front_get_d}
 use Rattle.finding.specs.Finds.{wins, finding, values_after, records_of, records_found_by, values_of, values_found_by}
 use Rattle.finding.proofs.Entering.{to_more}
 use Rattle.twin.specs.Twin.{values_at}
-use Rattle.walking.specs.Walk.{candidates_at, gather_at, roomed, end_after, held_of, Stays, Begins, Adds, Stands, Walks, Walked, holds, full}
+use Rattle.walking.specs.Walk.{candidates_at, gather_at, roomed, end_after, Stays, Begins, Adds, Stands, Walks, Walked, holds, full}
+use Rattle.std.specs.Prelude.{Option, Some, None}
 
 -- ---- the model
 
@@ -157,31 +156,34 @@ module _ {F : Field} {s : List ℕ} {P : List ℕ → Type 0} {cands : List ℕ}
     flushed_words : x.words ≡ distinct_at (gather_at F) end u
     flushed_words = words_left W.gathers.holding W.gathers.keys (rw W.gathers.count at e)
 
-    pub walks_flush : {m : ℕ} → x.answer ≡ Holds m → Walks F s P cands k list₀ x.list m x.words (gather_at F)
+    pub walks_flush : {m : ℕ} → x.answer ≡ Some m → Walks F s P cands k list₀ x.list m x.words (gather_at F)
     walks_flush a =
         let K = W.gathers.keys in
         walks_front (ap (take (gather_at F)) flushed_words ∙ distinct_front (gather_at F) end u (omega (arith, K.order, K.room)))
         (ap length flushed_words ∙ distinct_long (gather_at F) end u K) (gathering_flush W.gathers e a)
 
-    pub walks_full : k ≤ length cands → x.answer ≡ Full → room list₀ < length (merged_list (records_of F s cands (length cands)))
+    pub walks_full : k ≤ length cands → x.answer ≡ None → room list₀ < length (merged_list (records_of F s cands (length cands)))
     walks_full h a = all_full h (gathering_full W.gathers e a)
 
   -- ---- room for one candidate
 
   module _ {x : Left} (e : x ≡ roomed list held u (gather_at F) end (variables F)) where
-    roomed_by : (b : Bool) → leb (variables F) (length u - end) ≡ b → x ≡ cond b (left (Holds held) list u) (flushed list held u (gather_at F) end)
+    roomed_by : (b : Bool) → leb (variables F) (length u - end) ≡ b → x ≡ cond b (left (Some held) list u) (flushed list held u (gather_at F) end)
     unfolding roomed
     roomed_by b q = rw q at e
 
-    pub roomed_walks : {m : ℕ} → x.answer ≡ Holds m → Walks F s P cands k list₀ x.list (held_of x.answer) x.words (end_after (length u) (gather_at F) end (variables F))
-    unfolding end_after held_of
+    pub roomed_walks : {m : ℕ} → x.answer ≡ Some m → Walks F s P cands k list₀ x.list m x.words (end_after (length u) (gather_at F) end (variables F))
+    unfolding end_after
     roomed_walks {m} a = go (leb (variables F) (length u - end)) refl
       where
-        go : (b : Bool) → leb (variables F) (length u - end) ≡ b → Walks F s P cands k list₀ x.list (held_of x.answer) x.words (cond b end (gather_at F))
-        go true q = rw (roomed_by true q) W
-        go false q = rw a (walks_flush (roomed_by false q) a)
+        go : (b : Bool) → leb (variables F) (length u - end) ≡ b → Walks F s P cands k list₀ x.list m x.words (cond b end (gather_at F))
+        go true q =
+            let p : Some held ≡ Some m = sym (ap (λ (y : Left). y.answer) (roomed_by true q)) ∙ a in
+            let z : held ≡ m = cc in
+            rw (sym z, roomed_by true q) W
+        go false q = walks_flush (roomed_by false q) a
 
-    pub roomed_enough : {m : ℕ} → x.answer ≡ Holds m → end_after (length u) (gather_at F) end (variables F) + variables F ≤ length x.words
+    pub roomed_enough : {m : ℕ} → x.answer ≡ Some m → end_after (length u) (gather_at F) end (variables F) + variables F ≤ length x.words
     unfolding end_after
     roomed_enough {m} a = go (leb (variables F) (length u - end)) refl
       where
@@ -189,10 +191,10 @@ module _ {F : Field} {s : List ℕ} {P : List ℕ → Type 0} {cands : List ℕ}
         go true q = rw (roomed_by true q) (omega (arith, leb-true (variables F) (length u - end) q, W.gathers.keys.room))
         go false q = (walks_flush (roomed_by false q) a).stands.space
 
-    pub roomed_full : k ≤ length cands → x.answer ≡ Full → room list₀ < length (merged_list (records_of F s cands (length cands)))
+    pub roomed_full : k ≤ length cands → x.answer ≡ None → room list₀ < length (merged_list (records_of F s cands (length cands)))
     roomed_full h a = go (leb (variables F) (length u - end)) refl
       where
-        held_full : Holds held ≡ Full → room list₀ < length (merged_list (records_of F s cands (length cands)))
+        held_full : Some held ≡ None → room list₀ < length (merged_list (records_of F s cands (length cands)))
         held_full z = let y : ◌≡◌ {A = ℕ} 0 1 = cc in absurd (omega arith)
 
         go : (b : Bool) → leb (variables F) (length u - end) ≡ b → room list₀ < length (merged_list (records_of F s cands (length cands)))
@@ -206,9 +208,9 @@ module _ {F : Field} {s : List ℕ} {P : List ℕ → Type 0} {cands list₀ lis
   pub walks_done : Walked F s cands list₀ x.answer x.list x.words
   walks_done = go x.answer refl
     where
-      go : (a : Merged) → x.answer ≡ a → Walked F s cands list₀ a x.list x.words
-      go (Holds m) q =
+      go : (a : Option ℕ) → x.answer ≡ a → Walked F s cands list₀ a x.list x.words
+      go (Some m) q =
           let Z = walks_flush stays W e q in
           let H = gathering_done Z.gathers in
           rw (gathering_count Z.gathers) (holds H.fits H.is (stands_values Z.stands))
-      go Full q = full (walks_full stays W e (le_refl (length cands)) q)
+      go None q = full (walks_full stays W e (le_refl (length cands)) q)

@@ -1,11 +1,9 @@
 -- What the walk over the candidates keeps, asks and leaves. Assumes nothing.
-use Rattle.std.specs.Prelude.{ℕ, ◌+◌, ◌-◌, ◌<◌, ◌≤◌, ◌≡◌, cond, List, leb, Float, length, get_or, take}
+use Rattle.std.specs.Prelude.{ℕ, ◌+◌, ◌-◌, ◌<◌, ◌≤◌, ◌≡◌, cond, List, leb, Float, length, get_or, take, Option, Some, None}
 use Rattle.scratch.specs.Region.{region}
 use Rattle.constraints.specs.Record.{room, filled}
 use Rattle.meaning.specs.Records.{Record}
 use Rattle.meaning.specs.Rising.{merged_list}
-use Rattle.found.specs.declared.Merged.{Merged}
-use Rattle.found.specs.declared.Merged.TheVariants.{Holds, Full}
 use Rattle.found.specs.Flush.{Left, left, flushed}
 use Rattle.found.specs.Holding.{Gathering}
 use Rattle.field.specs.Field.{Field, variables}
@@ -30,16 +28,11 @@ values_left F u = region (values_at F) (variables F) u
 
 -- the numbers are flushed where fewer than n places are left behind them
 unfoldable pub roomed : List ℕ → ℕ → List ℕ → ℕ → ℕ → ℕ → Left
-roomed list held u lo hi n = cond (leb n (length u - hi)) (left (Holds held) list u) (flushed list held u lo hi)
+roomed list held u lo hi n = cond (leb n (length u - hi)) (left (Some held) list u) (flushed list held u lo hi)
 
 -- Where the gathered numbers end after room was made: at their beginning if they were flushed.
 unfoldable pub end_after : ℕ → ℕ → ℕ → ℕ → ℕ
 end_after long lo hi n = cond (leb n (long - hi)) hi lo
-
--- how many records are held
-unfoldable pub held_of : Merged → ℕ
-held_of (Holds k) = k
-held_of Full = 0
 
 -- ---- the walk over remembered rows
 
@@ -103,9 +96,9 @@ abbrev pub Valued : Field → List ℕ → List ℕ → List ℕ → Type 0
 Valued F s cands u = values_left F u ≡ values_of F s cands (length cands)
 
 -- all candidates are done, and the list holds what was found; or it has no room for that
-pub data Walked (F : Field) (s cands list₀ : List ℕ) : Merged → List ℕ → List ℕ → Type 0 where
+pub data Walked (F : Field) (s cands list₀ : List ℕ) : Option ℕ → List ℕ → List ℕ → Type 0 where
   holds : {list u : List ℕ} → length (merged_list (records_of F s cands (length cands))) ≤ room list₀
       → list ≡ filled (merged_list (records_of F s cands (length cands))) list₀
       → Valued F s cands u
-      → Walked F s cands list₀ (Holds (length (merged_list (records_of F s cands (length cands))))) list u
-  full : {list u : List ℕ} → room list₀ < length (merged_list (records_of F s cands (length cands))) → Walked F s cands list₀ Full list u
+      → Walked F s cands list₀ (Some (length (merged_list (records_of F s cands (length cands))))) list u
+  full : {list u : List ℕ} → room list₀ < length (merged_list (records_of F s cands (length cands))) → Walked F s cands list₀ None list u

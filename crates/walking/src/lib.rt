@@ -8,11 +8,11 @@ ghost use Rattle.found.specs.Joint.{Held};
 ghost use Rattle.found.specs.Flush.{left};
 ghost use Rattle.field.specs.Field.{given, lent, variables};
 ghost use Rattle.places.specs.Places.{Adjacent};
-ghost use Rattle.walking.specs.Walk.{candidates_at, roomed, end_after as end_after_of, held_of, Walkable, Valued, Walked};
+ghost use Rattle.walking.specs.Walk.{candidates_at, roomed, end_after as end_after_of, Walkable, Valued, Walked};
 
-use found::{Merged, flush};
+use field::FieldRef;
+use found::flush;
 use probing::Known;
-use scratch::wide_word;
 use twin::twin;
 
 // The numbers are flushed where fewer than n places are left behind them.
@@ -23,13 +23,13 @@ pub fn make_room(
     lo: usize,
     hi: usize,
     n: usize,
-) -> Merged
+) -> Option<usize>
     requires held { Held held list.old }
     requires keys { Keys lo hi u.old }
     ensures { left result list.new u.new ≡ roomed list.old held u.old lo hi n }
 {
     if n <= u.len() - hi {
-        return Merged::Holds(held);
+        return Some(held);
     }
     flush(list, held, u, lo, hi)
 }
@@ -45,22 +45,9 @@ pub fn end_after(long: usize, lo: usize, hi: usize, n: usize) -> usize
     lo
 }
 
-// How many records are held.
-pub fn held_of(merged: Merged) -> usize
-    ensures { result ≡ held_of merged }
-{
-    match merged {
-        Merged::Holds(k) => k,
-        Merged::Full => 0,
-    }
-}
-
 // The `count` candidates that stand in the words, one after the other.
 pub fn walk(
-    c: &[f64],
-    rows: &[u16],
-    cols: &[u16],
-    q: &[f64],
+    field: FieldRef,
     start: &[u8],
     values: &mut [u8],
     list: &mut [u16],
@@ -68,36 +55,29 @@ pub fn walk(
     u: &mut [u32],
     known: Known,
     count: usize,
-) -> Merged
-    requires walkable { Walkable (lent c rows cols q) start.now f.old u.old known count }
+) -> Option<usize>
+    requires walkable { Walkable (lent field) start.now f.old u.old known count }
     requires values_value { values.old ≡ start.now }
     ensures values_value_2 { values.new ≡ start.now }
-    ensures walked { Walked (given c rows cols q) start.now (region (candidates_at (given c rows cols q)) count u.old) list.old result list.new u.new }
+    ensures walked { Walked (given field) start.now (region (candidates_at (given field)) count u.old) list.old result list.new u.new }
 {
-    let n = c.len();
-    let at = n + 1 + 2 * rows.len() + n + n + n + n;
+    let n = field.c.len();
+    let at = n + 1 + 2 * field.rows.len() + n + n + n + n;
     let lo = at + n + n;
     let mut held = 0;
     let mut end = lo;
     for h in 0..count {
         let next = end_after(u.len(), lo, end, n);
-        let merged = make_room(list, held, u, lo, end, n);
-        if let Merged::Full = merged {
-            return Merged::Full;
-        }
-        held = held_of(merged);
-        let variable = wide_word(u[at + h]);
-        end = twin(c, rows, cols, q, start, values, f, u, known, variable, next);
+        held = make_room(list, held, u, lo, end, n)?;
+        let variable = u[at + h] as usize;
+        end = twin(field, start, values, f, u, known, variable, next);
     }
     flush(list, held, u, lo, end)
 }
 
 // The same walk for its probe values alone: the constraints found are forgotten, and the places stay.
 pub fn walk_values(
-    c: &[f64],
-    rows: &[u16],
-    cols: &[u16],
-    q: &[f64],
+    field: FieldRef,
     start: &[u8],
     values: &mut [u8],
     f: &mut [f64],
@@ -105,17 +85,17 @@ pub fn walk_values(
     known: Known,
     count: usize,
 )
-    requires walkable { Walkable (lent c rows cols q) start.now f.old u.old known count }
+    requires walkable { Walkable (lent field) start.now f.old u.old known count }
     requires values_value { values.old ≡ start.now }
     ensures values_value_2 { values.new ≡ start.now }
-    ensures valued { Valued (given c rows cols q) start.now (region (candidates_at (given c rows cols q)) count u.old) u.new }
-    ensures adjacent { Adjacent (variables (given c rows cols q)) rows.now cols.now u.new }
+    ensures valued { Valued (given field) start.now (region (candidates_at (given field)) count u.old) u.new }
+    ensures adjacent { Adjacent (variables (given field)) (given field).rows (given field).cols u.new }
 {
-    let n = c.len();
-    let at = n + 1 + 2 * rows.len() + n + n + n + n;
+    let n = field.c.len();
+    let at = n + 1 + 2 * field.rows.len() + n + n + n + n;
     let lo = at + n + n;
     for h in 0..count {
-        let candidate = wide_word(u[at + h]);
-        twin(c, rows, cols, q, start, values, f, u, known, candidate, lo);
+        let candidate = u[at + h] as usize;
+        twin(field, start, values, f, u, known, candidate, lo);
     }
 }

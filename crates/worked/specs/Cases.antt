@@ -1,5 +1,5 @@
 -- The values worked by hand of rules 18.1 to 18.8, and others beside them: each names its call, what it is given, and its answer. Assumes nothing.
-use Rattle.std.specs.Prelude.{ℕ, ◌+◌, ◌-◌, ◌*◌, ◌/◌, true, false, List, [], ◌∷◌, ◌++◌, pos, Float, length, replicate}
+use Rattle.std.specs.Prelude.{ℕ, ◌+◌, ◌-◌, ◌*◌, ◌/◌, true, false, List, [], ◌∷◌, ◌++◌, pos, Float, length, replicate, Err, Ok}
 use Rattle.std.specs.Float.{fin}
 use Rattle.weights.specs.Worth.{zero64}
 use Rattle.scratch.specs.Cleared.{cleared}
@@ -8,11 +8,7 @@ use Rattle.field.specs.declared.Grade.{Grade}
 use Rattle.field.specs.declared.Grade.TheVariants.{Exact, Inexact}
 use Rattle.field.specs.declared.Refusal.{Refusal}
 use Rattle.field.specs.declared.Refusal.TheVariants.{Row, Column, Repeat, Order, Argument, Room, Clash, Inexact as NotExact, Unforced, Sum}
-use Rattle.field.specs.declared.Checked.{Checked}
-use Rattle.field.specs.declared.Checked.TheVariants.{Passed, Failed}
-use Rattle.field.specs.declared.Answer.TheVariants.{Done, Refused}
-use Rattle.field.specs.declared.Counted.TheVariants.{Counts, Refuses}
-use Rattle.field.specs.Answers.{checked_number}
+use Rattle.field.specs.Answers.{answer_number, Answer, passed, counted_answer}
 use Rattle.field.specs.Field.{Field, field_of, variables, entries}
 use Rattle.calls.specs.Values as values
 use Rattle.closure.specs.Call as closure
@@ -22,27 +18,26 @@ use Rattle.heavy.specs.Call as heavy
 use Rattle.probe.specs.Call as probe
 use Rattle.probes.specs.Call as probes
 use Rattle.probes.specs.Route.{fast}
-use Rattle.pairs.specs.declared.Paired.TheVariants as paired
 use Rattle.pairs.specs.Call as pairs
 use Rattle.anchors.specs.Call as anchors
 use Rattle.propagation.specs.Call as propagation
 use Rattle.reason.specs.declared.Ground.{Ground}
 use Rattle.reason.specs.declared.Ground.TheVariants.{Given, Lower, Upper}
-use Rattle.reason.specs.declared.Reasoned.TheVariants as reasoned
 use Rattle.reason.specs.Call as reason
-use Rattle.sub_problem.specs.declared.Reduced.TheVariants as reduced
 use Rattle.sub_problem.specs.Call as sub-problem
 use Rattle.kept.specs.Kept.{Kept, kept}
 use Rattle.kept.specs.Calls as keeping
 use Rattle.kept.specs.Operations.{Operation, pin, release, operated, operated_all}
-use Rattle.mend.specs.declared.Mended.TheVariants as mended
 use Rattle.mend.specs.Call as mend
 use Rattle.allow.specs.declared.Allowed.{Allowed}
-use Rattle.allow.specs.declared.Allowed.TheVariants as allowed
 use Rattle.allow.specs.declared.Allowed.TheVariants.{Yes, No}
 use Rattle.allow.specs.Call as allow
 use Rattle.worked.specs.Fields.{nought, half, sixteenth, limit, above_limit, minus_half, minus_one, two, minus_two, three, minus_three, four, minus_four, minus_five, six, minus_six, seven, heavy_rate, one, least, minus_nought, huge, minus_huge}
 use Rattle.worked.specs.Fields.{alone, joined, apart, opposed, swallowing, unbalanced, two_parts, overflowing, on_diagonal, with_zero, parted, popped, one_term, two_pairs, three_pairs, four_pairs, linked, at_tolerance, placed, cancelling, feared, staying, both_ways, waiting, in_chain, crossed, on_both_diagonals, edited, listed, whole_limit, past_whole, five}
+use Rattle.pairs.specs.Answers.{paired_answer}
+use Rattle.reason.specs.Answers.{reasoned_answer}
+use Rattle.sub_problem.specs.Answers.{reduced_answer}
+use Rattle.mend.specs.Answers.{mended_answer}
 
 -- a call, the field with its grade, the start values, what else it is given, and what it answers
 pub data Case : Type 0 where
@@ -64,7 +59,7 @@ pub data Case : Type 0 where
   -- the least size, and the anchors
   anchors_at : Field → Grade → List ℕ → ℕ → List ℕ → Case
   -- no field: start values and records, the answer, and what is in the start values afterwards
-  propagates : List ℕ → List ℕ → Checked → List ℕ → Case
+  propagates : List ℕ → List ℕ → Answer Unit → List ℕ → Case
   -- propagation is refused with 7, and all that was lent stays
   argues : List ℕ → List ℕ → Case
   -- the closure is refused, and all that was lent stays
@@ -88,7 +83,7 @@ pub data Case : Type 0 where
   -- the report is too short for the changes
   lacks_report : Field → List ℕ → Case
   -- no field: the number of variables and records, the answer, the assignment and the counts
-  allows : ℕ → List ℕ → Allowed → List ℕ → List ℕ → Case
+  allows : ℕ → List ℕ → Answer Allowed → List ℕ → List ℕ → Case
   -- one place for a value or a count is missing
   lacks_places : ℕ → List ℕ → ℕ → ℕ → Case
 
@@ -124,8 +119,8 @@ cases =
     -- case j: pairs give NoMoreThanOne(0,1)
     ∷ compares (joined (minus_one ∷ minus_one ∷ []) six) Exact (2 ∷ 2 ∷ []) (0 ∷ 1 ∷ 8 ∷ []) 1 1
     -- case k: 10; case l: done, unchanged
-    ∷ propagates (1 ∷ 2 ∷ []) both (Failed Clash) (1 ∷ 2 ∷ [])
-    ∷ propagates (2 ∷ 2 ∷ []) both Passed (2 ∷ 2 ∷ [])
+    ∷ propagates (1 ∷ 2 ∷ []) both (Err Clash) (1 ∷ 2 ∷ [])
+    ∷ propagates (2 ∷ 2 ∷ []) both passed (2 ∷ 2 ∷ [])
     -- case m: preprocess 1,0, and the anchor 0 at least size 2
     ∷ preprocesses (joined (minus_half ∷ minus_half ∷ []) two) Exact (2 ∷ 2 ∷ []) (1 ∷ 0 ∷ [])
     ∷ anchors_at (joined (minus_half ∷ minus_half ∷ []) two) Exact (2 ∷ 2 ∷ []) 2 (0 ∷ [])
@@ -217,13 +212,13 @@ cases =
     ∷ probes_all three_pairs Exact (2 ∷ 2 ∷ 2 ∷ []) (0 ∷ 2 ∷ 2 ∷ []) (0 ∷ 1 ∷ 10 ∷ 0 ∷ 2 ∷ 2 ∷ 1 ∷ 2 ∷ 14 ∷ [])
     ∷ probes_all four_pairs Inexact (2 ∷ 2 ∷ 2 ∷ []) (0 ∷ 2 ∷ 2 ∷ []) (1 ∷ 2 ∷ 15 ∷ [])
     -- 10 and 11: x0=1 forbids both values of x1, x1=1 gives x0, and x0=0 gives nothing
-    ∷ propagates (1 ∷ 2 ∷ []) (0 ∷ 1 ∷ 12 ∷ []) (Failed Clash) (1 ∷ 2 ∷ [])
-    ∷ propagates (2 ∷ 1 ∷ []) (0 ∷ 1 ∷ 12 ∷ []) Passed (0 ∷ 1 ∷ [])
-    ∷ propagates (0 ∷ 2 ∷ []) (0 ∷ 1 ∷ 12 ∷ []) Passed (0 ∷ 2 ∷ [])
+    ∷ propagates (1 ∷ 2 ∷ []) (0 ∷ 1 ∷ 12 ∷ []) (Err Clash) (1 ∷ 2 ∷ [])
+    ∷ propagates (2 ∷ 1 ∷ []) (0 ∷ 1 ∷ 12 ∷ []) passed (0 ∷ 1 ∷ [])
+    ∷ propagates (0 ∷ 2 ∷ []) (0 ∷ 1 ∷ 12 ∷ []) passed (0 ∷ 2 ∷ [])
     -- all four: accepted, and a clash once either variable has a value
-    ∷ propagates (2 ∷ 2 ∷ []) (0 ∷ 1 ∷ 15 ∷ []) Passed (2 ∷ 2 ∷ [])
-    ∷ propagates (1 ∷ 2 ∷ []) (0 ∷ 1 ∷ 15 ∷ []) (Failed Clash) (1 ∷ 2 ∷ [])
-    ∷ propagates (2 ∷ 0 ∷ []) (0 ∷ 1 ∷ 15 ∷ []) (Failed Clash) (2 ∷ 0 ∷ [])
+    ∷ propagates (2 ∷ 2 ∷ []) (0 ∷ 1 ∷ 15 ∷ []) passed (2 ∷ 2 ∷ [])
+    ∷ propagates (1 ∷ 2 ∷ []) (0 ∷ 1 ∷ 15 ∷ []) (Err Clash) (1 ∷ 2 ∷ [])
+    ∷ propagates (2 ∷ 0 ∷ []) (0 ∷ 1 ∷ 15 ∷ []) (Err Clash) (2 ∷ 0 ∷ [])
     -- 7: ends that do not rise, an empty set, a set above 15, an end not below n
     ∷ argues (2 ∷ 2 ∷ []) (1 ∷ 0 ∷ 6 ∷ [])
     ∷ argues (2 ∷ 2 ∷ []) (0 ∷ 0 ∷ 6 ∷ [])
@@ -270,18 +265,18 @@ cases =
     ∷ probes_fast (joined (minus_one ∷ minus_one ∷ []) four) Exact (2 ∷ 2 ∷ []) 0 0 (0 ∷ 1 ∷ [])
     ∷ probes_fast (joined (minus_one ∷ minus_one ∷ []) four) Exact (2 ∷ 2 ∷ []) 0 1 (1 ∷ 0 ∷ [])
     -- what records allow: Equal and ExactlyOne on one pair, in two records or in one; ExactlyOne alone
-    ∷ allows 2 both (No 0) (2 ∷ 2 ∷ []) (4 ∷ 4 ∷ 4 ∷ 4 ∷ [])
-    ∷ allows 2 (0 ∷ 1 ∷ 15 ∷ []) (No 0) (2 ∷ 2 ∷ []) (4 ∷ 4 ∷ 4 ∷ 4 ∷ [])
-    ∷ allows 2 (0 ∷ 1 ∷ 9 ∷ []) Yes (0 ∷ 1 ∷ []) (2 ∷ 2 ∷ 2 ∷ 2 ∷ [])
+    ∷ allows 2 both (Ok (No 0)) (2 ∷ 2 ∷ []) (4 ∷ 4 ∷ 4 ∷ 4 ∷ [])
+    ∷ allows 2 (0 ∷ 1 ∷ 15 ∷ []) (Ok (No 0)) (2 ∷ 2 ∷ []) (4 ∷ 4 ∷ 4 ∷ 4 ∷ [])
+    ∷ allows 2 (0 ∷ 1 ∷ 9 ∷ []) (Ok Yes) (0 ∷ 1 ∷ []) (2 ∷ 2 ∷ 2 ∷ 2 ∷ [])
     -- 00 and 01: x0 is 1; not 00, then x1 equals x2: x0 is 0, so the others are 1
-    ∷ allows 2 (0 ∷ 1 ∷ 3 ∷ []) Yes (1 ∷ 0 ∷ []) (4 ∷ 1 ∷ 2 ∷ 2 ∷ [])
-    ∷ allows 3 (0 ∷ 1 ∷ 1 ∷ 1 ∷ 2 ∷ 6 ∷ []) Yes (0 ∷ 1 ∷ 1 ∷ []) (3 ∷ 1 ∷ 3 ∷ 2 ∷ 3 ∷ 2 ∷ [])
+    ∷ allows 2 (0 ∷ 1 ∷ 3 ∷ []) (Ok Yes) (1 ∷ 0 ∷ []) (4 ∷ 1 ∷ 2 ∷ 2 ∷ [])
+    ∷ allows 3 (0 ∷ 1 ∷ 1 ∷ 1 ∷ 2 ∷ 6 ∷ []) (Ok Yes) (0 ∷ 1 ∷ 1 ∷ []) (3 ∷ 1 ∷ 3 ∷ 2 ∷ 3 ∷ 2 ∷ [])
     -- x1 is 0, so x0 is 1 and x2 too; x1 can be neither, and x0 is not named
-    ∷ allows 3 (0 ∷ 2 ∷ 4 ∷ 1 ∷ 2 ∷ 12 ∷ 0 ∷ 1 ∷ 1 ∷ []) Yes (1 ∷ 0 ∷ 1 ∷ []) (6 ∷ 3 ∷ 3 ∷ 6 ∷ 6 ∷ 3 ∷ [])
-    ∷ allows 3 (1 ∷ 2 ∷ 3 ∷ 1 ∷ 2 ∷ 12 ∷ []) (No 1) (2 ∷ 2 ∷ 2 ∷ []) (1 ∷ 1 ∷ 4 ∷ 4 ∷ 4 ∷ 4 ∷ [])
+    ∷ allows 3 (0 ∷ 2 ∷ 4 ∷ 1 ∷ 2 ∷ 12 ∷ 0 ∷ 1 ∷ 1 ∷ []) (Ok Yes) (1 ∷ 0 ∷ 1 ∷ []) (6 ∷ 3 ∷ 3 ∷ 6 ∷ 6 ∷ 3 ∷ [])
+    ∷ allows 3 (1 ∷ 2 ∷ 3 ∷ 1 ∷ 2 ∷ 12 ∷ []) (Ok (No 1)) (2 ∷ 2 ∷ 2 ∷ []) (1 ∷ 1 ∷ 4 ∷ 4 ∷ 4 ∷ 4 ∷ [])
     -- no variables, and no records
-    ∷ allows 0 [] Yes [] []
-    ∷ allows 1 [] Yes (0 ∷ []) (1 ∷ 1 ∷ [])
+    ∷ allows 0 [] (Ok Yes) [] []
+    ∷ allows 1 [] (Ok Yes) (0 ∷ []) (1 ∷ 1 ∷ [])
     -- one value or one count has no place
     ∷ lacks_places 2 (0 ∷ 1 ∷ 9 ∷ []) 1 4
     ∷ lacks_places 2 (0 ∷ 1 ∷ 9 ∷ []) 2 3
@@ -352,8 +347,8 @@ bounds F = replicate (variables F + variables F) two
 
 -- The number that one operation on the record answers: 0, or that of its refusal.
 abbrev pub number_to : Field → Kept → Operation → ℕ
-number_to F K (pin i v) = checked_number (keeping.pin_call F K i v).answer
-number_to F K (release i) = checked_number (keeping.release_call F K i).answer
+number_to F K (pin i v) = answer_number (keeping.pin_call F K i v).answer
+number_to F K (release i) = answer_number (keeping.release_call F K i).answer
 
 -- The numbers that these operations answer, one after another, each on what the last one left.
 unfoldable pub numbers : Field → Kept → List Operation → List ℕ
@@ -398,29 +393,29 @@ given (lacks_places n k a c) = in_reach (allow.allow_call n k (replicate a 7) (r
 
 -- what the list says: the answer, the values or the list with what is past it, and scratch that is all zeros
 unfoldable pub expected : Case → Outcome
-expected (closes F g s t flat) = in_closing (closure.left (Counts g flat) t (cleared zero64 (floats F)) (cleared 0 (words F)))
-expected (completes F g s t) = in_start (values.left (Done g) t (cleared zero64 (floats F)) (cleared 0 (words F)))
-expected (preprocesses F g s t) = in_start (values.left (Done g) t (cleared zero64 (floats F)) (cleared 0 (words F)))
-expected (rounds F g s t) = in_start (values.left (Done g) t (cleared zero64 (floats F)) (cleared 0 (words F)))
-expected (probes_one F g s i v t) = in_found (probe.left (Done g) t (cleared zero64 (floats F)) (cleared 0 (words F)))
-expected (probes_fast F g s i v t) = in_found (probe.left (Done g) t (cleared zero64 (floats F)) (cleared 0 (words F)))
-expected (probes_all F g s t k) = in_both (probes.left (Counts g (room k)) t (front k) (cleared zero64 (floats F)) (cleared 0 (words F)))
-expected (probes_some F g s limit t k) = in_both (probes.left (Counts g (room k)) t (front k) (cleared zero64 (floats F)) (cleared 0 (words F)))
-expected (compares F g s k items examined) = in_pairs (pairs.left (paired.Done g items examined) (front k) (cleared zero64 (floats F)) (cleared 0 (words F)))
-expected (anchors_at F g s least l) = in_anchors (anchors.left (Counts g (length l)) (front l) (cleared zero64 (floats F)) (cleared 0 (words F)))
+expected (closes F g s t flat) = in_closing (closure.left (counted_answer g flat) t (cleared zero64 (floats F)) (cleared 0 (words F)))
+expected (completes F g s t) = in_start (values.left (Ok g) t (cleared zero64 (floats F)) (cleared 0 (words F)))
+expected (preprocesses F g s t) = in_start (values.left (Ok g) t (cleared zero64 (floats F)) (cleared 0 (words F)))
+expected (rounds F g s t) = in_start (values.left (Ok g) t (cleared zero64 (floats F)) (cleared 0 (words F)))
+expected (probes_one F g s i v t) = in_found (probe.left (Ok g) t (cleared zero64 (floats F)) (cleared 0 (words F)))
+expected (probes_fast F g s i v t) = in_found (probe.left (Ok g) t (cleared zero64 (floats F)) (cleared 0 (words F)))
+expected (probes_all F g s t k) = in_both (probes.left (counted_answer g (room k)) t (front k) (cleared zero64 (floats F)) (cleared 0 (words F)))
+expected (probes_some F g s limit t k) = in_both (probes.left (counted_answer g (room k)) t (front k) (cleared zero64 (floats F)) (cleared 0 (words F)))
+expected (compares F g s k items examined) = in_pairs (pairs.left (paired_answer g items examined) (front k) (cleared zero64 (floats F)) (cleared 0 (words F)))
+expected (anchors_at F g s least l) = in_anchors (anchors.left (counted_answer g (length l)) (front l) (cleared zero64 (floats F)) (cleared 0 (words F)))
 expected (propagates s k r t) = in_literals (propagation.left r t (cleared 0 (constraint_words s k)))
-expected (argues s k) = in_literals (propagation.left (Failed Argument) s (constraint_words s k))
-expected (refuses F r) = in_closing (closure.left (Refuses r) (free F) (floats F) (words F))
-expected (explains F s i g k l) = in_reason (reason.left (reasoned.Because g k (length l)) (front l) (cleared zero64 (floats F)) (cleared 0 (words F)))
-expected (explains_none F s i r) = in_reason (reason.left (reasoned.Refuses r) (lent []) (cleared zero64 (floats F)) (cleared 0 (words F)))
-expected (reduces F g s G k b) = in_lists (sub-problem.left (reduced.Done g (variables G) (entries G) k) (closed G F) (front b) (cleared zero64 (floats F)) (cleared 0 (words F)))
-expected (lacks_room F s l) = in_lists (sub-problem.left (reduced.Refused Room) F (cleared 0 l) (cleared zero64 (floats F)) (cleared 0 (words F)))
-expected (keeps F s os ns K flat l) = in_record ns K (keeping.closed (Counts Exact flat) l (cleared zero64 (floats F)) (cleared 0 (words F)))
-expected (keeps_none F s r) = in_making (keeping.left (Refused r) (bounds F) 7 (cleared zero64 (floats F)) (cleared 0 (words F)))
+expected (argues s k) = in_literals (propagation.left (Err Argument) s (constraint_words s k))
+expected (refuses F r) = in_closing (closure.left (Err r) (free F) (floats F) (words F))
+expected (explains F s i g k l) = in_reason (reason.left (reasoned_answer g k (length l)) (front l) (cleared zero64 (floats F)) (cleared 0 (words F)))
+expected (explains_none F s i r) = in_reason (reason.left (Err r) (lent []) (cleared zero64 (floats F)) (cleared 0 (words F)))
+expected (reduces F g s G k b) = in_lists (sub-problem.left (reduced_answer g (variables G) (entries G) k) (closed G F) (front b) (cleared zero64 (floats F)) (cleared 0 (words F)))
+expected (lacks_room F s l) = in_lists (sub-problem.left (Err Room) F (cleared 0 l) (cleared zero64 (floats F)) (cleared 0 (words F)))
+expected (keeps F s os ns K flat l) = in_record ns K (keeping.closed (counted_answer Exact flat) l (cleared zero64 (floats F)) (cleared 0 (words F)))
+expected (keeps_none F s r) = in_making (keeping.left (Err r) (bounds F) 7 (cleared zero64 (floats F)) (cleared 0 (words F)))
 expected (mends F g G l) =
     let H = closed G F in
-    in_entries (mend.left (mended.Done g (entries G) (length l / 3)) H.rows H.cols H.quad (front l) (cleared zero64 (floats F)) (cleared 0 (words F)))
-expected (overflows F) = in_entries (mend.left (mended.Refused Sum) F.rows F.cols F.quad (lent []) (floats F) (words F))
-expected (lacks_report F l) = in_entries (mend.left (mended.Refused Room) F.rows F.cols F.quad (cleared 0 l) (cleared zero64 (floats F)) (cleared 0 (words F)))
+    in_entries (mend.left (mended_answer g (entries G) (length l / 3)) H.rows H.cols H.quad (front l) (cleared zero64 (floats F)) (cleared 0 (words F)))
+expected (overflows F) = in_entries (mend.left (Err Sum) F.rows F.cols F.quad (lent []) (floats F) (words F))
+expected (lacks_report F l) = in_entries (mend.left (Err Room) F.rows F.cols F.quad (cleared 0 l) (cleared zero64 (floats F)) (cleared 0 (words F)))
 expected (allows n k r a c) = in_reach (allow.left r (front a) (front c) (cleared 0 (reach_longs n)) (cleared 0 (reach_words n k)))
-expected (lacks_places n k a c) = in_reach (allow.left (allowed.Refuses Room) (replicate a 0) (replicate c 0) (cleared 0 (reach_longs n)) (cleared 0 (reach_words n k)))
+expected (lacks_places n k a c) = in_reach (allow.left (Err Room) (replicate a 0) (replicate c 0) (cleared 0 (reach_longs n)) (cleared 0 (reach_words n k)))

@@ -10,7 +10,7 @@ use lib.ListN.{length, get_or, set, drop, length-set}
 use lib.Seq.{get_or-drop, get_or-set_same, get_or-set_other, ext_get_or}
 use Rattle.rows.specs.Stored.{row_on, put_row}
 use Rattle.rows.proofs.Stored.{length_put}
-use Rattle.places.specs.Places.{places, other_end, entry_in, end_in}
+use Rattle.places.specs.Places.{other_end, entry_in, end_in}
 use Rattle.places.proofs.Places.{other_below}
 use Rattle.places.proofs.Walk.{Along, walk_turn, turn_entry, turn_other, along_start, along_turn, along_end}
 use Rattle.scanning.specs.Merge.{list_at}

@@ -6,37 +6,34 @@ ghost use Rattle.field.specs.Grade.{grade_of};
 ghost use Rattle.places.specs.Places.{Adjacent};
 ghost use Rattle.probing.specs.Remembered.{Remembers};
 
-use crate::copying::{copy_floats, copy_words};
+use crate::copying::copy_part;
 use crate::restoring::undo;
-use field::Grade;
+use field::{FieldRef, Grade};
 use probing::Known;
 
 // The rows at the start values and a copy of them, and the candidates: what a scan there forces; how many these are, beside the grade.
 // The places stand already.
 pub fn remember(
-    c: &[f64],
-    rows: &[u16],
-    cols: &[u16],
-    q: &[f64],
+    field: FieldRef,
     start: &[u8],
     values: &mut [u8],
     f: &mut [f64],
     u: &mut [u32],
     grade: Grade,
 ) -> Known
-    requires ready { Ready (lent c rows cols q) start.now (length f.old) (length u.old) }
+    requires ready { Ready (lent field) start.now (length f.old) (length u.old) }
     requires values_value { values.old ≡ start.now }
-    requires grade_value { grade ≡ grade_of (lent c rows cols q) }
-    requires adjacent { Adjacent (variables (lent c rows cols q)) rows.now cols.now u.old }
+    requires grade_value { grade ≡ grade_of (lent field) }
+    requires adjacent { Adjacent (variables (lent field)) (lent field).rows (lent field).cols u.old }
     ensures values_value_2 { values.new ≡ start.now }
-    ensures remembers { Remembers (given c rows cols q) start.now f.new u.new result }
+    ensures remembers { Remembers (given field) start.now f.new u.new result }
 {
-    let n = c.len();
-    let from = n + 1 + 2 * rows.len();
-    rows::fill::fill(c, rows, cols, q, values, f);
-    copy_floats(f, 0, n + n, n + n);
-    let many = run::queue::scan(c, rows, cols, q, values, f, u);
+    let n = field.c.len();
+    let from = n + 1 + 2 * field.rows.len();
+    rows::fill::fill(field, values, f);
+    copy_part(f, 0, n + n, n + n);
+    let many = run::queue::scan(field, values, f, u);
     undo(start, values, u, from, many);
-    copy_words(u, from, from + n, many);
+    copy_part(u, from, from + n, many);
     Known { many, grade }
 }

@@ -5,10 +5,10 @@ ghost use Rattle.rows.specs.Stored.{Filled};
 ghost use Rattle.run.specs.Cells.{cells};
 ghost use Rattle.workspace.specs.Restored as model;
 
-use crate::copying::copy_floats;
+use crate::copying::copy_part;
+use field::FieldRef;
 use rows::Row;
 use rows::store::put_row;
-use scratch::wide_word;
 
 // The row of t is what its copy is.
 fn back_at(f: &mut [f64], n: usize, t: usize)
@@ -31,8 +31,8 @@ fn back(rows: &[u16], cols: &[u16], f: &mut [f64], u: &[u32], n: usize, x: usize
     requires x_lt_n { x < n }
     ensures { f.new ≡ model.back n rows.now cols.now x f.old }
 {
-    let start = wide_word(u[x]);
-    let end = wide_word(u[x + 1]);
+    let start = u[x] as usize;
+    let end = u[x + 1] as usize;
     for p in start..end {
         let t = places::end_in(u[n + 1 + p]);
         back_at(f, n, t);
@@ -45,40 +45,27 @@ pub fn undo(start: &[u8], values: &mut [u8], u: &[u32], from: usize, count: usiz
     ensures { values.new ≡ start.now }
 {
     for h in 0..count {
-        let x = wide_word(u[from + h]);
+        let x = u[from + h] as usize;
         values[x] = start[x];
     }
 }
 
 // The rows of the neighbours of the variables of a list in u.
-fn back_list(
-    c: &[f64],
-    rows: &[u16],
-    cols: &[u16],
-    q: &[f64],
-    start: &[u8],
-    f: &mut [f64],
-    u: &[u32],
-    from: usize,
-    count: usize,
-)
-    requires { model.Rowable (lent c rows cols q) start.now u.now from count f.old }
-    ensures { Filled (given c rows cols q) start.now f.old f.new }
+fn back_list(field: FieldRef, start: &[u8], f: &mut [f64], u: &[u32], from: usize, count: usize)
+    requires { model.Rowable (lent field) start.now u.now from count f.old }
+    ensures { Filled (given field) start.now f.old f.new }
 {
-    let n = c.len();
+    let n = field.c.len();
     for h in 0..count {
-        let x = wide_word(u[from + h]);
-        back(rows, cols, f, u, n, x);
+        let x = u[from + h] as usize;
+        back(field.rows, field.cols, f, u, n, x);
     }
 }
 
 // After a probe: the values are the start values again, and the rows those at the start values. Only what it touched is put back,
 // or all rows in one copy where it forced more than an eighth of the variables.
 pub fn restore(
-    c: &[f64],
-    rows: &[u16],
-    cols: &[u16],
-    q: &[f64],
+    field: FieldRef,
     start: &[u8],
     values: &mut [u8],
     f: &mut [f64],
@@ -86,18 +73,18 @@ pub fn restore(
     variable: usize,
     count: usize,
 )
-    requires { model.Touched (lent c rows cols q) start.now variable (cells values.old f.old u.now count) }
+    requires { model.Touched (lent field) start.now variable (cells values.old f.old u.now count) }
     ensures values_value { values.new ≡ start.now }
-    ensures filled { Filled (given c rows cols q) start.now f.old f.new }
+    ensures filled { Filled (given field) start.now f.old f.new }
 {
-    let n = c.len();
-    let from = n + 1 + 2 * rows.len();
+    let n = field.c.len();
+    let from = n + 1 + 2 * field.rows.len();
     values[variable] = start[variable];
     undo(start, values, u, from, count);
     if n / 8 < count {
-        copy_floats(f, n + n, 0, n + n);
+        copy_part(f, n + n, 0, n + n);
         return;
     }
-    back(rows, cols, f, u, n, variable);
-    back_list(c, rows, cols, q, start, f, u, from, count);
+    back(field.rows, field.cols, f, u, n, variable);
+    back_list(field, start, f, u, from, count);
 }

@@ -4,18 +4,18 @@ use native.Mathlib.Omega.{arith}
 use lib.ListN.{length}
 use Rattle.field.proofs.Means.{admitted_passes, admitted_loose}
 use Rattle.anchors.proofs.Laws.{refused_call, counted_call, full_call}
-use borrow.Author.Rules.{rules}
+use Rattle.field.proofs.Tried.{err_given}
 use Rattle.anchors.proofs.anchors.Goals as goal
 
-pub returns-in-Failed : goal.returns-in-Failed
-returns-in-Failed c = refused_call _ _ _ _ _ _ (sym c.admitted-checked.ensures ∙ c.in-Failed.is)
+pub returns-in_err-admitted : goal.returns-in_err-admitted
+returns-in_err-admitted c = rw (err_given c.from_residual.ensures) (refused_call _ _ _ _ _ _ (sym c.admitted.ensures ∙ c.in_err-admitted.was))
 
 pub graded-grade-requires : goal.graded-grade-requires
 graded-grade-requires c =
-    admitted_loose ((admitted_passes _ _ _ _).0 (sym c.admitted-checked.ensures ∙ c.in_default.is))
+    admitted_loose ((admitted_passes _ _ _ _).0 (sym c.admitted.ensures ∙ c.in_ok-admitted.was))
 
 pub work-found-requires : goal.work-found-requires
-work-found-requires c = record { admitted = (admitted_passes _ _ _ _).0 (sym c.admitted-checked.ensures ∙ c.in_default.is); grade_value = c.graded-grade.ensures }
+work-found-requires c = record { admitted = (admitted_passes _ _ _ _).0 (sym c.admitted.ensures ∙ c.in_ok-admitted.was); grade_value = c.graded-grade.ensures }
 
 pub returns-then-list-found : goal.returns-then-list-found
 returns-then-list-found c =
@@ -25,9 +25,9 @@ returns-then-list-found c =
     (length
     c.work-found.new.u)
     (sym
-    c.admitted-checked.ensures
+    c.admitted.ensures
     ∙
-    c.in_default.is)
+    c.in_ok-admitted.was)
     c.work-found.ensures
     (length
     c.work-found.new.list)
@@ -36,11 +36,11 @@ returns-then-list-found c =
       c.if-list-found.true,
       c.work-found.auto.list,
     ))
-    c.clear_shorts.ensures
+    (c.fill-then-list-found.ensures.after (λ y e. e))
     c.work-found.auto.list
-    c.clear_floats.ensures
+    (c.fill.ensures.after (λ y e. e))
     c.work-found.auto.f
-    c.clear_words.ensures
+    (c.fill-2.ensures.after (λ y e. e))
     c.work-found.auto.u
 
 pub returns : goal.returns
@@ -49,12 +49,12 @@ returns c =
     (length c.work-found.new.f)
     (length c.work-found.new.u)
     (sym
-    c.admitted-checked.ensures
-    ∙ c.in_default.is)
+    c.admitted.ensures
+    ∙ c.in_ok-admitted.was)
     c.work-found.ensures
     c.graded-grade.ensures
     (omega (arith, c.if-list-found.false, c.work-found.auto.list))
-    c.clear_floats.ensures
+    (c.fill.ensures.after (λ y e. e))
     c.work-found.auto.f
-    c.clear_words.ensures
+    (c.fill-2.ensures.after (λ y e. e))
     c.work-found.auto.u

@@ -4,14 +4,13 @@ use Rattle.text.specs.Text.{refused_text}
 use Rattle.text.proofs.Writes.{as_written, copied}
 use Rattle.answering.proofs.Answers.{refusal_small, done_text, refused_text_lem}
 use native.Mathlib.Omega.{arith}
-use borrow.Author.Rules.{rules}
 use Rattle.answering.proofs.answer_field.Goals as goal
 
 pub write_refused-requires : goal.write_refused-requires
-write_refused-requires c = record { number_bound = refusal_small c.in-Refuses.is (c.wide_word.ensures ∙ c.number.ensures); in_bounds = omega (arith, c.requires.enough.text) }
+write_refused-requires c = record { number_bound = refusal_small c.in-Err.is (c.number.ensures); in_bounds = omega (arith, c.requires.enough.text) }
 
-pub returns-in-Counts : goal.returns-in-Counts
-returns-in-Counts c =
+pub returns-in-Ok : goal.returns-in-Ok
+returns-in-Ok c =
     as_written (done_text _ _
     c.requires.fits
     c.requires.enough
@@ -22,12 +21,12 @@ returns-in-Counts c =
       c.requires.fits.values_long,
     )))
     c.closure-answer.ensures
-    c.in-Counts.is)
+    c.in-Ok.is)
     c.write_answer.ensures
 
-pub returns-in-Refuses : goal.returns-in-Refuses
-returns-in-Refuses c =
-    as_written (ap refused_text (c.wide_word.ensures ∙ c.number.ensures) ∙ refused_text_lem _ _
+pub returns-in-Err : goal.returns-in-Err
+returns-in-Err c =
+    as_written (ap refused_text (c.number.ensures) ∙ refused_text_lem _ _
     c.requires.fits
     c.requires.enough
     (copied c.put_bytes.ensures
@@ -37,5 +36,5 @@ returns-in-Refuses c =
       c.requires.fits.values_long,
     )))
     c.closure-answer.ensures
-    c.in-Refuses.is)
+    c.in-Err.is)
     c.write_refused.ensures

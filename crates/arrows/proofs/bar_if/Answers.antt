@@ -1,15 +1,11 @@
 -- `bar_if` marks where the bit is set. Assumes nothing.
-use mathlib.Core.Path.{◌≡◌, sym, ◌∙◌}
+use mathlib.Core.Path.{◌≡◌}
 use Prim.Native.Nat.{◌/◌, ◌%◌, ◌^◌}
 use native.Mathlib.Nat.{mod-lt}
 use native.Mathlib.Omega.{arith}
 use lib.Bits.{and_mask}
-use Rattle.arrows.proofs.Marks.{bar_in, bar_out}
+use Rattle.arrows.proofs.Marks.{bar_out}
 use Rattle.arrows.proofs.bar_if.Goals as goal
-
-pub returns-then-set-at-eq1 : goal.returns-then-set-at-eq1
-returns-then-set-at-eq1 c =
-    bar_in _ _ _ (sym (and_mask (c.args.set / 2 ^ c.args.at) 1) ∙ c.if-set-at-eq1.true) c.bar.ensures
 
 pub returns-else-set-at-eq1 : goal.returns-else-set-at-eq1
 returns-else-set-at-eq1 c =

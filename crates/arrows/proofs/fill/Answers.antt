@@ -6,5 +6,5 @@ use Rattle.arrows.proofs.fill.Goals as goal
 
 pub returns : goal.returns
 returns c =
-    fill_done (rules_fit _ (listed_ends c.requires.listed)) c.requires.wide.few c.clear.ensures c.selves.ensures c.bar_all.ensures
+    fill_done (rules_fit _ (listed_ends c.requires.listed)) c.requires.wide.few (c.fill.ensures.after (λ y e. e)) c.selves.ensures c.bar_all.ensures
     c.close.ensures

@@ -3,7 +3,6 @@ use Prim.Native.Nat.{◌%◌}
 use lib.ListN.{get_or}
 use Rattle.bit_rows.specs.Rows.{word_of, bit_in}
 use Rattle.bit_rows.proofs.Bits.{read_digit}
-use borrow.Author.Rules.{rules}
 use Rattle.bit_rows.proofs.has.Goals as goal
 
 pub returns : goal.returns

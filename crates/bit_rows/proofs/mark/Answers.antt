@@ -3,7 +3,6 @@ use Prim.Native.Nat.{◌%◌}
 use native.Mathlib.Omega.{arith}
 use Rattle.bit_rows.proofs.Bits.{shifted_one}
 use Rattle.bit_rows.proofs.Rows.{mark_bits}
-use borrow.Author.Rules.{rules}
 use Rattle.bit_rows.proofs.mark.Goals as goal
 
 pub returns : goal.returns

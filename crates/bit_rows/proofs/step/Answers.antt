@@ -1,7 +1,6 @@
 -- `step` joins where the bit is set. Assumes nothing.
 use mathlib.Core.Path.{sym, ◌∙◌}
 use Rattle.bit_rows.proofs.Stages.{step_joined, step_left}
-use borrow.Author.Rules.{rules}
 use Rattle.bit_rows.proofs.step.Goals as goal
 
 pub returns-then-has : goal.returns-then-has

@@ -3,13 +3,12 @@ use mathlib.Core.Path.{refl, ◌∙◌}
 use native.Mathlib.Omega.{arith}
 use Rattle.scratch.specs.Region.{region}
 use Rattle.meaning.specs.Free.{free_to}
-use Rattle.field.specs.Field.{field_of, variables}
+use Rattle.field.specs.Field.{variables, lent}
 use Rattle.workspace.proofs.Begun.{begin_places}
 use Rattle.walking.specs.Walk.{candidates_at}
 use Rattle.probes.proofs.Chosen.{all_free, free_room, free_are}
 use Rattle.probes.proofs.Answers.{settled_as}
 use Rattle.cold.proofs.Walked.{lined_of}
-use borrow.Author.Rules.{rules}
 use Rattle.cold.proofs.probe_all.Goals as goal
 
 pub build-requires : goal.build-requires
@@ -30,7 +29,7 @@ settle-requires c =
 pub returns : goal.returns
 returns c =
     let a = c.args in
-    let F = field_of a.c.now a.rows.now a.cols.now a.q.now in
+    let F = lent a.field in
     let l = c.list_free-count in
     settled_as F a.start.now a.constraints.now (region (candidates_at F) l.result l.new.u) (free_to a.start.now (variables F))
     a.values.now a.values.now a.f.now a.f.now l.new.u a.u.now c.settle.ensures

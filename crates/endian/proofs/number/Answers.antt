@@ -1,5 +1,4 @@
 -- `number` reads one byte a turn, the highest first. Assumes nothing.
-use Prim.Native.Nat.{◌+◌, ◌-◌}
 use native.Mathlib.Omega.{arith}
 use Rattle.endian.proofs.Numbers.{gather_start, gather_turn, gather_fits, gather_done}
 use Rattle.endian.proofs.number.Goals as goal
@@ -11,18 +10,10 @@ pub overflow_mul-value : goal.overflow_mul-value
 overflow_mul-value c = omega (arith, gather_fits c.loop-i.invariant (omega arith) (omega arith))
 
 pub overflow_add-value : goal.overflow_add-value
-overflow_add-value c =
-    omega (
-      arith,
-      gather_fits c.loop-i.invariant (omega arith) (omega arith),
-      c.wide.ensures,
-      c.shared_slice_known-in-loop-i-1.given (c.args.at + (c.loop-i.i - 1)),
-    )
+overflow_add-value c = omega (arith, gather_fits c.loop-i.invariant (omega arith) (omega arith), c.from.ensures)
 
 pub loop-i-preserved : goal.loop-i-preserved
-loop-i-preserved c =
-    gather_turn c.loop-i.invariant (omega arith) (omega arith) _ c.wide.ensures
-    (omega (arith, c.wide.ensures, c.shared_slice_known-in-loop-i-1.given (c.args.at + (c.loop-i.i - 1))))
+loop-i-preserved c = gather_turn c.loop-i.invariant (omega arith) (omega arith) _ c.from.ensures (omega (arith, c.from.ensures))
 
 pub returns : goal.returns
 returns c = gather_done c.loop-i.invariant (omega arith)

@@ -1,12 +1,7 @@
--- `word` reads four bytes, whose number fits. Assumes nothing.
-use native.Mathlib.Omega.{arith}
-use Rattle.endian.proofs.Numbers.{number_below}
+-- `word` reads four bytes as the library does. Assumes nothing.
+use mathlib.Core.Path.{◌∙◌}
+use Rattle.endian.proofs.Numbers.{read_at_lem}
 use Rattle.endian.proofs.word.Goals as goal
 
-pub overflow_cast-result : goal.overflow_cast-result
-overflow_cast-result c =
-    omega (
-      arith,
-      c.number.ensures,
-      number_below 4 c.args.bytes.now c.args.at (λ i. omega (arith, c.shared_slice_known-1.given i)) c.requires,
-    )
+pub returns : goal.returns
+returns c = c.from_le_bytes.ensures ∙ read_at_lem 3 _ _ c.requires c.bytes_at.ensures

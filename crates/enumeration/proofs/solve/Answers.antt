@@ -1,11 +1,6 @@
 -- `solve` enumerates and puts the values of the mask that wins. Assumes nothing.
 use Rattle.enumeration.proofs.Chosen.{solved_by}
-use borrow.Author.Rules.{rules}
 use Rattle.enumeration.proofs.solve.Goals as goal
-
-pub put-requires : goal.put-requires
-put-requires c =
-    rw c.requires.held.values_long c.requires.small
 
 pub returns : goal.returns
 returns c =

@@ -1,10 +1,6 @@
 -- `carry` takes one part a turn. Assumes nothing.
-use Prim.Native.Nat.{◌-◌}
 use Rattle.expansion.proofs.Carrying.{Carrying}
 use Rattle.expansion.proofs.carry.Given as goal
 
 abbrev pub invariant-loop-i : goal.invariant-loop-i
 invariant-loop-i l = Carrying l.x l.count l.initial.parts l.parts l.kept l.high l.i
-
-abbrev pub decreases-loop-i : goal.decreases-loop-i
-decreases-loop-i l = l.count - l.i

@@ -1,7 +1,6 @@
 -- `round` preprocesses, probes where something is free, and lays the probe values over. Assumes nothing.
 use mathlib.Core.Path.{◌∙◌}
 use Rattle.heavy.proofs.Going.{ready_probe, round_ends, lay_room, round_is}
-use borrow.Author.Rules.{rules}
 use Rattle.heavy.proofs.round.Goals as goal
 
 pub work-requires : goal.work-requires

@@ -2,7 +2,6 @@
 use mathlib.Core.Path.{sym, ◌∙◌}
 use Rattle.preprocess.proofs.Laws.{places_asked, ready_built}
 use Rattle.heavy.proofs.Counted.{front_long}
-use borrow.Author.Rules.{rules}
 use Rattle.heavy.proofs.work.Goals as goal
 
 pub build-requires : goal.build-requires

@@ -5,26 +5,27 @@ use lib.ListN.{length}
 use Rattle.field.proofs.Means.{sound_loose}
 use Rattle.kept.proofs.Tests.{lent_passes}
 use Rattle.kept.proofs.Answers.{refused_make, inexact_make, done_make}
+use Rattle.field.proofs.Tried.{err_given}
 use Rattle.kept.proofs.make.Goals as goal
 
-pub returns-in-Failed : goal.returns-in-Failed
-returns-in-Failed c = refused_make _ _ _ _ _ _ (sym c.lendable-checked.ensures ∙ c.in-Failed.is)
+pub returns-in_err-lendable : goal.returns-in_err-lendable
+returns-in_err-lendable c = rw (err_given c.from_residual.ensures) (refused_make _ _ _ _ _ _ (sym c.lendable.ensures ∙ c.in_err-lendable.was))
 
 pub is_exact-requires : goal.is_exact-requires
-is_exact-requires c = sound_loose ((lent_passes _ _ _ _ _).0 (sym c.lendable-checked.ensures ∙ c.in_default.is)).ready.sound
+is_exact-requires c = sound_loose ((lent_passes _ _ _ _ _).0 (sym c.lendable.ensures ∙ c.in_ok-lendable.was)).ready.sound
 
 pub returns-then-not-is_exact : goal.returns-then-not-is_exact
 returns-then-not-is_exact c =
-    inexact_make _ _ _ _ _ _ _ _ (sym c.lendable-checked.ensures ∙ c.in_default.is) c.clear_floats.ensures refl c.clear_words.ensures refl
+    inexact_make _ _ _ _ _ _ _ _ (sym c.lendable.ensures ∙ c.in_ok-lendable.was) (c.fill.ensures.after (λ y e. e)) refl (c.fill-then-not-is_exact.ensures.after (λ y e. e)) refl
     (sym c.is_exact.ensures ∙ c.if-not-is_exact.true)
 
 pub begin-requires : goal.begin-requires
 begin-requires c =
-    let lent = (lent_passes _ _ _ _ _).0 (sym c.lendable-checked.ensures ∙ c.in_default.is) in
+    let lent = (lent_passes _ _ _ _ _).0 (sym c.lendable.ensures ∙ c.in_ok-lendable.was) in
     record { fillable = record { shaped = lent.ready.sound.shaped; values_long = lent.ready.sound.start.long; room = omega (arith, lent.ready.floats_room) }; bounds_len = lent.long }
 
 pub returns : goal.returns
 returns c =
-    done_make _ _ _ _ c.args.f.now c.args.u.now (length c.begin.new.f) _ (sym c.lendable-checked.ensures ∙ c.in_default.is)
-    c.clear_floats-2.ensures c.begin.auto.f c.clear_words-2.ensures refl
+    done_make _ _ _ _ c.args.f.now c.args.u.now (length c.begin.new.f) _ (sym c.lendable.ensures ∙ c.in_ok-lendable.was)
+    (c.fill-2.ensures.after (λ y e. e)) c.begin.auto.f (c.fill-3.ensures.after (λ y e. e)) refl
     (sym c.is_exact.ensures ∙ c.if-not-is_exact.false) c.begin.ensures

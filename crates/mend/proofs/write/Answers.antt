@@ -7,8 +7,8 @@ put-requires c = reportable c.requires
 
 pub put_back-requires : goal.put_back-requires
 put_back-requires c =
-    returnable c.requires c.clear_shorts.ensures c.clear_shorts-2.ensures c.clear_floats.ensures
+    returnable c.requires (c.fill.ensures.after (λ y e. e)) (c.fill-2.ensures.after (λ y e. e)) (c.fill-3.ensures.after (λ y e. e))
 
 pub returns : goal.returns
 returns c =
-    written c.requires c.clear_shorts.ensures c.clear_shorts-2.ensures c.clear_floats.ensures c.put_back.ensures c.put.ensures
+    written c.requires (c.fill.ensures.after (λ y e. e)) (c.fill-2.ensures.after (λ y e. e)) (c.fill-3.ensures.after (λ y e. e)) c.put_back.ensures c.put.ensures

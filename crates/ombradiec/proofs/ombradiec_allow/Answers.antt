@@ -1,7 +1,8 @@
 -- The variable that a no names has room in the number. Assumes nothing.
-use Rattle.ombradiec.proofs.Positions.{allow_few}
-use borrow.Author.Rules.{rules}
+use Rattle.ombradiec.proofs.Answered.{one_room}
+use Rattle.ombradiec.proofs.Positions.{allow_fits}
+use Rattle.packing.proofs.Reading.{allowed_none}
 use Rattle.ombradiec.proofs.ombradiec_allow.Goals as goal
 
-pub pack_allowed-requires : goal.pack_allowed-requires
-pack_allowed-requires c = allow_few _ _ _ _ _ _ c.allow.ensures
+pub pack-requires : goal.pack-requires
+pack-requires c = one_room c.allow.ensures allowed_none (allow_fits _ _ _ _ _ _)

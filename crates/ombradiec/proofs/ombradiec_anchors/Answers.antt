@@ -1,7 +1,8 @@
 -- The count has room in the number. Assumes nothing.
-use Rattle.ombradiec.proofs.Counts.{anchors_few}
-use borrow.Author.Rules.{rules}
+use mathlib.Core.Path.{refl}
+use Rattle.ombradiec.proofs.Answered.{one_room}
+use Rattle.ombradiec.proofs.Counts.{anchors_fit}
 use Rattle.ombradiec.proofs.ombradiec_anchors.Goals as goal
 
-pub pack_counted-requires : goal.pack_counted-requires
-pack_counted-requires c = anchors_few _ _ _ _ _ _ c.anchors.ensures
+pub pack-requires : goal.pack-requires
+pack-requires c = one_room c.anchors.ensures (λ y. refl) (anchors_fit _ _ _ _ _ _)

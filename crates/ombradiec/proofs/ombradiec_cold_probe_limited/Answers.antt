@@ -1,7 +1,8 @@
 -- The count has room in the number. Assumes nothing.
-use Rattle.ombradiec.proofs.Probed.{probe_limited_few}
-use borrow.Author.Rules.{rules}
+use mathlib.Core.Path.{refl}
+use Rattle.ombradiec.proofs.Answered.{one_room}
+use Rattle.ombradiec.proofs.Probed.{probe_limited_fits}
 use Rattle.ombradiec.proofs.ombradiec_cold_probe_limited.Goals as goal
 
-pub pack_counted-requires : goal.pack_counted-requires
-pack_counted-requires c = probe_limited_few _ _ _ _ _ _ _ c.cold_probe_limited.ensures
+pub pack-requires : goal.pack-requires
+pack-requires c = one_room c.cold_probe_limited.ensures (λ y. refl) (probe_limited_fits _ _ _ _ _ _ _)

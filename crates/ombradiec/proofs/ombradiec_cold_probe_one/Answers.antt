@@ -1,7 +1,8 @@
 -- The position has room in the number. Assumes nothing.
-use Rattle.ombradiec.proofs.Positions.{probe_one_few}
-use borrow.Author.Rules.{rules}
+use mathlib.Core.Path.{refl}
+use Rattle.ombradiec.proofs.Answered.{one_room}
+use Rattle.ombradiec.proofs.Positions.{probe_one_fits}
 use Rattle.ombradiec.proofs.ombradiec_cold_probe_one.Goals as goal
 
-pub pack_answer-requires : goal.pack_answer-requires
-pack_answer-requires c = probe_one_few _ _ _ _ _ _ _ c.cold_probe_one.ensures
+pub pack-requires : goal.pack-requires
+pack-requires c = one_room c.cold_probe_one.ensures (λ y. refl) (probe_one_fits _ _ _ _ _ _ _)

@@ -1,7 +1,8 @@
 -- The position has room in the number. Assumes nothing.
-use Rattle.ombradiec.proofs.Positions.{values_few}
-use borrow.Author.Rules.{rules}
+use mathlib.Core.Path.{refl}
+use Rattle.ombradiec.proofs.Answered.{one_room}
+use Rattle.ombradiec.proofs.Positions.{values_fit}
 use Rattle.ombradiec.proofs.ombradiec_heavy.Goals as goal
 
-pub pack_answer-requires : goal.pack_answer-requires
-pack_answer-requires c = values_few _ _ _ _ _ c.heavy.ensures
+pub pack-requires : goal.pack-requires
+pack-requires c = one_room c.heavy.ensures (λ y. refl) (values_fit _ _ _ _ _)

@@ -1,7 +1,8 @@
 -- The position has room in the number. Assumes nothing.
+use mathlib.Core.Path.{refl}
+use Rattle.packing.proofs.Reading.{one_fits}
 use Rattle.ombradiec.proofs.Records.{keep_few}
-use borrow.Author.Rules.{rules}
 use Rattle.ombradiec.proofs.ombradiec_keep.Goals as goal
 
-pub pack_answer-requires : goal.pack_answer-requires
-pack_answer-requires c = keep_few _ _ _ _ _ _ c.make.ensures
+pub pack-requires : goal.pack-requires
+pack-requires c = one_fits _ (λ y. refl) _ (keep_few _ _ _ _ _ _ c.make.ensures)

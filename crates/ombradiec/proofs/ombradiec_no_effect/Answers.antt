@@ -1,7 +1,8 @@
 -- The count has room in the number. Assumes nothing.
-use Rattle.ombradiec.proofs.Counts.{no_effect_few}
-use borrow.Author.Rules.{rules}
+use mathlib.Core.Path.{refl}
+use Rattle.ombradiec.proofs.Answered.{one_room}
+use Rattle.ombradiec.proofs.Counts.{no_effect_fits}
 use Rattle.ombradiec.proofs.ombradiec_no_effect.Goals as goal
 
-pub pack_counted-requires : goal.pack_counted-requires
-pack_counted-requires c = no_effect_few _ _ _ c.no_effect.ensures
+pub pack-requires : goal.pack-requires
+pack-requires c = one_room c.no_effect.ensures (λ y. refl) (no_effect_fits _ _ _)

@@ -1,7 +1,8 @@
 -- The count has room in the number. Assumes nothing.
-use Rattle.ombradiec.proofs.Counts.{shift_few}
-use borrow.Author.Rules.{rules}
+use mathlib.Core.Path.{refl}
+use Rattle.ombradiec.proofs.Answered.{one_room}
+use Rattle.ombradiec.proofs.Counts.{shift_fits}
 use Rattle.ombradiec.proofs.ombradiec_shift.Goals as goal
 
-pub pack_counted-requires : goal.pack_counted-requires
-pack_counted-requires c = shift_few _ c.shift.ensures
+pub pack-requires : goal.pack-requires
+pack-requires c = one_room c.shift.ensures (λ y. refl) (shift_fits _)

@@ -1,14 +1,16 @@
--- Both sizes have room in the number. Assumes nothing.
-use Rattle.ombradiec.proofs.Counts.{sub_problem_few, constant_is}
-use borrow.Author.Rules.{rules}
+-- Both sizes have room in the number, and the constant beside it is that of the model's answer. Assumes nothing.
+use Rattle.packing.specs.Layout.{constant_after}
+use Rattle.ombradiec.proofs.Answered.{beside, both_room}
+use Rattle.ombradiec.proofs.Counts.{sub_problem_fits}
 use Rattle.ombradiec.proofs.ombradiec_sub_problem.Goals as goal
 
-pub pack_reduced-requires : goal.pack_reduced-requires
-pack_reduced-requires c =
-    let few = sub_problem_few _ _ _ _ _ c.sub_problem-answer.ensures in
-    record { answer_bound = few.entries; answer_bound_2 = few.variables }
+pub pack-requires : goal.pack-requires
+pack-requires c = both_room c.sub_problem-answer.ensures (sub_problem_fits _ _ _ _ _)
 
 pub returns : goal.returns
 returns c =
     let called = c.sub_problem-answer in
-    record { exported = record { answer = called.result; number = c.pack_reduced.ensures; leaves = called.ensures }; constant_value = constant_is _ _ _ _ _ _ called.ensures c.constant_after.ensures }
+    record {
+      exported = record { answer = called.result; number = c.pack.ensures; leaves = called.ensures };
+      constant_value = beside called.ensures constant_after c.constant_after.ensures;
+    }

@@ -1,6 +1,5 @@
 -- `walk` visits the start, then pops until the stack is empty. Assumes nothing.
 use Rattle.parts.proofs.Turns.{walk_done}
-use borrow.Author.Rules.{rules}
 use Rattle.parts.proofs.walk.Goals as goal
 
 pub returns : goal.returns

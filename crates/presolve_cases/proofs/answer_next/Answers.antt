@@ -4,9 +4,6 @@ use lib.Seq.{length-take-le}
 use Rattle.text.proofs.Writes.{written_fits}
 use Rattle.presolve_cases.proofs.answer_next.Goals as goal
 
-pub slice_bounds-read_full-end-2 : goal.slice_bounds-read_full-end-2
-slice_bounds-read_full-end-2 c = sym (length-take-le _ _ c.if-size-gt18179.false)
-
 pub slice_bounds-text-end : goal.slice_bounds-text-end
 slice_bounds-text-end c = written_fits c.answer-r.ensures.written
 

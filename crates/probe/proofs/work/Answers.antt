@@ -2,7 +2,6 @@
 use mathlib.Core.Path.{sym, ap, ◌∙◌}
 use native.Mathlib.Omega.{arith}
 use Rattle.run.specs.Run.{closure}
-use borrow.Author.Rules.{rules}
 use Rattle.probe.proofs.work.Goals as goal
 
 pub assume-requires : goal.assume-requires

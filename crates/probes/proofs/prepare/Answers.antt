@@ -2,7 +2,6 @@
 use native.Mathlib.Omega.{arith}
 use Rattle.calls.proofs.Values.{ready_loose}
 use Rattle.workspace.proofs.Begun.{begin_places}
-use borrow.Author.Rules.{rules}
 use Rattle.probes.proofs.prepare.Goals as goal
 
 pub graded-grade-requires : goal.graded-grade-requires

@@ -2,11 +2,10 @@
 use mathlib.Core.Path.{◌∙◌}
 use Rattle.scratch.specs.Region.{region}
 use Rattle.meaning.specs.Free.{free_to}
-use Rattle.field.specs.Field.{field_of, variables}
+use Rattle.field.specs.Field.{variables, lent}
 use Rattle.walking.specs.Walk.{candidates_at}
 use Rattle.probes.proofs.Chosen.{free_room, free_are, free_standing}
 use Rattle.probes.proofs.Answers.{settled_as}
-use borrow.Author.Rules.{rules}
 use Rattle.probes.proofs.probe_all.Goals as goal
 
 pub list_free-count-requires : goal.list_free-count-requires
@@ -23,7 +22,7 @@ settle-requires c = record {
 pub returns : goal.returns
 returns c =
     let a = c.args in
-    let F = field_of a.c.now a.rows.now a.cols.now a.q.now in
+    let F = lent a.field in
     let p = c.prepare-known in
     let l = c.list_free-count in
     settled_as F a.start.now a.constraints.now (region (candidates_at F) l.result l.new.u) (free_to a.start.now (variables F))

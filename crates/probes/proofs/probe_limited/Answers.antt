@@ -1,19 +1,18 @@
 -- `probe_limited` tests, and works or refuses. Assumes nothing.
 use lib.ListN.{length, take}
-use Rattle.field.specs.Field.{field_of}
+use Rattle.field.specs.Field.{lent}
 use Rattle.ranking.specs.Ranking.{ranks}
 use Rattle.probes.specs.Call.{probe_limited_by}
 use Rattle.probes.proofs.Answers.{ready_of, refused_call, room_call, settled_call}
-use borrow.Author.Rules.{rules}
+use Rattle.field.proofs.Tried.{err_given}
 use Rattle.probes.proofs.probe_limited.Goals as goal
 
-pub returns-in-Failed : goal.returns-in-Failed
+pub returns-in_err-ready : goal.returns-in_err-ready
 unfolding probe_limited_by
-returns-in-Failed c =
-    let a = c.args in
-    let F = field_of a.c.now a.rows.now a.cols.now a.q.now in
+returns-in_err-ready c = rw (err_given c.from_residual.ensures) (let a = c.args in
+    let F = lent a.field in
     refused_call F a.start.now (take a.candidates (ranks F a.start.now))
-    a.values.now a.constraints.now a.f.now a.u.now c.ready-checked.ensures c.in-Failed.is
+    a.values.now a.constraints.now a.f.now a.u.now c.ready.ensures c.in_err-ready.was)
 
 pub shape_of-values-then-values-n : goal.shape_of-values-then-values-n
 shape_of-values-then-values-n c = c.no_room.auto.values
@@ -31,15 +30,15 @@ pub returns-then-values-n : goal.returns-then-values-n
 unfolding probe_limited_by
 returns-then-values-n c =
     let a = c.args in
-    let F = field_of a.c.now a.rows.now a.cols.now a.q.now in
+    let F = lent a.field in
     room_call F a.start.now (take a.candidates (ranks F a.start.now))
-    a.values.now a.constraints.now a.f.now a.u.now c.ready-checked.ensures c.in_default.is c.if-values-n.true c.no_room.ensures
+    a.values.now a.constraints.now a.f.now a.u.now c.ready.ensures c.in_ok-ready.was c.if-values-n.true c.no_room.ensures
 
 pub probe_some-requires : goal.probe_some-requires
 probe_some-requires c =
     let a = c.args in
-    let F = field_of a.c.now a.rows.now a.cols.now a.q.now in
-    record { ready = ready_of F a.start.now (length a.f.now) (length a.u.now) c.ready-checked.ensures c.in_default.is; values_len = c.if-values-n.false }
+    let F = lent a.field in
+    record { ready = ready_of F a.start.now (length a.f.now) (length a.u.now) c.ready.ensures c.in_ok-ready.was; values_len = c.if-values-n.false }
 
 pub shape_of-values : goal.shape_of-values
 shape_of-values c = c.probe_some.auto.values
@@ -57,6 +56,6 @@ pub returns : goal.returns
 unfolding probe_limited_by
 returns c =
     let a = c.args in
-    let F = field_of a.c.now a.rows.now a.cols.now a.q.now in
+    let F = lent a.field in
     settled_call F a.start.now (take a.candidates (ranks F a.start.now))
-    a.values.now a.constraints.now a.f.now a.u.now c.ready-checked.ensures c.in_default.is c.probe_some.ensures
+    a.values.now a.constraints.now a.f.now a.u.now c.ready.ensures c.in_ok-ready.was c.probe_some.ensures

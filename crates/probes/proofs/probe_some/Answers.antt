@@ -2,12 +2,11 @@
 use mathlib.Core.Path.{◌∙◌}
 use lib.ListN.{take}
 use Rattle.scratch.specs.Region.{region}
-use Rattle.field.specs.Field.{field_of}
+use Rattle.field.specs.Field.{lent}
 use Rattle.ranking.specs.Ranking.{ranks}
 use Rattle.walking.specs.Walk.{candidates_at}
 use Rattle.probes.proofs.Chosen.{ready_same, chosen_standing}
 use Rattle.probes.proofs.Answers.{settled_as}
-use borrow.Author.Rules.{rules}
 use Rattle.probes.proofs.probe_some.Goals as goal
 
 pub choose-count-requires : goal.choose-count-requires
@@ -17,7 +16,7 @@ choose-count-requires c =
 pub settle-requires : goal.settle-requires
 settle-requires c =
     let a = c.args in
-    let F = field_of a.c.now a.rows.now a.cols.now a.q.now in
+    let F = lent a.field in
     let p = c.prepare-known in
     let h = c.choose-count in
     record {
@@ -29,7 +28,7 @@ settle-requires c =
 pub returns : goal.returns
 returns c =
     let a = c.args in
-    let F = field_of a.c.now a.rows.now a.cols.now a.q.now in
+    let F = lent a.field in
     let p = c.prepare-known in
     let h = c.choose-count in
     settled_as F a.start.now a.constraints.now (region (candidates_at F) h.result h.new.u) (take a.candidates (ranks F a.start.now))

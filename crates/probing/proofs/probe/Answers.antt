@@ -2,7 +2,6 @@
 use mathlib.Core.Path.{sym, ◌∙◌}
 use native.Mathlib.Omega.{arith}
 use Rattle.probing.proofs.Probing.{probed_below, placed_with, probe_covers, probe_does}
-use borrow.Author.Rules.{rules}
 use Rattle.probing.proofs.probe.Goals as goal
 
 pub bounds-values-variable : goal.bounds-values-variable

@@ -1,6 +1,6 @@
 -- `explain` reads the verdict's bound, by its cases. Assumes nothing.
+use mathlib.Core.Logic.{⊎_elim}
 use Rattle.reason.proofs.Explained.{lower_is, upper_is, flat_is, open_is}
-use borrow.Author.Rules.{rules}
 use Rattle.reason.proofs.explain.Goals as goal
 
 pub returns-in-Zero : goal.returns-in-Zero
@@ -10,7 +10,4 @@ pub returns-in-One : goal.returns-in-One
 returns-in-One c = upper_is _ c.in-One.is c.in_half_units-in-One.ensures
 
 pub returns-in-Flat : goal.returns-in-Flat
-returns-in-Flat c = flat_is _ c.in-Flat.is
-
-pub returns-in-Open : goal.returns-in-Open
-returns-in-Open c = open_is _ c.in-Open.is
+returns-in-Flat c = ⊎_elim (λ e. flat_is _ e) (λ e. open_is _ e) c.in-Flat.is

@@ -1,6 +1,5 @@
 -- `in_half_units` doubles or halves. Assumes nothing.
 use Rattle.reason.proofs.Explained.{fine_is, coarse_is}
-use borrow.Author.Rules.{rules}
 use Rattle.reason.proofs.in_half_units.Goals as goal
 
 pub returns-then-unit-le21 : goal.returns-then-unit-le21

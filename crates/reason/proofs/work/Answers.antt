@@ -1,6 +1,5 @@
 -- `work` answers on an exact field alone. Assumes nothing.
 use Rattle.reason.proofs.Calls.{inexact_told, exact_told, work_exact}
-use borrow.Author.Rules.{rules}
 use Rattle.reason.proofs.work.Goals as goal
 
 pub least_unit-unit-requires : goal.least_unit-unit-requires

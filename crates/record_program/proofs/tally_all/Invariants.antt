@@ -5,7 +5,7 @@ use Rattle.record_program.proofs.Loop.{Reading}
 use Rattle.record_program.proofs.tally_all.Given as goal
 
 abbrev pub invariant-loop-next : goal.invariant-loop-next
-invariant-loop-next l = Reading l.initial.buffer l.buffer l.held l.totals
+invariant-loop-next l = Reading l.initial.buffer l.buffer l.reached
 
 abbrev pub decreases-loop-next : goal.decreases-loop-next
-decreases-loop-next l = to_go (length l.initial.buffer) l.totals l.held
+decreases-loop-next l = to_go (length l.initial.buffer) l.reached.totals l.reached.at

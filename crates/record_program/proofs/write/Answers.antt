@@ -9,6 +9,3 @@ slice_bounds-text-end c = written_fits c.write-size.ensures
 
 pub slice_bounds-write_all-end : goal.slice_bounds-write_all-end
 slice_bounds-write_all-end c = sym (length-take-le _ _ (written_fits c.write-size.ensures))
-
-pub returns : goal.returns
-returns c = c.write-size.ensures.size

@@ -2,7 +2,6 @@
 use mathlib.Core.Path.{◌∙◌}
 use Rattle.records.specs.Reading.{entry_at}
 use Rattle.records.proofs.Finds.{cut, fits, same_entry}
-use borrow.Author.Rules.{rules}
 use Rattle.records.proofs.entry_record.Goals as goal
 
 pub returns-then-left-lt14 : goal.returns-then-left-lt14

@@ -5,7 +5,6 @@ use lib.ListN.{get_or}
 use Rattle.records.specs.Reading.{cursor, given_at}
 use Rattle.records.specs.declared.Record.TheVariants.{Given}
 use Rattle.records.proofs.Finds.{cut, fits}
-use borrow.Author.Rules.{rules}
 use Rattle.records.proofs.given_record.Goals as goal
 
 pub returns-then-left-lt5 : goal.returns-then-left-lt5

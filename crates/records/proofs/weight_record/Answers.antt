@@ -5,7 +5,6 @@ use lib.Ieee.{Float}
 use Rattle.records.specs.Reading.{cursor, weight_at}
 use Rattle.records.specs.declared.Record.TheVariants.{Weight}
 use Rattle.records.proofs.Finds.{cut, fits}
-use borrow.Author.Rules.{rules}
 use Rattle.records.proofs.weight_record.Goals as goal
 
 pub returns-then-left-lt10 : goal.returns-then-left-lt10

@@ -1,7 +1,6 @@
 -- `propagate` is the scan, then the queue. Assumes nothing.
 use mathlib.Core.Path.{refl}
 use Rattle.run.proofs.Turns.{propagate_does}
-use borrow.Author.Rules.{rules}
 use Rattle.run.proofs.propagate.Goals as goal
 
 pub scan-tail-requires : goal.scan-tail-requires

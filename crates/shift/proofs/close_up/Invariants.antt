@@ -1,9 +1,6 @@
 -- `close_up` closes up one entry a turn. Assumes nothing.
-use Prim.Native.Nat.{◌-◌}
-use native.Mathlib.Omega.{arith}
 use Rattle.field.specs.Field.{field_of}
-use Rattle.shift.proofs.Loop.{Stands, stands_start, stands_ready, stands_turn, stands_done}
-use borrow.Author.Rules.{rules}
+use Rattle.shift.proofs.Loop.{Stands}
 use Rattle.shift.proofs.close_up.Given as goal
 
 abbrev pub invariant-loop-k : goal.invariant-loop-k

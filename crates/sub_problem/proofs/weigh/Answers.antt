@@ -1,9 +1,6 @@
 -- `weigh` gathers, adds up the constant and closes up the weights. Assumes nothing.
-use mathlib.Core.Path.{refl}
-use native.Mathlib.Omega.{arith}
 use Rattle.sub_problem.proofs.GatherLoops.{gathers_start}
 use Rattle.sub_problem.proofs.Laws.{listed_rises, weighed}
-use borrow.Author.Rules.{rules}
 use Rattle.sub_problem.proofs.weigh.Goals as goal
 
 pub blank-requires : goal.blank-requires

@@ -3,7 +3,6 @@ use mathlib.Core.Path.{refl}
 use lib.ListN.{length}
 use native.Mathlib.Omega.{arith}
 use Rattle.sub_problem.proofs.Laws.{is_listed, same_usable, worked}
-use borrow.Author.Rules.{rules}
 use Rattle.sub_problem.proofs.work.Goals as goal
 
 pub list_back-requires : goal.list_back-requires
@@ -18,5 +17,5 @@ close_all-kept-requires c = record { usable = same_usable c.requires.usable c.we
 pub returns : goal.returns
 returns c =
     worked _ _ _ _ _ (length c.weigh-constant.new.f) _ c.weigh-constant.new.c c.requires.grade_value c.requires.numbered.counted
-    c.list_back.ensures c.weigh-constant.ensures c.close_all-kept.ensures c.clear_floats.ensures
-    c.weigh-constant.auto.f c.clear_words.ensures refl
+    c.list_back.ensures c.weigh-constant.ensures c.close_all-kept.ensures (c.fill.ensures.after (λ y e. e))
+    c.weigh-constant.auto.f (c.fill-2.ensures.after (λ y e. e)) refl

@@ -2,24 +2,20 @@
 use mathlib.Core.Path.{sym, subst}
 use Rattle.tally.specs.Tally.{Small}
 use Rattle.tally.proofs.Counts.{small_fault}
-use Rattle.tally.proofs.Adds.{small_counts, added_on, added_full, fault_on, fault_full}
-use borrow.Author.Rules.{rules}
+use Rattle.tally.proofs.Adds.{added_on, added_full, fault_on, fault_full}
 use Rattle.tally.proofs.add.Goals as goal
 
-pub plus-sum-requires : goal.plus-sum-requires
-plus-sum-requires c = record { small = c.requires.small; small_2 = small_counts c.requires.small_met c.in-Field.is }
-
 pub returns-then-is_within : goal.returns-then-is_within
-returns-then-is_within c = added_on _ _ c.in-Field.is c.plus-sum.ensures c.is_within.ensures c.if-is_within.true
+returns-then-is_within c = added_on _ _ c.in-Some.is c.plus-totals.ensures c.is_within.ensures c.if-is_within.true
 
-pub plus-sum-requires-in-Malformed : goal.plus-sum-requires-in-Malformed
-plus-sum-requires-in-Malformed c = record { small = c.requires.small; small_2 = subst Small (sym c.refused_field.ensures) small_fault }
+pub plus-totals-requires-in-None : goal.plus-totals-requires-in-None
+plus-totals-requires-in-None c = record { small = c.requires.small; small_2 = subst Small (sym c.refused_field.ensures) small_fault }
 
 pub returns-then-is_within-2 : goal.returns-then-is_within-2
-returns-then-is_within-2 c = fault_on _ _ c.in-Malformed.is c.refused_field.ensures c.plus-sum-in-Malformed.ensures c.is_within-in-Malformed.ensures c.if-is_within-2.true
+returns-then-is_within-2 c = fault_on _ _ c.in-None.is c.refused_field.ensures c.plus-totals-in-None.ensures c.is_within-in-None.ensures c.if-is_within-2.true
 
 pub returns-else-is_within : goal.returns-else-is_within
-returns-else-is_within c = added_full _ _ c.in-Field.is c.plus-sum.ensures c.is_within.ensures c.if-is_within.false
+returns-else-is_within c = added_full _ _ c.in-Some.is c.plus-totals.ensures c.is_within.ensures c.if-is_within.false
 
 pub returns-else-is_within-2 : goal.returns-else-is_within-2
-returns-else-is_within-2 c = fault_full _ _ c.in-Malformed.is c.refused_field.ensures c.plus-sum-in-Malformed.ensures c.is_within-in-Malformed.ensures c.if-is_within-2.false
+returns-else-is_within-2 c = fault_full _ _ c.in-None.is c.refused_field.ensures c.plus-totals-in-None.ensures c.is_within-in-None.ensures c.if-is_within-2.false

@@ -1,6 +1,5 @@
 -- `is_within` compares the largest total with the limit. Assumes nothing.
 use Rattle.tally.specs.Tally.{is_within}
-use borrow.Author.Rules.{rules}
 use Rattle.tally.proofs.is_within.Goals as goal
 
 pub returns : goal.returns

@@ -1,9 +1,6 @@
 -- `refused_field` counts one refused field. Assumes nothing.
-use mathlib.Core.Path.{refl}
-use Rattle.tally.specs.Pieces.{of_read, is_read}
-use Rattle.tally.specs.Tally.{counts_of}
+use Rattle.tally.proofs.Counts.{refused_one}
 use Rattle.tally.proofs.refused_field.Goals as goal
 
 pub returns : goal.returns
-unfolding counts_of of_read is_read
-returns c = refl
+returns c = refused_one c.nothing.ensures

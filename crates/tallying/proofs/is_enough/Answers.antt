@@ -6,6 +6,6 @@ pub returns-then-last : goal.returns-then-last
 unfolding is_enough
 returns-then-last c = rw c.if-last.true
 
-pub returns : goal.returns
+pub returns-else-last : goal.returns-else-last
 unfolding is_enough
-returns c = rw c.if-last.false
+returns-else-last c = rw c.if-last.false

@@ -9,7 +9,7 @@ pub returns : goal.returns
 unfolding forced_line
 returns c = record {
   wrote = wrote_then c.put_bytes-first.ensures (wrote_then c.put_number-second.ensures.wrote (wrote_then c.put-third.ensures (wrote_then
-      (as_text (ap decimal c.wide_byte.ensures) c.put_number-fourth.ensures.wrote) c.put.ensures)));
+      (as_text (ap decimal c.from.ensures) c.put_number-fourth.ensures.wrote) c.put.ensures)));
   upper_bound = omega (
     arith,
     c.put_bytes-first.ensures.next,

@@ -1,6 +1,5 @@
 -- `end_after` asks whether n places are left. Assumes nothing.
 use borrow.Author.Tests.{le-leb, lt-leb}
-use borrow.Author.Rules.{rules}
 use Rattle.walking.specs.Walk.{end_after}
 use Rattle.walking.proofs.end_after.Goals as goal
 

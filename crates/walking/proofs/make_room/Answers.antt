@@ -1,7 +1,6 @@
 -- `make_room` asks whether n places are left. Assumes nothing.
 use borrow.Author.Tests.{le-leb, lt-leb}
 use Rattle.walking.specs.Walk.{roomed}
-use borrow.Author.Rules.{rules}
 use Rattle.walking.proofs.make_room.Goals as goal
 
 pub returns-then-n-u : goal.returns-then-n-u

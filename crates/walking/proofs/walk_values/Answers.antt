@@ -1,32 +1,26 @@
 -- `walk_values` takes one candidate a turn and forgets the numbers. Assumes nothing.
-use Prim.Native.Nat.{◌-◌}
-use mathlib.Core.Path.{sym, ap, ◌∙◌}
+use mathlib.Core.Path.{refl, sym, ap, ◌∙◌}
 use lib.ListN.{length}
-use Rattle.field.specs.Field.{field_of}
-use Rattle.walking.proofs.Going.{less_next, fits_next, Valuing, valuing_start, valuing_done, valuing_twin, valuing_turn}
-use borrow.Author.Rules.{rules}
+use Rattle.walking.proofs.Going.{fits_next, valuing_start, valuing_done, valuing_twin, valuing_turn}
 use Rattle.walking.proofs.walk_values.Goals as goal
 
 pub loop-h-init : goal.loop-h-init
 loop-h-init c = valuing_start c.requires.walkable c.requires.values_value
 
 pub twin-requires : goal.twin-requires
-twin-requires c = let both = valuing_twin c.loop-h.invariant c.loop-h-test.true c.wide_word-candidate.ensures in
+twin-requires c = let both = valuing_twin c.loop-h.invariant c.loop-h-test.true refl in
     record { twinnable = both.0; end_for = both.1.0; values_value = both.1.1 }
 
 pub overflow_step-h : goal.overflow_step-h
 overflow_step-h c =
     record { fits = fits_next c.loop-h-test.true c.requires.walkable.within c.requires.walkable.few }
 
-pub loop-h-smaller : goal.loop-h-smaller
-loop-h-smaller c = less_next c.loop-h-test.true
-
 pub loop-h-preserved : goal.loop-h-preserved
 loop-h-preserved c =
     valuing_turn
     c.loop-h.invariant
     c.loop-h-test.true
-    c.wide_word-candidate.ensures
+    refl
     c.twin.auto.u
     c.twin.ensures.values_value_2
     c.twin.ensures.f_value

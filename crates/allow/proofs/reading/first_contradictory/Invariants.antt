@@ -1,11 +1,7 @@
 -- `first_contradictory` stops at the first. Assumes nothing.
-use Prim.Native.Nat.{◌-◌}
 use Rattle.bit_rows.specs.Rows.{bit_in}
 use Rattle.allow.specs.Choice.{Seeking}
 use Rattle.allow.proofs.reading.first_contradictory.Given as goal
 
 abbrev pub invariant-loop-i : goal.invariant-loop-i
 invariant-loop-i l = Seeking (bit_in l.w) l.n l.i
-
-abbrev pub decreases-loop-i : goal.decreases-loop-i
-decreases-loop-i l = l.n - l.i

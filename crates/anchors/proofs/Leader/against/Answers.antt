@@ -1,15 +1,25 @@
 -- `against` compares weights, then variables. Assumes nothing.
+use mathlib.Core.Path.{sym, ◌∙◌}
+use mathlib.Core.Bool.{true≢false}
+use borrow.Author.Tests.{ltb-true, ltb-false}
 use Rattle.anchors.proofs.Gathering.{heavier, lower, behind, lighter}
 use Rattle.anchors.proofs.Leader.against.Goals as goal
-
-pub returns-then-self-weight : goal.returns-then-self-weight
-returns-then-self-weight c = heavier _ _ _ c.if-self-weight.true
+use Rattle.anchors.proofs.Leader.against.Goals.{then-self-weight, else-self-weight+then-weight-self, else-self-weight+else-weight-self}
 
 pub returns-then-variable-self : goal.returns-then-variable-self
-returns-then-variable-self c = lower _ _ _ c.if-self-weight.false c.if-weight-self.true c.if-variable-self.true
+returns-then-variable-self c =
+    let leads = c.if-variable-self.true in
+    elim c.if-self-weight.branch [
+      | then-self-weight w ↦ heavier _ _ _ w.if-self-weight.true
+      | else-self-weight+then-weight-self w ↦ lower _ _ _ w.if-self-weight.false w.if-weight-self.true (ltb-true _ _ (sym w.value-is ∙ leads))
+      | else-self-weight+else-weight-self w ↦ absurd (true≢false (sym leads ∙ w.value-is ∙ w.if-weight-self.false))
+    ]
 
 pub returns-else-variable-self : goal.returns-else-variable-self
-returns-else-variable-self c = behind _ _ _ c.if-self-weight.false c.if-weight-self.true c.if-variable-self.false
-
-pub returns-else-weight-self : goal.returns-else-weight-self
-returns-else-weight-self c = lighter _ _ _ c.if-self-weight.false c.if-weight-self.false
+returns-else-variable-self c =
+    let leads = c.if-variable-self.false in
+    elim c.if-self-weight.branch [
+      | then-self-weight w ↦ absurd (true≢false (sym w.if-self-weight.true ∙ sym w.value-is ∙ leads))
+      | else-self-weight+then-weight-self w ↦ behind _ _ _ w.if-self-weight.false w.if-weight-self.true (ltb-false _ _ (sym w.value-is ∙ leads))
+      | else-self-weight+else-weight-self w ↦ lighter _ _ _ w.if-self-weight.false w.if-weight-self.false
+    ]

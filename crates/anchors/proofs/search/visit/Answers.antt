@@ -1,34 +1,13 @@
 -- `visit` walks from a start that is not seen, and stores the anchor of its component. Assumes nothing.
 use native.Mathlib.Omega.{arith}
-use borrow.Author.Tests.{not-true, not-false}
 use Rattle.anchors.proofs.Gathering.{leads_below}
-use Rattle.anchors.proofs.Searching.{mark_index, visit_seen, walked_members, visit_small, visit_tilted, visit_found}
-use borrow.Author.Rules.{rules}
+use Rattle.anchors.proofs.Searching.{visit_seen, walked_members, visit_small, visit_tilted, visit_found}
 use Rattle.anchors.proofs.search.visit.Goals as goal
-
-pub overflow_add-n-3 : goal.overflow_add-n-3
-overflow_add-n-3 c =
-    omega (
-      arith,
-      mark_index c.requires.standing.placed c.args.i
-          c.requires.i_bound,
-    )
-
-pub bounds-u-n : goal.bounds-u-n
-bounds-u-n c =
-    mark_index c.requires.standing.placed
-    c.args.i c.requires.i_bound
 
 pub returns-then-u-n-ne2 : goal.returns-then-u-n-ne2
 returns-then-u-n-ne2 c =
     visit_seen c.requires.standing.placed
     c.requires.i_bound _ c.if-u-n-ne2.true
-
-pub walk-count-requires : goal.walk-count-requires
-walk-count-requires c = record { placed = c.requires.standing.placed; start_bound = c.requires.i_bound }
-
-pub shape_of-u-then-count-least : goal.shape_of-u-then-count-least
-shape_of-u-then-count-least c = c.walk-count.auto.u
 
 pub returns-then-count-least : goal.returns-then-count-least
 returns-then-count-least c =
@@ -38,12 +17,6 @@ returns-then-count-least c =
 
 pub all_turnable-requires : goal.all_turnable-requires
 all_turnable-requires c = record { members = walked_members c.requires.standing.placed c.requires.i_bound c.if-u-n-ne2.false c.walk-count.ensures; start_len = c.requires.standing.start_long; q_in_bounds = c.requires.standing.floats_room; grade_value = c.requires.grade_value }
-
-pub shape_of-f-then-not-all_turnable : goal.shape_of-f-then-not-all_turnable
-shape_of-f-then-not-all_turnable c = c.all_turnable.auto.f
-
-pub shape_of-u-then-not-all_turnable : goal.shape_of-u-then-not-all_turnable
-shape_of-u-then-not-all_turnable c = c.walk-count.auto.u
 
 pub returns-then-not-all_turnable : goal.returns-then-not-all_turnable
 returns-then-not-all_turnable c =
@@ -78,24 +51,6 @@ overflow_cast-anchor c =
           c.requires.i_bound,
       c.requires.standing.placed.shaped.few_variables,
     )
-
-pub overflow_add-result : goal.overflow_add-result
-overflow_add-result c =
-    omega (
-      arith,
-      c.requires.found_le_i,
-      c.requires.i_bound,
-      c.requires.standing.placed.shaped.few_variables,
-    )
-
-pub shape_of-list : goal.shape_of-list
-shape_of-list c = c.store.auto.list
-
-pub shape_of-f : goal.shape_of-f
-shape_of-f c = c.all_turnable.auto.f
-
-pub shape_of-u : goal.shape_of-u
-shape_of-u c = c.walk-count.auto.u
 
 pub returns : goal.returns
 returns c =

@@ -1,30 +1,12 @@
 -- `weigh` goes along the places of a variable. Assumes nothing.
-use Prim.Native.Nat.{◌-◌}
+use mathlib.Core.Path.{refl}
 use native.Mathlib.Omega.{arith}
-use Rattle.field.specs.Field.{field_of}
 use Rattle.places.proofs.Walk.{walk_turn}
-use Rattle.anchors.proofs.Summing.{Weighing, weigh_start, weigh_turn, weigh_done}
-use borrow.Author.Rules.{rules}
+use Rattle.anchors.proofs.Summing.{weigh_start, weigh_turn, weigh_done}
 use Rattle.anchors.proofs.sums.weigh.Goals as goal
 
-pub bounds-u-i : goal.bounds-u-i
-bounds-u-i c = omega (arith, c.requires.adjacent.room, c.requires.below)
-
-pub bounds-u-i-2 : goal.bounds-u-i-2
-bounds-u-i-2 c =
-    omega (arith, c.requires.adjacent.room, c.requires.below)
-
 pub loop-p-init : goal.loop-p-init
-loop-p-init c = weigh_start c.requires c.wide_word-start.ensures c.wide_word-end.ensures
-
-pub overflow_add-n : goal.overflow_add-n
-overflow_add-n c = omega (arith, c.requires.shaped.few_variables)
-
-pub overflow_add-n-in-loop-p : goal.overflow_add-n-in-loop-p
-overflow_add-n-in-loop-p c = omega (arith, (walk_turn c.loop-p.invariant.along.walk c.loop-p-test.true).index)
-
-pub offset_bounds-u-n : goal.offset_bounds-u-n
-offset_bounds-u-n c = omega (arith, (walk_turn c.loop-p.invariant.along.walk c.loop-p-test.true).index)
+loop-p-init c = weigh_start c.requires refl refl
 
 pub bounds-u-n : goal.bounds-u-n
 bounds-u-n c = (walk_turn c.loop-p.invariant.along.walk c.loop-p-test.true).index
@@ -39,9 +21,6 @@ weigh_at-weight-requires c = record {
     c.requires.shaped.rows_long,
   );
 }
-
-pub loop-p-smaller : goal.loop-p-smaller
-loop-p-smaller c = omega (arith, c.loop-p-test.true)
 
 pub loop-p-preserved : goal.loop-p-preserved
 loop-p-preserved c = weigh_turn c.loop-p.invariant c.loop-p-test.true c.entry_in-k.ensures c.weigh_at-weight.ensures

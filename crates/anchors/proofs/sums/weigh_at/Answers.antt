@@ -1,20 +1,13 @@
 -- `weigh_at` adds |q| off the diagonal. Assumes nothing.
-use native.Mathlib.Omega.{arith}
 use Rattle.anchors.proofs.Summing.{weighs_diagonal, weighs_some, weighs_none}
-use borrow.Author.Rules.{rules}
 use Rattle.anchors.proofs.sums.weigh_at.Goals as goal
-
-pub bounds-rows-k : goal.bounds-rows-k
-bounds-rows-k c = omega (arith, c.requires.shaped.rows_long, c.requires.k_bound)
-
-pub bounds-cols-k : goal.bounds-cols-k
-bounds-cols-k c = omega (arith, c.requires.shaped.cols_long, c.requires.k_bound)
-
-pub returns-then-rows-k : goal.returns-then-rows-k
-returns-then-rows-k c = weighs_diagonal _ _ _ c.if-rows-k.true
+use Rattle.anchors.proofs.sums.weigh_at.Goals.{else-field-k-via-then-field-k+else-entry, else-field-k-via-else-field-k}
 
 pub returns-then-entry : goal.returns-then-entry
-returns-then-entry c = weighs_some _ _ _ c.if-rows-k.false c.if-entry.true c.magnitude.ensures
+returns-then-entry c = weighs_some _ _ _ c.if-field-k.true c.if-entry.true c.magnitude.ensures
 
-pub returns : goal.returns
-returns c = weighs_none _ _ _ c.if-rows-k.false c.if-entry.false
+pub returns-else-field-k : goal.returns-else-field-k
+returns-else-field-k c = elim c.else-field-k.branch [
+  | else-field-k-via-then-field-k+else-entry w ↦ weighs_none _ _ _ w.if-field-k.true w.if-entry.false
+  | else-field-k-via-else-field-k w ↦ weighs_diagonal _ _ _ w.if-field-k.false
+]

@@ -2,7 +2,6 @@
 use native.Mathlib.Omega.{arith}
 use Rattle.probes.proofs.Chosen.{space_enough}
 use Rattle.cold.proofs.Walked.{lined_walks, lined_same}
-use borrow.Author.Rules.{rules}
 use Rattle.cold.proofs.settling.gather.Goals as goal
 
 pub set_none-requires : goal.set_none-requires

@@ -1,7 +1,6 @@
 -- `both` probes at 0, lays what that leaves, probes at 1, and passes over all variables. Assumes nothing.
 use mathlib.Core.Path.{◌∙◌}
 use Rattle.cold.proofs.Both.{lay_asks, afresh_again, pass_asks, both_adds, both_places}
-use borrow.Author.Rules.{rules}
 use Rattle.cold.proofs.twice.both.Goals as goal
 
 pub probe_afresh-requires : goal.probe_afresh-requires

@@ -1,8 +1,5 @@
 -- `lay` stores one value a turn. Assumes nothing.
-use Prim.Native.Nat.{◌-◌}
-use lib.ListN.{length}
-use Rattle.cold.proofs.Probed.{Laying, laying_start, laying_room, laying_turn, laying_done}
-use borrow.Author.Rules.{rules}
+use Rattle.cold.proofs.Probed.{laying_start, laying_room, laying_turn, laying_done}
 use Rattle.cold.proofs.twice.lay.Goals as goal
 
 pub loop-j-init : goal.loop-j-init
@@ -12,7 +9,7 @@ pub bounds-u-first : goal.bounds-u-first
 bounds-u-first c = laying_room c.loop-j.invariant c.loop-j-test.true
 
 pub loop-j-preserved : goal.loop-j-preserved
-loop-j-preserved c = laying_turn c.loop-j.invariant c.loop-j-test.true c.word.ensures
+loop-j-preserved c = laying_turn c.loop-j.invariant c.loop-j-test.true c.from.ensures
 
 pub shape_of-u : goal.shape_of-u
 shape_of-u c = c.loop-j.invariant.laid.long

@@ -1,7 +1,5 @@
 -- `pass` takes one variable a turn. Assumes nothing.
-use Prim.Native.Nat.{◌-◌}
-use Rattle.cold.proofs.Passed.{Passing, passing_start, passing_long, passing_asks, passing_turn, passing_done}
-use borrow.Author.Rules.{rules}
+use Rattle.cold.proofs.Passed.{passing_start, passing_long, passing_asks, passing_turn, passing_done}
 use Rattle.cold.proofs.twice.pass.Goals as goal
 
 pub loop-j-init : goal.loop-j-init

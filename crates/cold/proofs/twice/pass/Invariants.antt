@@ -1,7 +1,5 @@
 -- `pass` takes one variable a turn. Assumes nothing.
-use Prim.Native.Nat.{◌-◌}
-use Rattle.cold.proofs.Passed.{Passing, passing_start, passing_long, passing_asks, passing_turn, passing_done}
-use borrow.Author.Rules.{rules}
+use Rattle.cold.proofs.Passed.{Passing}
 use Rattle.cold.proofs.twice.pass.Given as goal
 
 abbrev pub invariant-loop-j : goal.invariant-loop-j

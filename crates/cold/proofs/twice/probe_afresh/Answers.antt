@@ -2,7 +2,6 @@
 use mathlib.Core.Path.{refl, sym, ◌∙◌}
 use native.Mathlib.Omega.{arith}
 use Rattle.cold.proofs.Probed.{fill_asks, run_asks, probe_values, probe_behind}
-use borrow.Author.Rules.{rules}
 use Rattle.cold.proofs.twice.probe_afresh.Goals as goal
 
 pub assume-requires : goal.assume-requires

@@ -1,6 +1,5 @@
 -- `key` puts the lower end first, and turns the kind where it exchanges the ends. Assumes nothing.
 use native.Mathlib.Omega.{arith}
-use borrow.Author.Rules.{rules}
 use Rattle.meaning.proofs.Records.{set_proper}
 use Rattle.constraints.specs.Codes.{meant}
 use Rattle.constraints.proofs.Numbers.{key_straight, key_exchanged}
@@ -13,8 +12,8 @@ pub returns-then-first-second : goal.returns-then-first-second
 returns-then-first-second c = key_straight _ _ (meant c.args.kind) c.if-first-second.true c.set.ensures c.number.ensures
 
 pub number-requires-2 : goal.number-requires-2
-number-requires-2 c = record { lower_bound = c.requires.second_bound; higher_bound = c.requires.first_bound; set_bound = omega (arith, c.set-2.ensures, (set_proper (meant c.turned-other.result)).1) }
+number-requires-2 c = record { lower_bound = c.requires.second_bound; higher_bound = c.requires.first_bound; set_bound = omega (arith, c.set-2.ensures, (set_proper (meant c.turned.result)).1) }
 
 pub returns : goal.returns
 returns c =
-    key_exchanged _ _ (meant c.args.kind) c.if-first-second.false c.turned-other.ensures c.set-2.ensures c.number-2.ensures
+    key_exchanged _ _ (meant c.args.kind) c.if-first-second.false c.turned.ensures c.set-2.ensures c.number-2.ensures

@@ -2,7 +2,6 @@
 use native.Mathlib.Omega.{arith}
 use Rattle.places.proofs.Shape.{other_end_below}
 use Rattle.enumeration.proofs.Ends.{end_free, end_fixed}
-use borrow.Author.Rules.{rules}
 use Rattle.enumeration.proofs.linear.add_end.Goals as goal
 
 pub bounds-values-t : goal.bounds-values-t

@@ -1,30 +1,13 @@
 -- `linear_of` goes through the places of i, rising. Assumes nothing.
-use Prim.Native.Nat.{◌-◌}
 use mathlib.Core.Path.{refl}
 use native.Mathlib.Omega.{arith}
-use Rattle.field.specs.Field.{field_of}
 use Rattle.places.proofs.Walk.{walk_turn, turn_entry, turn_other}
-use Rattle.enumeration.proofs.Ends.{Summing, sum_start, sum_turn, sum_done}
-use borrow.Author.Rules.{rules}
+use Rattle.enumeration.proofs.Ends.{sum_start, sum_turn, sum_done}
 use Rattle.enumeration.proofs.linear.linear_of.Goals as goal
-
-pub bounds-u-i : goal.bounds-u-i
-bounds-u-i c =
-    omega (arith, c.requires.held.placed.adjacent.room, c.requires.i_bound)
-
-pub bounds-u-i-2 : goal.bounds-u-i-2
-bounds-u-i-2 c =
-    omega (arith, c.requires.held.placed.adjacent.room, c.requires.i_bound)
 
 pub loop-p-init : goal.loop-p-init
 loop-p-init c =
-    sum_start c.requires.held c.requires.i_bound c.wide_word-start.ensures c.wide_word-end.ensures refl
-
-pub overflow_add-word-in-loop-p : goal.overflow_add-word-in-loop-p
-overflow_add-word-in-loop-p c = omega (arith, (walk_turn c.loop-p.invariant.along.walk c.loop-p-test.true).index)
-
-pub offset_bounds-u-n : goal.offset_bounds-u-n
-offset_bounds-u-n c = omega (arith, (walk_turn c.loop-p.invariant.along.walk c.loop-p-test.true).index)
+    sum_start c.requires.held c.requires.i_bound refl refl refl
 
 pub bounds-u-n : goal.bounds-u-n
 bounds-u-n c = (walk_turn c.loop-p.invariant.along.walk c.loop-p-test.true).index

@@ -1,12 +1,6 @@
 -- `list_pairs` lists the terms of each column. Assumes nothing.
-use Prim.Native.Nat.{◌-◌}
 use native.Mathlib.Omega.{arith}
-use Rattle.scratch.specs.Region.{region}
-use Rattle.field.specs.Field.{field_of}
-use Rattle.masks.specs.Listed.{lists}
-use Rattle.enumeration.specs.Terms.{pair_terms}
-use Rattle.enumeration.proofs.Filling.{room_after, Filling, fill_start, fill_turn, fill_done, pairs_none, pairs_more, pairs_few}
-use borrow.Author.Rules.{rules}
+use Rattle.enumeration.proofs.Filling.{room_after, fill_start, fill_turn, pairs_none, pairs_more, pairs_few}
 use Rattle.enumeration.proofs.pairs.list_pairs.Goals as goal
 
 pub loop-b-init : goal.loop-b-init
@@ -19,12 +13,3 @@ list_column-end-requires c =
 
 pub loop-b-preserved : goal.loop-b-preserved
 loop-b-preserved c = fill_turn c.loop-b.invariant c.loop-b-test.true c.list_column-end.ensures (pairs_more _ _ _ _ _ c.requires.small.room)
-
-pub shape_of-terms : goal.shape_of-terms
-shape_of-terms c = c.loop-b.invariant.listed.values_long
-
-pub shape_of-required : goal.shape_of-required
-shape_of-required c = c.loop-b.invariant.listed.required_long
-
-pub returns : goal.returns
-returns c = fill_done c.loop-b.invariant c.loop-b-test.false

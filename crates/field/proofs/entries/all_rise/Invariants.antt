@@ -1,14 +1,9 @@
 -- `all_rise` tests one entry against the next a turn. Assumes nothing.
 use Prim.Native.Nat.{◌-◌}
 use lib.ListN.{length}
-use Rattle.field.specs.Tests.{rises_at, all_rise}
+use Rattle.field.specs.Tests.{rises_at}
 use Rattle.scratch.specs.All.{Testing}
-use Rattle.scratch.proofs.All.{testing_start, testing_turn, testing_done}
-use borrow.Author.Rules.{rules}
 use Rattle.field.proofs.entries.all_rise.Given as goal
 
 abbrev pub invariant-loop-k : goal.invariant-loop-k
-invariant-loop-k l = Testing (rises_at l.rows l.cols) (length l.rows - 1) l.k l.rise
-
-abbrev pub decreases-loop-k : goal.decreases-loop-k
-decreases-loop-k l = length l.rows - l.k
+invariant-loop-k l = Testing (rises_at l.rows l.cols) (length l.rows - 1) (l.k - 1) l.rise

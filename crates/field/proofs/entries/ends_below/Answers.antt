@@ -1,9 +1,8 @@
 -- `ends_below` tests nothing where n is above every end that there is. Assumes nothing.
 use mathlib.Core.Path.{sym}
-use native.Mathlib.Omega.{arith}
 use Rattle.field.proofs.Means.{below_means}
 use borrow.Author.Rules.{rules}
 use Rattle.field.proofs.entries.ends_below.Goals as goal
 
 pub returns-then-n-gt65535 : goal.returns-then-n-gt65535
-returns-then-n-gt65535 c = sym ((below_means _ _).1 (λ k l. omega (arith, c.if-n-gt65535.true, c.shared_slice_known-1.given k)))
+returns-then-n-gt65535 c = sym ((below_means _ _).1 (λ k l. search rules))

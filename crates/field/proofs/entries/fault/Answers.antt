@@ -2,7 +2,6 @@
 use mathlib.Core.Path.{ap, ◌∙◌}
 use Rattle.field.specs.Tests.{wrong_at, fault_of}
 use Rattle.field.proofs.Faults.{walk_stops}
-use borrow.Author.Rules.{rules}
 use Rattle.field.proofs.entries.fault.Goals as goal
 
 pub wrong_at-requires : goal.wrong_at-requires

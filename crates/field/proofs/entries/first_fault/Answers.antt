@@ -1,10 +1,6 @@
 -- `first_fault` looks at one entry a turn. Assumes nothing.
-use Prim.Native.Nat.{◌-◌}
 use lib.ListN.{length}
-use mathlib.Core.Path.{sym, ◌∙◌}
-use borrow.Author.Tests.{not-true, not-false}
-use Rattle.field.specs.Tests.{is_fine}
-use Rattle.scratch.specs.All.{Passing}
+use mathlib.Core.Path.{sym, ◌∙◌, ◌≡◌}
 use Rattle.scratch.proofs.All.{all_start, all_turn}
 use Rattle.field.proofs.Faults.{first_stop, first_end}
 use borrow.Author.Rules.{rules}
@@ -20,4 +16,6 @@ pub loop-k-preserved : goal.loop-k-preserved
 loop-k-preserved c = all_turn _ c.loop-k.invariant (search rules) (sym c.is_fine.ensures ∙ c.if-not-is_fine.false)
 
 pub returns : goal.returns
-returns c = first_end _ c.loop-k.invariant (search rules)
+returns c =
+    let all : length c.args.rows.now ≡ c.loop-k.k = search rules in
+    all ∙ first_end _ c.loop-k.invariant (search rules)

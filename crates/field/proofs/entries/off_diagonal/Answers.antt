@@ -1,11 +1,6 @@
 -- `off_diagonal` tests one entry a turn. Assumes nothing.
-use Prim.Native.Nat.{◌-◌}
 use mathlib.Core.Path.{refl}
-use mathlib.Core.Bool.{not}
-use lib.Dec.{eqb}
-use lib.ListN.{length, get_or}
 use Rattle.field.specs.Tests.{off_diagonal}
-use Rattle.scratch.specs.All.{Testing}
 use Rattle.scratch.proofs.All.{testing_start, testing_turn, testing_done}
 use borrow.Author.Rules.{rules}
 use Rattle.field.proofs.entries.off_diagonal.Goals as goal

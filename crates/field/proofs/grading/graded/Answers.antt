@@ -1,8 +1,6 @@
 -- `graded` tests the diagonal, then asks for the unit. Assumes nothing.
 use mathlib.Core.Path.{sym, ◌∙◌}
-use borrow.Author.Tests.{not-true, not-false}
 use Rattle.field.proofs.Exact.{grade_no, grade_none, grade_yes}
-use borrow.Author.Rules.{rules}
 use Rattle.field.proofs.grading.graded.Goals as goal
 
 pub off_diagonal-requires : goal.off_diagonal-requires

@@ -1,7 +1,6 @@
 -- `half_unit` measures the linear weights, then the entries' weights. Assumes nothing.
 use Rattle.field.proofs.Means.{all_finite_means}
 use Rattle.field.proofs.Measure.{unit_is}
-use borrow.Author.Rules.{rules}
 use Rattle.field.proofs.grading.half_unit.Goals as goal
 
 pub measured-linear-requires : goal.measured-linear-requires

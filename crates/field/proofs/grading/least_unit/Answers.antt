@@ -1,7 +1,6 @@
 -- `least_unit` counts from the finest unit. Assumes nothing.
 use native.Mathlib.Omega.{arith}
 use Rattle.field.proofs.Exact.{unit_within}
-use borrow.Author.Rules.{rules}
 use Rattle.field.proofs.grading.least_unit.Goals as goal
 
 pub half_unit-requires : goal.half_unit-requires

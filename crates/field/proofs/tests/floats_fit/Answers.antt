@@ -1,7 +1,6 @@
 -- `floats_fit` is one comparison. Assumes nothing.
 use mathlib.Core.Path.{refl}
 use Rattle.field.specs.Tests.{floats_fit}
-use borrow.Author.Rules.{rules}
 use Rattle.field.proofs.tests.floats_fit.Goals as goal
 
 pub returns : goal.returns

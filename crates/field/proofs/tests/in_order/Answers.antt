@@ -1,9 +1,7 @@
 -- `in_order` tests the rows, the columns, and the order. Assumes nothing.
 use mathlib.Core.Path.{sym, ◌∙◌}
-use borrow.Author.Tests.{not-true, not-false}
 use Rattle.scratch.proofs.All.{and_yes, and_no}
 use Rattle.field.specs.Tests.{in_order}
-use borrow.Author.Rules.{rules}
 use Rattle.field.proofs.tests.in_order.Goals as goal
 
 pub returns-then-not-ends_below : goal.returns-then-not-ends_below

@@ -1,12 +1,10 @@
 -- `shape` makes tests 1 and 2, then that of the order of entries, and looks for the fault where that fails. Assumes nothing.
 use mathlib.Core.Path.{sym, ap, ◌∙◌}
-use borrow.Author.Tests.{not-true, not-false}
 use Rattle.field.specs.declared.Refusal.{Refusal}
-use Rattle.field.specs.declared.Checked.TheVariants.{Failed}
 use Rattle.field.specs.Tests.{shape_tests}
 use Rattle.field.proofs.Table.{test_no, test_ok, none_left}
 use Rattle.field.proofs.Means.{lists_mean}
-use borrow.Author.Rules.{rules}
+use Rattle.std.specs.Prelude.{Err}
 use Rattle.field.proofs.tests.shape.Goals as goal
 
 pub returns-then-not-few_variables : goal.returns-then-not-few_variables
@@ -32,7 +30,7 @@ unfolding shape_tests
 returns-then-not-in_order c =
     let few = sym c.few_variables.ensures ∙ c.if-not-few_variables.false in
     let matched = sym c.lists_match.ensures ∙ c.if-not-lists_match.false in
-    ap (λ (r : Refusal). Failed r) c.fault.ensures ∙ test_ok _ _ few (test_ok _ _ matched (test_no _ _ (sym c.in_order.ensures ∙ c.if-not-in_order.true)))
+    ap (λ (r : Refusal). Err r) c.fault.ensures ∙ test_ok _ _ few (test_ok _ _ matched (test_no _ _ (sym c.in_order.ensures ∙ c.if-not-in_order.true)))
 
 pub returns : goal.returns
 unfolding shape_tests

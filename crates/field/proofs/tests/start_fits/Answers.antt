@@ -2,7 +2,6 @@
 use borrow.Author.Tests.{eq-eqb, ne_eqb}
 use Rattle.scratch.proofs.All.{and_yes, and_no}
 use Rattle.field.specs.Tests.{start_fits}
-use borrow.Author.Rules.{rules}
 use Rattle.field.proofs.tests.start_fits.Goals as goal
 
 pub returns-then-start-n : goal.returns-then-start-n

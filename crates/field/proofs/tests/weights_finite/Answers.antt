@@ -1,9 +1,7 @@
 -- `weights_finite` tests the linear weights, then the entries'. Assumes nothing.
 use mathlib.Core.Path.{sym, ◌∙◌}
-use borrow.Author.Tests.{not-true, not-false}
 use Rattle.scratch.proofs.All.{and_yes, and_no}
 use Rattle.field.specs.Tests.{weights_finite}
-use borrow.Author.Rules.{rules}
 use Rattle.field.proofs.tests.weights_finite.Goals as goal
 
 pub returns-then-not-all_finite : goal.returns-then-not-all_finite

@@ -1,7 +1,6 @@
 -- `words_fit` is one comparison. Assumes nothing.
 use mathlib.Core.Path.{refl}
 use Rattle.field.specs.Tests.{words_fit}
-use borrow.Author.Rules.{rules}
 use Rattle.field.proofs.tests.words_fit.Goals as goal
 
 pub returns : goal.returns

@@ -2,7 +2,6 @@
 use Rattle.finding.specs.Emit.{bench}
 use Rattle.finding.proofs.Emitted.{emit_passed, emit_taken}
 use mathlib.Core.Path.{◌∙◌}
-use borrow.Author.Rules.{rules}
 use Rattle.finding.proofs.emitting.emit_from.Goals as goal
 
 pub returns-then-values-j : goal.returns-then-values-j

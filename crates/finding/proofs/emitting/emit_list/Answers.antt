@@ -1,7 +1,6 @@
 -- `emit_list` takes one variable a turn. Assumes nothing.
-use Prim.Native.Nat.{◌-◌}
-use Rattle.finding.proofs.Listing.{Emitting, emitting_start, emitting_long, emitting_read, emitting_asks, emitting_turn, emitting_done}
-use borrow.Author.Rules.{rules}
+use mathlib.Core.Path.{refl}
+use Rattle.finding.proofs.Listing.{emitting_start, emitting_long, emitting_read, emitting_asks, emitting_turn, emitting_done}
 use Rattle.finding.proofs.emitting.emit_list.Goals as goal
 
 pub loop-p-init : goal.loop-p-init
@@ -11,11 +10,11 @@ pub bounds-u-from : goal.bounds-u-from
 bounds-u-from c = emitting_read c.loop-p.invariant c.loop-p-test.true
 
 pub emit_from-last-requires : goal.emit_from-last-requires
-emit_from-last-requires c = let both = emitting_asks c.loop-p.invariant c.loop-p-test.true c.wide_word-j.ensures in
+emit_from-last-requires c = let both = emitting_asks c.loop-p.invariant c.loop-p-test.true refl in
     record { emits = both.0; end_in_bounds = both.1 }
 
 pub loop-p-preserved : goal.loop-p-preserved
-loop-p-preserved c = emitting_turn c.loop-p.invariant c.loop-p-test.true c.wide_word-j.ensures c.emit_from-last.ensures
+loop-p-preserved c = emitting_turn c.loop-p.invariant c.loop-p-test.true refl c.emit_from-last.ensures
 
 pub shape_of-u : goal.shape_of-u
 shape_of-u c = emitting_long c.loop-p.invariant

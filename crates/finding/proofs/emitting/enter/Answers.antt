@@ -1,6 +1,5 @@
 -- `enter` stores the value, then the number. Assumes nothing.
 use Rattle.finding.proofs.Emitted.{entered_by}
-use borrow.Author.Rules.{rules}
 use Rattle.finding.proofs.emitting.enter.Goals as goal
 
 pub returns : goal.returns

@@ -1,17 +1,17 @@
 -- `after_one` goes through the value of the probe at 1. Assumes nothing.
+use borrow.Author.Rules.{rules}
 use Rattle.probe.specs.Found.{found}
 use Rattle.finding.specs.Finds.{number_of}
 use Rattle.finding.proofs.Cases.{after_one_none}
-use borrow.Author.Rules.{rules}
 use Rattle.finding.proofs.rule.after_one.Goals as goal
 
-pub returns-then-v-eq0 : goal.returns-then-v-eq0
+pub returns-in-0 : goal.returns-in-0
 unfolding found number_of
-returns-then-v-eq0 c = rw c.if-v-eq0.true c.key.ensures
+returns-in-0 c = rw c.in-0.is c.key.ensures
 
-pub returns-then-v-eq1 : goal.returns-then-v-eq1
+pub returns-in-1 : goal.returns-in-1
 unfolding found number_of
-returns-then-v-eq1 c = rw c.if-v-eq1.true
+returns-in-1 c = rw c.in-1.is
 
-pub returns : goal.returns
-returns c = after_one_none _ _ _ c.if-v-eq0.false c.if-v-eq1.false c.key-2.ensures
+pub returns-in_default : goal.returns-in_default
+returns-in_default c = after_one_none _ _ _ (λ e. search rules) (λ e. search rules) c.key-in_default.ensures

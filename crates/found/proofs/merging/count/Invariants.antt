@@ -1,9 +1,7 @@
--- `count` takes a block and a word a turn, until no word is left. Assumes nothing.
+-- `count` takes a block and a number a turn, until none is left. Assumes nothing.
+use lib.ListN.{length}
 use Rattle.found.proofs.Loops.{Counting}
 use Rattle.found.proofs.merging.count.Given as goal
 
-abbrev pub invariant-loop-keys : goal.invariant-loop-keys
-invariant-loop-keys l = Counting l.held l.lo l.hi l.list l.u l.items l.keys l.n
-
-abbrev pub decreases-loop-keys : goal.decreases-loop-keys
-decreases-loop-keys l = l.keys
+abbrev pub invariant-loop-at : goal.invariant-loop-at
+invariant-loop-at l = Counting l.held 0 (length l.keys) l.list l.keys l.items l.at l.n

@@ -1,12 +1,8 @@
 -- `lay` writes one value a turn. Assumes nothing.
-use Prim.Native.Nat.{◌-◌}
 use native.Mathlib.Omega.{arith}
-use lib.ListN.{length, get_or}
-use Rattle.scratch.specs.Region.{region}
-use Rattle.probe.proofs.Laws.{WrittenTo, write_start, write_turn, write_done}
-use Rattle.heavy.specs.Rounds.{laid_at, laid_over}
+use Rattle.probe.proofs.Laws.{write_start, write_turn, write_done}
+use Rattle.heavy.specs.Rounds.{laid_over}
 use Rattle.heavy.proofs.Counted.{laid_word}
-use borrow.Author.Rules.{rules}
 use Rattle.heavy.proofs.bytes.lay.Goals as goal
 
 pub loop-j-init : goal.loop-j-init

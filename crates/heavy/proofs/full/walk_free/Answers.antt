@@ -1,6 +1,5 @@
 -- `walk_free` lists the candidates, sets the probe values to 2, and walks. Assumes nothing.
 use Rattle.heavy.proofs.Standing.{all_walkable, all_walked}
-use borrow.Author.Rules.{rules}
 use Rattle.heavy.proofs.full.walk_free.Goals as goal
 
 pub walk_values-requires : goal.walk_values-requires

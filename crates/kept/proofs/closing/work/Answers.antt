@@ -7,14 +7,6 @@ use Rattle.run.proofs.Cells.{placed_start}
 use Rattle.kept.proofs.FromRows.{ran_values, ran_flat}
 use Rattle.kept.proofs.closing.work.Goals as goal
 
-pub copy-requires : goal.copy-requires
-copy-requires c =
-    omega (arith, c.requires.list_len, c.requires.lendable.ready.sound.start.long)
-
-pub copy_bounds-requires : goal.copy_bounds-requires
-copy_bounds-requires c =
-    omega (arith, c.requires.lendable.long, c.requires.lendable.ready.floats_room)
-
 pub build-requires : goal.build-requires
 build-requires c =
     let ready = c.requires.lendable.ready in

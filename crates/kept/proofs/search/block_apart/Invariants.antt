@@ -1,5 +1,5 @@
 -- `block_apart` tests one entry a turn. Assumes nothing.
-use Prim.Native.Nat.{◌+◌, ◌-◌}
+use Prim.Native.Nat.{◌+◌}
 use mathlib.Core.Bool.{not}
 use Rattle.scratch.specs.All.{Testing}
 use Rattle.kept.specs.Kept.{meets}
@@ -7,6 +7,3 @@ use Rattle.kept.proofs.search.block_apart.Given as goal
 
 abbrev pub invariant-loop-k : goal.invariant-loop-k
 invariant-loop-k l = Testing (λ j. not (meets l.rows l.cols l.i (l.from + j))) 64 l.k l.apart
-
-abbrev pub decreases-loop-k : goal.decreases-loop-k
-decreases-loop-k l = 64 - l.k

@@ -1,23 +1,13 @@
 -- `next_entry` passes over blocks, then over entries. Assumes nothing.
 use mathlib.Core.Path.{sym, ◌∙◌}
-use native.Mathlib.Omega.{arith}
 use Rattle.kept.proofs.Entries.{skip_one, next_found, next_none}
 use Rattle.kept.proofs.search.next_entry.Goals as goal
 
 pub loop-k-init : goal.loop-k-init
 loop-k-init c = c.skip-k.ensures
 
-pub bounds-cols-k : goal.bounds-cols-k
-bounds-cols-k c = omega (arith, c.loop-k-test.true, c.requires.rows_len)
-
 pub returns-then-not-is_apart : goal.returns-then-not-is_apart
 returns-then-not-is_apart c = next_found c.loop-k.invariant (sym c.is_apart.ensures ∙ c.if-not-is_apart.true)
-
-pub overflow_add-k : goal.overflow_add-k
-overflow_add-k c = omega (arith, c.loop-k-test.true)
-
-pub loop-k-smaller : goal.loop-k-smaller
-loop-k-smaller c = omega (arith, c.loop-k-test.true)
 
 pub loop-k-preserved : goal.loop-k-preserved
 loop-k-preserved c =

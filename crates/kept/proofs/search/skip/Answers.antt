@@ -1,26 +1,16 @@
 -- `skip` passes over one block a turn. Assumes nothing.
 use mathlib.Core.Path.{sym, ◌∙◌}
-use native.Mathlib.Omega.{arith}
 use Rattle.kept.proofs.Entries.{skip_start, skip_block}
 use Rattle.kept.proofs.search.skip.Goals as goal
 
 pub loop-k-init : goal.loop-k-init
 loop-k-init c = skip_start c.requires.from_in_bounds
 
-pub overflow_add-k : goal.overflow_add-k
-overflow_add-k c = omega (arith, c.loop-k.invariant.within, c.requires.rows_len_bound)
-
 pub block_apart-requires : goal.block_apart-requires
 block_apart-requires c = record { rows_len = c.requires.rows_len; from_in_bounds = c.loop-k-test.true }
 
 pub returns-then-not-block_apart : goal.returns-then-not-block_apart
 returns-then-not-block_apart c = c.loop-k.invariant
-
-pub overflow_add-k-in-loop-k : goal.overflow_add-k-in-loop-k
-overflow_add-k-in-loop-k c = omega (arith, c.loop-k-test.true)
-
-pub loop-k-smaller : goal.loop-k-smaller
-loop-k-smaller c = omega (arith, c.loop-k-test.true)
 
 pub loop-k-preserved : goal.loop-k-preserved
 loop-k-preserved c = skip_block c.loop-k.invariant c.loop-k-test.true (sym c.block_apart.ensures ∙ c.if-not-block_apart.false)

@@ -8,12 +8,6 @@ use Rattle.kept.proofs.storing.store_rows.Goals as goal
 pub loop-t-init : goal.loop-t-init
 loop-t-init c = written_none _
 
-pub row_at-requires : goal.row_at-requires
-row_at-requires c = omega (arith, c.requires.values_in_bounds)
-
-pub put_row-requires : goal.put_row-requires
-put_row-requires c = omega (arith, c.loop-t.invariant.long, c.requires.bounds_len)
-
 pub loop-t-preserved : goal.loop-t-preserved
 loop-t-preserved c =
     written_put c.loop-t.invariant c.loop-t-test.true (omega (arith, c.requires.bounds_len)) (c.stored_row.ensures ∙ ap (stored_row _) c.row_at.ensures) c.put_row.ensures

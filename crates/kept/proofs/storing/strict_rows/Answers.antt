@@ -7,9 +7,6 @@ use Rattle.kept.proofs.storing.strict_rows.Goals as goal
 pub loop-i-init : goal.loop-i-init
 loop-i-init c = count_start _ _
 
-pub row_at-requires : goal.row_at-requires
-row_at-requires c = omega (arith, c.requires)
-
 pub overflow_add-strict : goal.overflow_add-strict
 overflow_add-strict c =
     omega (arith, count_few c.loop-i.invariant refl c.row_at.ensures c.strict_at-strict.ensures, c.requires.values_len_bound, c.loop-i-test.true)

@@ -1,10 +1,6 @@
 -- `strict_rows` is the model's count, a variable at a turn. Assumes nothing.
-use Prim.Native.Nat.{◌-◌}
 use Rattle.kept.proofs.Strict.{Counting}
 use Rattle.kept.proofs.storing.strict_rows.Given as goal
 
 abbrev pub invariant-loop-i : goal.invariant-loop-i
 invariant-loop-i l = Counting l.values l.bounds l.i l.strict
-
-abbrev pub decreases-loop-i : goal.decreases-loop-i
-decreases-loop-i l = l.n - l.i

@@ -1,12 +1,8 @@
 -- `afresh` goes by the byte of the variable. Assumes nothing.
 use mathlib.Core.Path.{sym, ap, ◌∙◌}
-use native.Mathlib.Omega.{arith}
 use Rattle.kept.specs.Kept.{plain}
 use Rattle.kept.proofs.Equation.{stored_free, stored_fixed}
 use Rattle.kept.proofs.turning.afresh.Goals as goal
-
-pub bounds-values-i : goal.bounds-values-i
-bounds-values-i c = omega (arith, c.requires.i_bound, c.requires.sound.start.long)
 
 pub returns-then-value-ne2 : goal.returns-then-value-ne2
 returns-then-value-ne2 c = c.start.ensures ∙ sym (stored_fixed _ c.if-value-ne2.true)

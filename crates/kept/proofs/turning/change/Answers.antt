@@ -4,21 +4,11 @@ use lib.ListN.{length-set}
 use Rattle.kept.proofs.Coded.{sound_set, change_is}
 use Rattle.kept.proofs.turning.change.Goals as goal
 
-pub bounds-values-i : goal.bounds-values-i
-bounds-values-i c = omega (arith, c.requires.i_bound, c.requires.recorded.sound.start.long)
-
-pub bounds-values-i-2 : goal.bounds-values-i-2
-bounds-values-i-2 c = omega (arith, c.requires.i_bound, c.requires.recorded.sound.start.long)
-
 pub turn_rows-requires : goal.turn_rows-requires
 turn_rows-requires c = record { recorded = record { sound = sound_set c.requires.recorded.sound _ _ c.requires.i_bound c.requires.value_bound; long = c.requires.recorded.long }; i_bound = c.requires.i_bound }
 
 pub afresh-requires : goal.afresh-requires
 afresh-requires c = record { sound = sound_set c.requires.recorded.sound _ _ c.requires.i_bound c.requires.value_bound; i_bound = c.requires.i_bound }
-
-pub put_row-requires : goal.put_row-requires
-put_row-requires c =
-    omega (arith, c.turn_rows.auto.bounds, c.requires.recorded.long, c.requires.i_bound)
 
 pub strict_rows-requires : goal.strict_rows-requires
 strict_rows-requires c =
@@ -27,10 +17,6 @@ strict_rows-requires c =
 
 pub shape_of-values : goal.shape_of-values
 shape_of-values c = simp length-set
-
-pub shape_of-bounds : goal.shape_of-bounds
-shape_of-bounds c =
-    omega (arith, c.put_row.auto.f, c.turn_rows.auto.bounds)
 
 pub returns : goal.returns
 returns c =

@@ -4,9 +4,6 @@ use Rattle.kept.proofs.Elsewhere.{other_below}
 use Rattle.kept.proofs.Entries.{adds_start, adds_turn, adds_end}
 use Rattle.kept.proofs.turning.own_row.Goals as goal
 
-pub overflow_cast-short : goal.overflow_cast-short
-overflow_cast-short c = omega (arith, c.requires.i_bound, c.requires.sound.shaped.few_variables)
-
 pub next_entry-k-requires : goal.next_entry-k-requires
 next_entry-k-requires c =
     let shaped = c.requires.sound.shaped in
@@ -20,8 +17,8 @@ other_end-t-requires c =
     let shaped = c.requires.sound.shaped in
     record { k_in_bounds = c.loop-k-test.true; k_in_bounds_2 = omega (arith, c.loop-k-test.true, shaped.rows_long, shaped.cols_long) }
 
-pub bounds-q-k : goal.bounds-q-k
-bounds-q-k c =
+pub bounds-field-k : goal.bounds-field-k
+bounds-field-k c =
     let shaped = c.requires.sound.shaped in
     omega (arith, c.loop-k-test.true, shaped.rows_long)
 
@@ -30,16 +27,10 @@ bounds-values-t c =
     let shaped = c.requires.sound.shaped in
     omega (arith, c.other_end-t.ensures, other_below shaped c.args.i c.loop-k.k (omega (arith, c.loop-k-test.true, shaped.rows_long)), c.requires.sound.start.long)
 
-pub overflow_add-k : goal.overflow_add-k
-overflow_add-k c = omega (arith, c.loop-k-test.true)
-
 pub next_entry-k-requires-in-loop-k : goal.next_entry-k-requires-in-loop-k
 next_entry-k-requires-in-loop-k c =
     let shaped = c.requires.sound.shaped in
     record { rows_len = omega (arith, shaped.rows_long, shaped.cols_long); rows_len_bound = omega (arith, shaped.rows_long, shaped.few_entries); from_in_bounds = omega (arith, c.loop-k-test.true) }
-
-pub loop-k-smaller : goal.loop-k-smaller
-loop-k-smaller c = omega (arith, c.next_entry-k-in-loop-k.ensures.skipped.reach, c.loop-k-test.true)
 
 pub loop-k-preserved : goal.loop-k-preserved
 loop-k-preserved c =

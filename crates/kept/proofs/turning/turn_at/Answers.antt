@@ -16,14 +16,6 @@ bounds-values-t c =
 pub returns-then-values-t-ne2 : goal.returns-then-values-t-ne2
 returns-then-values-t-ne2 c = turn_none _ _ _ _ _ _ _ c.other_end-t.ensures c.requires.k_value c.if-values-t-ne2.true
 
-pub row_at-row-requires : goal.row_at-row-requires
-row_at-row-requires c =
-    omega (arith, c.other_end-t.ensures, other_below c.requires.recorded.sound.shaped c.args.i c.args.k c.requires.k_bound, c.requires.recorded.long)
-
-pub put_row-requires : goal.put_row-requires
-put_row-requires c =
-    omega (arith, c.other_end-t.ensures, other_below c.requires.recorded.sound.shaped c.args.i c.args.k c.requires.k_bound, c.requires.recorded.long)
-
 pub returns : goal.returns
 returns c =
     turn_one _ _ _ _ _ _ _ c.other_end-t.ensures c.requires.k_value c.if-values-t-ne2.false c.half-coeff.ensures c.row_at-row.ensures c.remove_term.ensures

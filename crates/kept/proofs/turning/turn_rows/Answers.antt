@@ -3,9 +3,6 @@ use native.Mathlib.Omega.{arith}
 use Rattle.kept.proofs.Entries.{turns_start, turns_turn, turns_long, turns_end}
 use Rattle.kept.proofs.turning.turn_rows.Goals as goal
 
-pub overflow_cast-short : goal.overflow_cast-short
-overflow_cast-short c = omega (arith, c.requires.i_bound, c.requires.recorded.sound.shaped.few_variables)
-
 pub next_entry-k-requires : goal.next_entry-k-requires
 next_entry-k-requires c =
     let shaped = c.requires.recorded.sound.shaped in
@@ -19,16 +16,10 @@ turn_at-requires c =
     let shaped = c.requires.recorded.sound.shaped in
     record { recorded = record { sound = c.requires.recorded.sound; long = omega (arith, turns_long _ _ _ _ _ _ c.loop-k.invariant shaped, c.requires.recorded.long) }; k_bound = omega (arith, c.loop-k-test.true, shaped.rows_long); k_value = c.loop-k.invariant.found c.loop-k-test.true }
 
-pub overflow_add-k : goal.overflow_add-k
-overflow_add-k c = omega (arith, c.loop-k-test.true)
-
 pub next_entry-k-requires-in-loop-k : goal.next_entry-k-requires-in-loop-k
 next_entry-k-requires-in-loop-k c =
     let shaped = c.requires.recorded.sound.shaped in
     record { rows_len = omega (arith, shaped.rows_long, shaped.cols_long); rows_len_bound = omega (arith, shaped.rows_long, shaped.few_entries); from_in_bounds = omega (arith, c.loop-k-test.true) }
-
-pub loop-k-smaller : goal.loop-k-smaller
-loop-k-smaller c = omega (arith, c.next_entry-k-in-loop-k.ensures.skipped.reach, c.loop-k-test.true)
 
 pub loop-k-preserved : goal.loop-k-preserved
 loop-k-preserved c = turns_turn _ _ _ _ _ _ c.loop-k.invariant c.turn_at.ensures c.next_entry-k-in-loop-k.ensures

@@ -1,27 +1,20 @@
 -- `gives` tries both values of the other end. Assumes nothing.
+use mathlib.Core.Path.{sym}
 use Rattle.literals.specs.Ends.{gives}
-use mathlib.Core.Path.{sym, ◌∙◌}
-use native.Mathlib.Omega.{arith}
 use Rattle.literals.proofs.ends.gives.Goals as goal
 
-pub barred-one-requires : goal.barred-one-requires
-barred-one-requires c = record { v_bound = c.requires; w_bound = omega arith }
-
-pub barred-zero-requires : goal.barred-zero-requires
-barred-zero-requires c = record { v_bound = c.requires; w_bound = omega arith }
-
-pub returns-then-zero : goal.returns-then-zero
+pub returns-in-true-true : goal.returns-in-true-true
 unfolding gives
-returns-then-zero c = rw (sym c.barred-one.ensures ∙ c.if-one.true, sym c.barred-zero.ensures ∙ c.if-zero.true)
+returns-in-true-true c = rw (sym c.in-true-true.ensures, sym c.in-true-true.ensures')
 
-pub returns-then-one : goal.returns-then-one
+pub returns-in-true-false : goal.returns-in-true-false
 unfolding gives
-returns-then-one c = rw (sym c.barred-one.ensures ∙ c.if-one.true, sym c.barred-zero.ensures ∙ c.if-zero.false)
+returns-in-true-false c = rw (sym c.in-true-false.ensures, sym c.in-true-false.ensures')
 
-pub returns-then-zero-2 : goal.returns-then-zero-2
+pub returns-in-false-true : goal.returns-in-false-true
 unfolding gives
-returns-then-zero-2 c = rw (sym c.barred-one.ensures ∙ c.if-one.false, sym c.barred-zero.ensures ∙ c.if-zero-2.true)
+returns-in-false-true c = rw (sym c.in-false-true.ensures, sym c.in-false-true.ensures')
 
-pub returns : goal.returns
+pub returns-in-false-false : goal.returns-in-false-false
 unfolding gives
-returns c = rw (sym c.barred-one.ensures ∙ c.if-one.false, sym c.barred-zero.ensures ∙ c.if-zero-2.false)
+returns-in-false-false c = rw (sym c.in-false-false.ensures, sym c.in-false-false.ensures')

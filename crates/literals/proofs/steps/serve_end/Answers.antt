@@ -4,18 +4,6 @@ use Rattle.literals.proofs.Rules.{other_below}
 use native.Mathlib.Omega.{arith}
 use Rattle.literals.proofs.steps.serve_end.Goals as goal
 
-pub mine-requires : goal.mine-requires
-mine-requires c = let pre = c.requires in record { list_len = pre.listed.whole; x_bound = pre.x_bound }
-
-pub value-requires : goal.value-requires
-value-requires c = let pre = c.requires in let both = reads pre.listed pre.going c.mine.ensures pre.valued.variable in
-    record { i_in_bounds = both.0; i_bound = both.1 }
-
-pub says-w-requires : goal.says-w-requires
-says-w-requires c =
-    let pre = c.requires in
-    record { list_len = pre.listed.whole; x_bound = pre.x_bound; v_bound = rw (c.value.ensures, c.mine.ensures) pre.valued.value }
-
 pub returns-then-w-eq2 : goal.returns-then-w-eq2
 returns-then-w-eq2 c =
     let pre = c.requires in
@@ -25,9 +13,6 @@ pub returns-then-w-eq3 : goal.returns-then-w-eq3
 returns-then-w-eq3 c =
     let pre = c.requires in
     end_both pre.listed pre.going pre.x_bound pre.valued c.mine.ensures c.value.ensures c.says-w.ensures c.if-w-eq3.true
-
-pub other-j-requires : goal.other-j-requires
-other-j-requires c = let pre = c.requires in record { list_len = pre.listed.whole; x_bound = pre.x_bound }
 
 pub value-have-requires : goal.value-have-requires
 value-have-requires c = let pre = c.requires in let both = reads pre.listed pre.going c.other-j.ensures (other_below _ pre.listed _ pre.x_bound) in
@@ -45,8 +30,8 @@ returns-then-have-ne2 c =
     end_clash pre.listed pre.going pre.x_bound pre.valued c.mine.ensures c.value.ensures c.says-w.ensures
     c.if-w-eq2.false c.if-w-eq3.false c.other-j.ensures c.value-have.ensures c.if-have-w.false c.if-have-ne2.true
 
-pub force-last-requires : goal.force-last-requires
-force-last-requires c =
+pub force-requires : goal.force-requires
+force-requires c =
     let pre = c.requires in
     let room = end_room pre.listed pre.going pre.x_bound pre.valued c.mine.ensures c.value.ensures c.says-w.ensures
     c.if-w-eq2.false c.if-w-eq3.false c.other-j.ensures c.value-have.ensures c.if-have-w.false c.if-have-ne2.false in
@@ -56,5 +41,5 @@ pub returns : goal.returns
 returns c =
     let pre = c.requires in
     end_forced pre.listed pre.going pre.x_bound pre.valued c.mine.ensures c.value.ensures c.says-w.ensures
-    c.if-w-eq2.false c.if-w-eq3.false c.other-j.ensures c.value-have.ensures c.if-have-w.false c.if-have-ne2.false c.force-last.ensures.value
-    c.force-last.ensures.u_value
+    c.if-w-eq2.false c.if-w-eq3.false c.other-j.ensures c.value-have.ensures c.if-have-w.false c.if-have-ne2.false c.force.ensures.value
+    c.force.ensures.u_value

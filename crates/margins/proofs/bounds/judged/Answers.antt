@@ -10,6 +10,6 @@ pub returns-then-high-t : goal.returns-then-high-t
 unfolding sign_of
 returns-then-high-t c = simp (c.if-low-t.false, c.if-high-t.true)
 
-pub returns : goal.returns
+pub returns-else-high-t : goal.returns-else-high-t
 unfolding sign_of
-returns c = simp (c.if-low-t.false, c.if-high-t.false)
+returns-else-high-t c = simp (c.if-low-t.false, c.if-high-t.false)

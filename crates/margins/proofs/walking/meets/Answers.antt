@@ -1,11 +1,10 @@
 -- `meets` asks for one weight, then for the other. Assumes nothing.
-use mathlib.Core.Path.{refl}
-use lib.Ieee.{ne}
+use mathlib.Core.Path.{◌∙◌}
+use Rattle.margins.proofs.MergeLaws.{meets_first, meets_second}
 use Rattle.margins.proofs.walking.meets.Goals as goal
 
 pub returns-then-wi : goal.returns-then-wi
-unfolding ne
-returns-then-wi c = rw c.if-wi.true refl
+returns-then-wi c = c.if-wi.true ∙ meets_first _ _ c.if-wi.true
 
-pub returns : goal.returns
-returns c = simp c.if-wi.false
+pub returns-else-wi : goal.returns-else-wi
+returns-else-wi c = meets_second _ _ c.if-wi.false

@@ -1,15 +1,10 @@
 -- `walk_rows` makes one turn of the walk at a time. Assumes nothing.
 use mathlib.Core.Path.{sym, ◌∙◌}
-use Rattle.margins.specs.Merge.{rows_of, Going, left_over}
 use Rattle.margins.proofs.MergeLaws.{going_start, going_turn, going_falls, going_done}
-use borrow.Author.Rules.{rules}
 use Rattle.margins.proofs.walking.walk_rows.Goals as goal
 
 pub loop-w-init : goal.loop-w-init
 loop-w-init c = going_start _ _ c.requires
-
-pub turn-w-requires : goal.turn-w-requires
-turn-w-requires c = record { fit = c.loop-w.invariant.fit; w_value = sym c.is_going.ensures ∙ c.loop-w-test.true }
 
 pub loop-w-smaller : goal.loop-w-smaller
 loop-w-smaller c = going_falls _ _ (sym c.is_going.ensures ∙ c.loop-w-test.true) c.turn-w.ensures

@@ -1,8 +1,5 @@
 -- `walk_rows` makes one turn of the walk at a time. Assumes nothing.
-use mathlib.Core.Path.{sym, ◌∙◌}
 use Rattle.margins.specs.Merge.{rows_of, Going, left_over}
-use Rattle.margins.proofs.MergeLaws.{going_start, going_turn, going_falls, going_done}
-use borrow.Author.Rules.{rules}
 use Rattle.margins.proofs.walking.walk_rows.Given as goal
 
 abbrev pub invariant-loop-w : goal.invariant-loop-w

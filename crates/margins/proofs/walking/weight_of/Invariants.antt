@@ -1,10 +1,6 @@
 -- `weight_of` halves the part in which the key may stand. Assumes nothing.
 use Prim.Native.Nat.{◌-◌}
-use mathlib.Core.Path.{refl}
-use native.Mathlib.Omega.{arith}
 use Rattle.margins.specs.Merge.{Searching}
-use Rattle.margins.proofs.Search.{search_start, search_up, search_down, search_hit, search_miss}
-use borrow.Author.Rules.{rules}
 use Rattle.margins.proofs.walking.weight_of.Given as goal
 
 abbrev pub invariant-loop-low : goal.invariant-loop-low

@@ -1,4 +1,5 @@
 -- `put_back` writes one entry a turn. Assumes nothing.
+use mathlib.Core.Path.{refl}
 use native.Mathlib.Omega.{arith}
 use Rattle.mending.proofs.Returning.{row_narrow, column_narrow, returning_start, returning_turn, returning_done}
 use Rattle.mending.proofs.back.put_back.Goals as goal
@@ -11,7 +12,7 @@ bounds-u-m c = omega (arith, c.requires.words)
 
 pub overflow_cast-rows : goal.overflow_cast-rows
 overflow_cast-rows c =
-    omega (arith, row_narrow c.requires.few_variables c.wide_word-p.ensures (c.requires.below _ c.loop-t-test.true))
+    omega (arith, row_narrow c.requires.few_variables refl (c.requires.below _ c.loop-t-test.true))
 
 pub bounds-rows-t : goal.bounds-rows-t
 bounds-rows-t c =
@@ -19,7 +20,7 @@ bounds-rows-t c =
 
 pub overflow_cast-cols : goal.overflow_cast-cols
 overflow_cast-cols c =
-    omega (arith, column_narrow c.requires.few_variables c.wide_word-p.ensures (c.requires.below _ c.loop-t-test.true))
+    omega (arith, column_narrow c.requires.few_variables refl (c.requires.below _ c.loop-t-test.true))
 
 pub bounds-cols-t : goal.bounds-cols-t
 bounds-cols-t c =
@@ -33,7 +34,7 @@ bounds-q-t c = omega (arith, c.loop-t.invariant.quad_long, c.requires.few)
 
 pub loop-t-preserved : goal.loop-t-preserved
 loop-t-preserved c =
-    returning_turn c.requires c.loop-t.invariant c.loop-t-test.true c.wide_word-p.ensures
+    returning_turn c.requires c.loop-t.invariant c.loop-t-test.true refl
 
 pub shape_of-rows : goal.shape_of-rows
 shape_of-rows c = c.loop-t.invariant.rows_long

@@ -9,11 +9,11 @@ use Rattle.mending.proofs.gathering.take_entry.Goals as goal
 pub place_at-p-requires : goal.place_at-p-requires
 place_at-p-requires c = record { listed = c.requires.listed; k_bound = c.requires.entry }
 
-pub overflow_mul-c : goal.overflow_mul-c
-overflow_mul-c c = omega (arith, square_few _ c.requires.listed.few_variables)
+pub overflow_mul-field : goal.overflow_mul-field
+overflow_mul-field c = omega (arith, square_few _ c.requires.listed.few_variables)
 
-pub returns-then-p-c : goal.returns-then-p-c
-returns-then-p-c c = drops c.requires c.place_at-p.ensures c.if-p-c.true
+pub returns-then-p-field : goal.returns-then-p-field
+returns-then-p-field c = drops c.requires c.place_at-p.ensures c.if-p-field.true
 
 pub overflow_sub-last : goal.overflow_sub-last
 overflow_sub-last c = some_last _ _ _ _ (sym c.is_last.ensures ∙ c.if-is_last.true)

@@ -10,12 +10,12 @@ pub float_from_bits-limit : goal.float_from_bits-limit
 unfolding nan_bits
 float_from_bits-limit c = tt
 
-pub loop-k-init : goal.loop-k-init
-loop-k-init c = testing_start _ _
+pub loop-w-init : goal.loop-w-init
+loop-w-init c = testing_start _ _
 
-pub loop-k-preserved : goal.loop-k-preserved
-loop-k-preserved c = testing_turn _ c.loop-k.invariant (search rules) (ap (λ (x : Float). le x limit64) c.magnitude.ensures)
+pub loop-w-preserved : goal.loop-w-preserved
+loop-w-preserved c = testing_turn _ c.loop-w.invariant (search rules) (ap (λ (x : Float). le x limit64) c.magnitude.ensures)
 
 pub returns : goal.returns
 unfolding all_small
-returns c = testing_done _ c.loop-k.invariant (search rules)
+returns c = testing_done _ c.loop-w.invariant (search rules)

@@ -6,5 +6,5 @@ use Rattle.scratch.specs.All.{Testing}
 use Rattle.mending.specs.Sums.{limit64}
 use Rattle.mending.proofs.sums.all_small.Given as goal
 
-abbrev pub invariant-loop-k : goal.invariant-loop-k
-invariant-loop-k l = Testing (λ j. le (magnitude (get_or l.q j nan)) limit64) (length l.q) l.k l.small
+abbrev pub invariant-loop-w : goal.invariant-loop-w
+invariant-loop-w l = Testing (λ j. le (magnitude (get_or l.q j nan)) limit64) (length l.q) l.w-index l.small

@@ -7,10 +7,10 @@ pub place_at-requires : goal.place_at-requires
 place_at-requires c = record { listed = c.requires.listed; k_bound = c.requires.k_bound }
 
 pub returns-then-place_at-p : goal.returns-then-place_at-p
-returns-then-place_at-p c = part_other _ _ _ _ (λ e. c.if-place_at-p.true (c.place_at.ensures ∙ e))
+returns-then-place_at-p c = part_other _ _ _ (λ e. c.if-place_at-p.true (c.place_at.ensures ∙ e))
 
-pub returns-then-part : goal.returns-then-part
-returns-then-part c = part_more _ _ _ _ (sym c.place_at.ensures ∙ c.if-place_at-p.false) c.if-part.true
+pub returns-in-Some : goal.returns-in-Some
+returns-in-Some c = part_more _ _ _ (sym c.place_at.ensures ∙ c.if-place_at-p.false) c.in-Some.is
 
-pub returns : goal.returns
-returns c = part_first _ _ _ _ (sym c.place_at.ensures ∙ c.if-place_at-p.false) c.if-part.false
+pub returns-in-None : goal.returns-in-None
+returns-in-None c = part_first _ _ _ (sym c.place_at.ensures ∙ c.if-place_at-p.false) c.in-None.is

@@ -2,9 +2,9 @@
 use Prim.Native.Nat.{◌≤◌}
 use mathlib.Core.Path.{◌≡◌}
 use lib.ListN.{length}
-use Rattle.field.specs.Field.{field_of}
+use Rattle.field.specs.Field.{lent}
 use Rattle.mending.proofs.Tested.{part_to}
 use Rattle.mending.proofs.sums.sum_at.Given as goal
 
 abbrev pub invariant-loop-k : goal.invariant-loop-k
-invariant-loop-k l = (l.k ≤ length l.q) × (l.part ≡ part_to (field_of l.c l.rows l.cols l.q) l.p l.k)
+invariant-loop-k l = (l.k ≤ length l.field.q.now) × (l.part ≡ part_to (lent l.field) l.p l.k)

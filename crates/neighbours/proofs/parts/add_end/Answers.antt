@@ -1,6 +1,5 @@
 -- `add_end` stores the linear part and the mass of one variable. Assumes nothing.
 use Rattle.neighbours.specs.Parts.{add_end}
-use borrow.Author.Rules.{rules}
 use Rattle.neighbours.proofs.parts.add_end.Goals as goal
 
 pub returns : goal.returns

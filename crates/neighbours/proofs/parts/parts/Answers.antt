@@ -1,6 +1,5 @@
 -- `parts` starts the parts and adds the entries. Assumes nothing.
 use Rattle.neighbours.proofs.PartLaws.{parted_start}
-use borrow.Author.Rules.{rules}
 use Rattle.neighbours.proofs.parts.parts.Goals as goal
 
 pub add_entries-requires : goal.add_entries-requires

@@ -1,9 +1,7 @@
 -- `put_all` puts one variable a turn. Assumes nothing.
-use Prim.Native.Nat.{◌-◌}
-use native.Mathlib.Omega.{arith}
 use lib.ListN.{length}
 use Rattle.no_effect.specs.Effect.{idle}
-use Rattle.no_effect.proofs.Chosen.{Fills, fills_start, fills_turn, fills_done}
+use Rattle.no_effect.proofs.Chosen.{Fills}
 use Rattle.no_effect.proofs.putting.put_all.Given as goal
 
 abbrev pub invariant-loop-i : goal.invariant-loop-i

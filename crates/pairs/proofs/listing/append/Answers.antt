@@ -1,5 +1,4 @@
 -- `append` writes where there is something to write, and room. Assumes nothing.
-use Rattle.constraints.proofs.Records.{has_room}
 use Rattle.pairs.proofs.ListLaws.{appended_none, appended_full, appended_put}
 use Rattle.pairs.proofs.listing.append.Goals as goal
 
@@ -8,9 +7,6 @@ returns-then-key-eq0 c = appended_none c.if-key-eq0.true
 
 pub returns-then-at-list : goal.returns-then-at-list
 returns-then-at-list c = appended_full c.if-key-eq0.false c.if-at-list.true
-
-pub put_key-requires : goal.put_key-requires
-put_key-requires c = record { at_in_bounds = (has_room c.args.list.now c.args.at).0 c.if-at-list.false; key_bound = c.requires.key_bound }
 
 pub returns : goal.returns
 returns c =

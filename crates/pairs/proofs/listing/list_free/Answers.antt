@@ -1,13 +1,10 @@
 -- `list_free` stores each variable, and counts the free ones. Assumes nothing.
 use native.Mathlib.Omega.{arith}
-use Rattle.pairs.proofs.FreeLaws.{freed_start, freeing_few, freeing_turn, freeing_done}
+use Rattle.pairs.proofs.FreeLaws.{freed_start, freeing_few, freeing_turn}
 use Rattle.pairs.proofs.listing.list_free.Goals as goal
 
 pub loop-i-init : goal.loop-i-init
 loop-i-init c = record { within = omega arith; freed = freed_start _ _ _ }
-
-pub overflow_cast-u : goal.overflow_cast-u
-overflow_cast-u c = omega (arith, c.requires)
 
 pub overflow_add-u : goal.overflow_add-u
 overflow_add-u c = omega (arith, c.requires, freeing_few c.loop-i.invariant, c.loop-i.invariant.freed.long)
@@ -23,9 +20,3 @@ overflow_add-count c = omega (arith, c.requires, freeing_few c.loop-i.invariant,
 
 pub loop-i-preserved : goal.loop-i-preserved
 loop-i-preserved c = freeing_turn c.loop-i.invariant c.loop-i-test.true c.requires.values_in_bounds c.counted-count.ensures.value
-
-pub shape_of-u : goal.shape_of-u
-shape_of-u c = c.loop-i.invariant.freed.long
-
-pub returns : goal.returns
-returns c = freeing_done c.loop-i.invariant c.loop-i-test.false

@@ -1,17 +1,15 @@
 -- `walk_pairs` examines one pair a turn. Assumes nothing.
-use mathlib.Core.Path.{sym, ap, ◌∙◌}
+use mathlib.Core.Path.{sym, ◌∙◌, refl}
 use native.Mathlib.Omega.{arith}
-use lib.ListN.{length}
 use Rattle.pairs.proofs.FreeLaws.{free_is, free_in}
-use Rattle.pairs.proofs.ListLaws.{length_written}
 use Rattle.pairs.proofs.WalkLaws.{walking_start, walking_few, walking_reads, left_pairs, walking_turn, walking_done}
 use Rattle.pairs.proofs.listing.walk_pairs.Goals as goal
 
 pub loop-x-init : goal.loop-x-init
 loop-x-init c = walking_start _ _ _ _
 
-pub overflow_add-base-in-loop-x : goal.overflow_add-base-in-loop-x
-overflow_add-base-in-loop-x c =
+pub overflow_add-i : goal.overflow_add-i
+overflow_add-i c =
     let v = c.loop-x.invariant in
     let t = sym c.is_left.ensures ∙ c.loop-x-test.true in
     omega (arith, walking_reads v c.requires.freed.many t, c.requires.values_in_bounds, c.requires.prepared.laid.values.long, c.requires.prepared.laid.shaped.few_variables)
@@ -28,8 +26,8 @@ bounds-u-base c =
     let t = sym c.is_left.ensures ∙ c.loop-x-test.true in
     omega (arith, walking_reads v c.requires.freed.many t, c.requires.values_in_bounds)
 
-pub overflow_add-base-in-loop-x-2 : goal.overflow_add-base-in-loop-x-2
-overflow_add-base-in-loop-x-2 c =
+pub overflow_add-j : goal.overflow_add-j
+overflow_add-j c =
     let v = c.loop-x.invariant in
     let t = sym c.is_left.ensures ∙ c.loop-x-test.true in
     omega (arith, walking_reads v c.requires.freed.many t, c.requires.values_in_bounds)
@@ -51,8 +49,8 @@ append_pair-items-requires c =
     let v = c.loop-x.invariant in
     let t = sym c.is_left.ensures ∙ c.loop-x-test.true in
     let r = walking_reads v c.requires.freed.many t in
-    let a = free_in c.requires.freed r.0 c.wide_word-i.ensures in
-    let b = free_in c.requires.freed r.1.0 c.wide_word-j.ensures in
+    let a = free_in c.requires.freed r.0 refl in
+    let b = free_in c.requires.freed r.1.0 refl in
     record {
       prepared = c.requires.prepared;
       i_bound = (omega (arith, a.0, c.requires.prepared.laid.values.long), omega (arith, b.0, c.requires.prepared.laid.values.long));
@@ -64,12 +62,6 @@ append_pair-items-requires c =
         c.capped-most.ensures,
       );
     }
-
-pub overflow_add-pairs : goal.overflow_add-pairs
-overflow_add-pairs c =
-    let v = c.loop-x.invariant in
-    let t = sym c.is_left.ensures ∙ c.loop-x-test.true in
-    omega (arith, left_pairs v c.requires.freed.many t)
 
 pub after-x-requires : goal.after-x-requires
 after-x-requires c =
@@ -88,11 +80,8 @@ pub loop-x-preserved : goal.loop-x-preserved
 loop-x-preserved c =
     let v = c.loop-x.invariant in
     let t = sym c.is_left.ensures ∙ c.loop-x-test.true in
-    walking_turn v c.requires.freed.many t (free_is c.requires.freed (walking_reads v c.requires.freed.many t).0 c.wide_word-i.ensures) (free_is c.requires.freed
-    (walking_reads v c.requires.freed.many t).1.0 c.wide_word-j.ensures) c.append_pair-items.ensures c.after-x.ensures
-
-pub shape_of-list : goal.shape_of-list
-shape_of-list c = ap length c.loop-x.invariant.list ∙ length_written _ _
+    walking_turn v c.requires.freed.many t (free_is c.requires.freed (walking_reads v c.requires.freed.many t).0 refl) (free_is c.requires.freed
+    (walking_reads v c.requires.freed.many t).1.0 refl) c.append_pair-items.ensures c.after-x.ensures
 
 pub returns : goal.returns
 returns c =

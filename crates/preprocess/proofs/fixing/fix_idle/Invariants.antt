@@ -5,4 +5,4 @@ use Rattle.preprocess.proofs.Zeros.{Fixes}
 use Rattle.preprocess.proofs.fixing.fix_idle.Given as goal
 
 abbrev pub invariant-loop-i : goal.invariant-loop-i
-invariant-loop-i l = Fixes (idle l.c l.u) (length l.c) l.initial.values l.i l.values
+invariant-loop-i l = Fixes (idle l.field.c.now l.u) (length l.field.c.now) l.initial.values l.i l.values

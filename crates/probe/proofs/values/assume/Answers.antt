@@ -1,6 +1,5 @@
 -- `assume` copies the start values, and adds the one value. Assumes nothing.
 use Rattle.probe.proofs.Laws.{set_same}
-use borrow.Author.Rules.{rules}
 use Rattle.probe.proofs.values.assume.Goals as goal
 
 pub returns : goal.returns

@@ -1,12 +1,9 @@
 -- `keep_new` writes one value a turn. Assumes nothing.
-use Prim.Native.Nat.{◌-◌}
 use mathlib.Core.Path.{◌∙◌, ap}
 use native.Mathlib.Omega.{arith}
-use lib.ListN.{get_or}
 use Rattle.rows.specs.Stored.{up_to}
 use Rattle.probe.specs.Call.{new_at, new_only}
-use Rattle.probe.proofs.Laws.{WrittenTo, write_start, write_turn, write_done}
-use borrow.Author.Rules.{rules}
+use Rattle.probe.proofs.Laws.{write_start, write_turn, write_done}
 use Rattle.probe.proofs.values.keep_new.Goals as goal
 
 pub loop-i-init : goal.loop-i-init

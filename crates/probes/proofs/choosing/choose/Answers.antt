@@ -1,6 +1,5 @@
 -- `choose` ranks the free variables and takes the first of them. Assumes nothing.
 use Rattle.probes.proofs.Chosen.{choose_rankable, chosen}
-use borrow.Author.Rules.{rules}
 use Rattle.probes.proofs.choosing.choose.Goals as goal
 
 pub rank-requires : goal.rank-requires

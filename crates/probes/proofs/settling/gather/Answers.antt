@@ -1,6 +1,5 @@
 -- `gather` sets every probe value to 2, and walks. Assumes nothing.
 use Rattle.probes.proofs.Standing.{standing_walkable, standing_same}
-use borrow.Author.Rules.{rules}
 use Rattle.probes.proofs.settling.gather.Goals as goal
 
 pub walk-requires : goal.walk-requires

@@ -1,18 +1,15 @@
 -- `take_values` writes one value a turn. Assumes nothing.
-use Prim.Native.Nat.{◌+◌, ◌-◌}
 use mathlib.Core.Path.{refl, ◌∙◌}
 use native.Mathlib.Omega.{arith}
-use lib.ListN.{get_or}
-use Rattle.probe.proofs.Laws.{WrittenTo, write_start, write_turn, write_done}
+use Rattle.probe.proofs.Laws.{write_start, write_turn, write_done}
 use Rattle.probes.proofs.Standing.{up_to_region}
-use borrow.Author.Rules.{rules}
 use Rattle.probes.proofs.values.take_values.Goals as goal
 
 pub loop-j-init : goal.loop-j-init
 loop-j-init c = write_start _ _
 
-pub overflow_cast-values : goal.overflow_cast-values
-overflow_cast-values c = omega (arith, c.requires.small _ c.loop-j-test.true)
+pub overflow_cast-value : goal.overflow_cast-value
+overflow_cast-value c = omega (arith, c.requires.small _ c.loop-j-test.true)
 
 pub loop-j-preserved : goal.loop-j-preserved
 loop-j-preserved c = write_turn _ _ c.loop-j.invariant (omega arith) refl

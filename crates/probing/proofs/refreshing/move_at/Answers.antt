@@ -2,7 +2,6 @@
 use native.Mathlib.Omega.{arith}
 use Rattle.places.proofs.Shape.{other_end_below}
 use Rattle.probing.proofs.Moving.{move_does}
-use borrow.Author.Rules.{rules}
 use Rattle.probing.proofs.refreshing.move_at.Goals as goal
 
 pub move_row-requires : goal.move_row-requires

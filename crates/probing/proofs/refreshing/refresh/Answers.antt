@@ -1,37 +1,18 @@
 -- `refresh` makes the rows of a variable's free neighbours afresh, each once, which is the model's fold over its places. Assumes nothing.
-use Prim.Native.Nat.{◌-◌}
+use mathlib.Core.Path.{refl}
 use native.Mathlib.Omega.{arith}
-use Rattle.field.specs.Field.{field_of}
-use Rattle.probing.proofs.Refreshed.{Refreshing, refresh_start, refresh_reads, refresh_turn, refresh_done}
-use borrow.Author.Rules.{rules}
+use Rattle.probing.proofs.Refreshed.{refresh_start, refresh_reads, refresh_turn, refresh_done}
 use Rattle.probing.proofs.refreshing.refresh.Goals as goal
-
-pub bounds-u-i : goal.bounds-u-i
-bounds-u-i c =
-    omega (arith, c.requires.placed.words_room, c.requires.i_bound)
-
-pub bounds-u-i-2 : goal.bounds-u-i-2
-bounds-u-i-2 c =
-    omega (arith, c.requires.placed.words_room, c.requires.i_bound)
 
 pub loop-p-init : goal.loop-p-init
 loop-p-init c =
-    refresh_start c.requires.placed c.requires.i_bound c.wide_word-start.ensures c.wide_word-end.ensures
-
-pub overflow_add-n-in-loop-p : goal.overflow_add-n-in-loop-p
-overflow_add-n-in-loop-p c = omega (arith, (refresh_reads c.loop-p.invariant c.loop-p-test.true).0)
-
-pub offset_bounds-u-n : goal.offset_bounds-u-n
-offset_bounds-u-n c = omega (arith, (refresh_reads c.loop-p.invariant c.loop-p-test.true).0)
+    refresh_start c.requires.placed c.requires.i_bound refl refl
 
 pub bounds-u-n : goal.bounds-u-n
 bounds-u-n c = (refresh_reads c.loop-p.invariant c.loop-p-test.true).0
 
 pub refresh_once-x-requires : goal.refresh_once-x-requires
 refresh_once-x-requires c = record { placed = c.loop-p.invariant.kept.placed; standard = c.requires.standard; k_bound = omega (arith, c.entry_in-k.ensures, (refresh_reads c.loop-p.invariant c.loop-p-test.true).1.1); within = c.loop-p.invariant.cursor }
-
-pub loop-p-smaller : goal.loop-p-smaller
-loop-p-smaller c = omega (arith, c.loop-p-test.true)
 
 pub loop-p-preserved : goal.loop-p-preserved
 loop-p-preserved c =

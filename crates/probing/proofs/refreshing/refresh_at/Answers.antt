@@ -2,7 +2,6 @@
 use native.Mathlib.Omega.{arith}
 use Rattle.places.proofs.Shape.{other_end_below}
 use Rattle.probing.proofs.Refreshed.{readable, refresh_fixed, refresh_free}
-use borrow.Author.Rules.{rules}
 use Rattle.probing.proofs.refreshing.refresh_at.Goals as goal
 
 pub bounds-values-t : goal.bounds-values-t
@@ -15,10 +14,6 @@ returns-then-values-t-ne2 c =
 
 pub fresh_row-row-requires : goal.fresh_row-row-requires
 fresh_row-row-requires c = record { readable = readable c.requires.placed c.requires.standard; t_bound = other_end_below c.requires.placed.shaped _ c.requires.k_bound c.other_end-t.ensures }
-
-pub put_row-requires : goal.put_row-requires
-put_row-requires c =
-    omega (arith, other_end_below c.requires.placed.shaped _ c.requires.k_bound c.other_end-t.ensures, c.requires.placed.floats_room)
 
 pub returns : goal.returns
 returns c =

@@ -3,7 +3,6 @@ use mathlib.Core.Path.{refl}
 use mathlib.Core.Logic.{inl, inr}
 use Rattle.run.proofs.Cells.{does_same}
 use Rattle.probing.proofs.Refreshed.{cursor_reads, cursor_goes, paired}
-use borrow.Author.Rules.{rules}
 use Rattle.probing.proofs.refreshing.refresh_once.Goals as goal
 
 pub refresh_at-requires : goal.refresh_at-requires
@@ -21,7 +20,7 @@ returns-then-twin-t c = record {
   within_2 = cursor_goes c.requires.placed c.requires.within c.next_place-twin.ensures;
   once = inr (
     does_same c.requires.placed refl,
-    paired c.requires.placed c.requires.within c.next_place-twin.ensures c.requires.k_bound c.wide_short-t.ensures c.if-t-i.false c.if-twin-t.true,
+    paired c.requires.placed c.requires.within c.next_place-twin.ensures c.requires.k_bound c.from-t.ensures c.if-t-i.false c.if-twin-t.true,
   );
 }
 

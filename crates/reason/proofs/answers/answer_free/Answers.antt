@@ -1,7 +1,5 @@
 -- `answer_free` traces a copy of the start values. Assumes nothing.
-use native.Mathlib.Omega.{arith}
 use Rattle.reason.proofs.Calls.{free_told_lem}
-use borrow.Author.Rules.{rules}
 use Rattle.reason.proofs.answers.answer_free.Goals as goal
 
 pub trace-ground-requires : goal.trace-ground-requires

@@ -1,19 +1,10 @@
 -- `serve_until` is the model's `until`, a variable at a turn. Assumes nothing.
-use Prim.Native.Nat.{◌-◌}
-use mathlib.Core.Path.{sym, ◌∙◌}
-use native.Mathlib.Omega.{arith}
-use lib.ListN.{length}
-use Rattle.field.specs.Field.{field_of}
-use Rattle.run.specs.Cells.{cells}
-use Rattle.reason.proofs.Halting.{Halting, halt_start, halt_index, halt_below, halt_turn, halt_over, halt_set}
-use borrow.Author.Rules.{rules}
+use mathlib.Core.Path.{refl, sym, ◌∙◌}
+use Rattle.reason.proofs.Halting.{halt_start, halt_index, halt_below, halt_turn, halt_over, halt_set}
 use Rattle.reason.proofs.halt.serve_until.Goals as goal
 
 pub loop-head-init : goal.loop-head-init
 loop-head-init c = halt_start c.requires.placed
-
-pub bounds-values-i : goal.bounds-values-i
-bounds-values-i c = omega (arith, c.loop-head.invariant.kept.placed.values_long, c.requires.i_bound)
 
 pub shape_of-values-then-values-i-ne2 : goal.shape_of-values-then-values-i-ne2
 shape_of-values-then-values-i-ne2 c = c.loop-head.invariant.kept.placed.values_long ∙ sym c.requires.placed.values_long
@@ -27,26 +18,14 @@ shape_of-u-then-values-i-ne2 c = c.loop-head.invariant.kept.words_long
 pub returns-then-values-i-ne2 : goal.returns-then-values-i-ne2
 returns-then-values-i-ne2 c = halt_set c.loop-head.invariant c.if-values-i-ne2.true
 
-pub overflow_add-base-in-loop-head : goal.overflow_add-base-in-loop-head
-overflow_add-base-in-loop-head c = omega (arith, halt_index c.loop-head.invariant c.loop-head-test.true)
-
-pub offset_bounds-u-base : goal.offset_bounds-u-base
-offset_bounds-u-base c = omega (arith, halt_index c.loop-head.invariant c.loop-head-test.true)
-
 pub bounds-u-base : goal.bounds-u-base
 bounds-u-base c = halt_index c.loop-head.invariant c.loop-head-test.true
 
 pub serve-last-requires : goal.serve-last-requires
-serve-last-requires c = record { placed = c.loop-head.invariant.kept.placed; i_bound = halt_below c.loop-head.invariant c.loop-head-test.true c.wide_word-t.ensures }
-
-pub overflow_add-head : goal.overflow_add-head
-overflow_add-head c = omega (arith, c.loop-head-test.true)
-
-pub loop-head-smaller : goal.loop-head-smaller
-loop-head-smaller c = omega (arith, c.loop-head.invariant.kept.placed.queue_room, c.loop-head-test.true)
+serve-last-requires c = record { placed = c.loop-head.invariant.kept.placed; i_bound = halt_below c.loop-head.invariant c.loop-head-test.true refl }
 
 pub loop-head-preserved : goal.loop-head-preserved
-loop-head-preserved c = halt_turn c.loop-head.invariant c.loop-head-test.true c.if-values-i-ne2.false c.wide_word-t.ensures c.serve-last.ensures
+loop-head-preserved c = halt_turn c.loop-head.invariant c.loop-head-test.true c.if-values-i-ne2.false refl c.serve-last.ensures
 
 pub shape_of-values : goal.shape_of-values
 shape_of-values c = c.loop-head.invariant.kept.placed.values_long ∙ sym c.requires.placed.values_long

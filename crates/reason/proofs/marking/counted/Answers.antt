@@ -1,6 +1,5 @@
 -- `counted` is one more at a mark. Assumes nothing.
 use Rattle.reason.proofs.MarkTurns.{counted_none, counted_one}
-use borrow.Author.Rules.{rules}
 use Rattle.reason.proofs.marking.counted.Goals as goal
 
 pub returns-then-v-ne3 : goal.returns-then-v-ne3

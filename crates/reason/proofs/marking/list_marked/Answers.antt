@@ -1,9 +1,6 @@
 -- `list_marked` lists the marks, a variable at a turn. Assumes nothing.
-use Prim.Native.Nat.{◌-◌}
 use native.Mathlib.Omega.{arith}
-use lib.ListN.{length}
-use Rattle.reason.proofs.MarkTurns.{Listing, list_start, list_long, list_room, list_turn, list_done}
-use borrow.Author.Rules.{rules}
+use Rattle.reason.proofs.MarkTurns.{list_start, list_long, list_room, list_turn, list_done}
 use Rattle.reason.proofs.marking.list_marked.Goals as goal
 
 pub loop-j-init : goal.loop-j-init

@@ -1,6 +1,5 @@
 -- `marked` is the model's mark. Assumes nothing.
 use Rattle.reason.proofs.MarkTurns.{marked_free, marked_fixed}
-use borrow.Author.Rules.{rules}
 use Rattle.reason.proofs.marking.marked.Goals as goal
 
 pub returns-then-v-eq2 : goal.returns-then-v-eq2

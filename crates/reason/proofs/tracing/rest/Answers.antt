@@ -4,7 +4,6 @@ use native.Mathlib.Omega.{arith}
 use Rattle.places.proofs.Shape.{ends_below}
 use Rattle.run.proofs.Cells.{placed_start}
 use Rattle.reason.proofs.Traces.{queue_below, stopped}
-use borrow.Author.Rules.{rules}
 use Rattle.reason.proofs.tracing.rest.Goals as goal
 
 pub build-requires : goal.build-requires

@@ -1,14 +1,10 @@
 -- `trace` works the row of i out anew, and marks its fixed neighbours. Assumes nothing.
 use native.Mathlib.Omega.{arith}
 use Rattle.reason.proofs.Traces.{stopped_long, mark_ready, ground_is, marks_are}
-use borrow.Author.Rules.{rules}
 use Rattle.reason.proofs.tracing.trace.Goals as goal
 
 pub fill-requires : goal.fill-requires
 fill-requires c = record { shaped = c.requires.ready.sound.shaped; values_long = stopped_long c.rest.ensures c.requires.ready.sound.shaped c.requires.ready.sound.start c.requires.i_bound; room = omega (arith, c.requires.ready.floats_room, c.rest.auto.f) }
-
-pub overflow_cast-i : goal.overflow_cast-i
-overflow_cast-i c = omega (arith, c.requires.i_bound, c.requires.ready.sound.shaped.few_variables)
 
 pub mark-requires : goal.mark-requires
 mark-requires c = let both = mark_ready c.rest.ensures c.requires.ready.sound.shaped c.requires.ready.sound.start c.requires.i_bound in

@@ -2,34 +2,24 @@
 use mathlib.Core.Path.{◌∙◌}
 use Rattle.records.specs.Reading.{read_at}
 use Rattle.records.proofs.Finds.{cut, read_weight, read_entry, read_given, read_end, read_unknown}
-use borrow.Author.Rules.{rules}
+use native.Mathlib.Omega.{arith}
 use Rattle.records.proofs.Cursor.read.Goals as goal
 
 pub returns-then-left-lt2 : goal.returns-then-left-lt2
 unfolding read_at
 returns-then-left-lt2 c = cut 2 c.args.bytes.now c.args.self.at _ c.left.ensures c.if-left-lt2.true
 
-pub returns-then-mark-eq-VC : goal.returns-then-mark-eq-VC
-returns-then-mark-eq-VC c =
-    c.weight_record.ensures ∙ read_weight c.args.bytes.now c.args.self.at c.left.ensures c.if-left-lt2.false
-    c.number-mark.ensures c.if-mark-eq-VC.true
+pub returns-in-17238 : goal.returns-in-17238
+returns-in-17238 c = c.weight_record.ensures ∙ read_weight _ _ c.left.ensures c.if-left-lt2.false c.short.ensures c.in-17238.is
 
-pub returns-then-mark-eq-QE : goal.returns-then-mark-eq-QE
-returns-then-mark-eq-QE c =
-    c.entry_record.ensures ∙ read_entry c.args.bytes.now c.args.self.at c.left.ensures c.if-left-lt2.false
-    c.number-mark.ensures c.if-mark-eq-VC.false c.if-mark-eq-QE.true
+pub returns-in-17745 : goal.returns-in-17745
+returns-in-17745 c = c.entry_record.ensures ∙ read_entry _ _ c.left.ensures c.if-left-lt2.false c.short.ensures c.in-17745.is
 
-pub returns-then-mark-eq-FX : goal.returns-then-mark-eq-FX
-returns-then-mark-eq-FX c =
-    c.given_record.ensures ∙ read_given c.args.bytes.now c.args.self.at c.left.ensures c.if-left-lt2.false
-    c.number-mark.ensures c.if-mark-eq-VC.false c.if-mark-eq-QE.false c.if-mark-eq-FX.true
+pub returns-in-22598 : goal.returns-in-22598
+returns-in-22598 c = c.given_record.ensures ∙ read_given _ _ c.left.ensures c.if-left-lt2.false c.short.ensures c.in-22598.is
 
-pub returns-then-mark-eq-ZZ : goal.returns-then-mark-eq-ZZ
-returns-then-mark-eq-ZZ c =
-    read_end c.args.bytes.now c.args.self.at c.left.ensures c.if-left-lt2.false c.number-mark.ensures
-    c.if-mark-eq-VC.false c.if-mark-eq-QE.false c.if-mark-eq-FX.false c.if-mark-eq-ZZ.true
+pub returns-in-23130 : goal.returns-in-23130
+returns-in-23130 c = read_end _ _ c.left.ensures c.if-left-lt2.false c.short.ensures c.in-23130.is
 
-pub returns : goal.returns
-returns c =
-    read_unknown c.args.bytes.now c.args.self.at c.left.ensures c.if-left-lt2.false c.number-mark.ensures
-    c.if-mark-eq-VC.false c.if-mark-eq-QE.false c.if-mark-eq-FX.false c.if-mark-eq-ZZ.false
+pub returns-in_default : goal.returns-in_default
+returns-in_default c = read_unknown _ _ c.left.ensures c.if-left-lt2.false c.short.ensures (λ h. omega arith) (λ h. omega arith) (λ h. omega arith) (λ h. omega arith)

@@ -1,7 +1,6 @@
 -- `add_term` goes by the byte. Assumes nothing.
 use borrow.Author.Tests.{eq-eqb, ne_eqb}
 use Rattle.rows.specs.Row.{add_term}
-use borrow.Author.Rules.{rules}
 use Rattle.rows.proofs.Row.add_term.Goals as goal
 
 pub returns-then-value-eq2 : goal.returns-then-value-eq2

@@ -1,7 +1,6 @@
 -- `remove_term` goes by the byte. Assumes nothing.
 use borrow.Author.Tests.{eq-eqb, ne_eqb}
 use Rattle.rows.specs.Row.{remove_term}
-use borrow.Author.Rules.{rules}
 use Rattle.rows.proofs.Row.remove_term.Goals as goal
 
 pub returns-then-value-eq2 : goal.returns-then-value-eq2

@@ -1,7 +1,6 @@
 -- `add_at` reads a row, adds the term, and stores the row. Assumes nothing.
 use mathlib.Core.Path.{◌∙◌}
 use Rattle.rows.specs.Stored.{add_at}
-use borrow.Author.Rules.{rules}
 use Rattle.rows.proofs.fill.add_at.Goals as goal
 
 pub returns : goal.returns

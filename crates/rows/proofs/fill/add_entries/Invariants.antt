@@ -1,10 +1,7 @@
 -- `add_entries` makes one turn of the pass at a time. Assumes nothing.
-use Prim.Native.Nat.{◌-◌}
-use Rattle.field.specs.Field.{field_of}
+use Rattle.field.specs.Field.{lent}
 use Rattle.rows.specs.Stored.{Passed}
-use Rattle.rows.proofs.Pass.{pass_start, pass_turn, pass_done, ready_after}
-use borrow.Author.Rules.{rules}
 use Rattle.rows.proofs.fill.add_entries.Given as goal
 
 abbrev pub invariant-loop-k : goal.invariant-loop-k
-invariant-loop-k l = Passed (field_of l.c l.rows l.cols l.q) l.values l.initial.f l.f l.k
+invariant-loop-k l = Passed (lent l.field) l.values l.initial.f l.f l.k

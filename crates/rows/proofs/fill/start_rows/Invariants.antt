@@ -1,16 +1,9 @@
 -- `start_rows` stores one row a turn. Assumes nothing.
-use Prim.Native.Nat.{◌-◌}
-use native.Mathlib.Omega.{arith}
 use lib.ListN.{length, get_or}
 use lib.Ieee.{nan}
 use Rattle.rows.specs.Row.{start_row}
 use Rattle.rows.specs.Stored.{Written}
-use Rattle.rows.proofs.Stored.{written_none, written_put, written_fewer}
-use borrow.Author.Rules.{rules}
 use Rattle.rows.proofs.fill.start_rows.Given as goal
 
 abbrev pub invariant-loop-i : goal.invariant-loop-i
 invariant-loop-i l = Written (length l.c) (λ k. start_row (get_or l.c k nan)) l.initial.f l.f l.i
-
-abbrev pub decreases-loop-i : goal.decreases-loop-i
-decreases-loop-i l = length l.c - l.i

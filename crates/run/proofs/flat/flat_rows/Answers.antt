@@ -1,7 +1,6 @@
 -- `flat_rows` is the model's count, a variable at a turn. Assumes nothing.
-use Prim.Native.Nat.{◌-◌}
 use native.Mathlib.Omega.{arith}
-use Rattle.run.proofs.FlatRows.{Counting, count_start, count_few, count_turn, count_done}
+use Rattle.run.proofs.FlatRows.{count_start, count_few, count_turn, count_done}
 use Rattle.run.proofs.flat.flat_rows.Goals as goal
 
 pub loop-i-init : goal.loop-i-init

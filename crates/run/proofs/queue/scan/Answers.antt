@@ -1,6 +1,5 @@
 -- `scan` begins at the first variable. Assumes nothing.
 use Rattle.scratch.proofs.All.{all_start}
-use borrow.Author.Rules.{rules}
 use Rattle.run.proofs.queue.scan.Goals as goal
 
 pub scan_from-requires : goal.scan_from-requires

@@ -1,10 +1,6 @@
 -- `scan_from` is the model's scan, a variable at a turn; it begins behind those that it would pass over. Assumes nothing.
-use Prim.Native.Nat.{◌-◌}
 use mathlib.Core.Path.{sym, ◌∙◌}
-use native.Mathlib.Omega.{arith}
-use Rattle.field.specs.Field.{field_of}
-use Rattle.run.specs.Cells.{cells}
-use Rattle.run.proofs.Turns.{Scanning, scan_turn, scan_done}
+use Rattle.run.proofs.Turns.{scan_turn, scan_done}
 use Rattle.run.proofs.First.{scan_start_from}
 use Rattle.run.proofs.queue.scan_from.Goals as goal
 

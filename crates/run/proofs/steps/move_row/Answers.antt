@@ -1,5 +1,4 @@
 -- `move_row` reads a row, moves its term from free to fixed, and stores the row. Assumes nothing.
-use borrow.Author.Rules.{rules}
 use Rattle.run.proofs.steps.move_row.Goals as goal
 
 pub returns : goal.returns

@@ -1,10 +1,7 @@
 -- `serve_at` passes over a fixed other end, moves the row of a free one, and settles a forced verdict. Assumes nothing.
 use native.Mathlib.Omega.{arith}
 use Rattle.places.proofs.Shape.{other_end_below}
-use Rattle.run.proofs.Moves.{tag_forces, settle_room, serve_fixed, serve_unforced, serve_forced}
-use mathlib.Core.Path.{ap}
-use Rattle.rows.specs.Row.{is_forced}
-use borrow.Author.Rules.{rules}
+use Rattle.run.proofs.Moves.{settle_room, serve_fixed, serve_acted}
 use Rattle.run.proofs.steps.serve_at.Goals as goal
 
 pub bounds-values-t : goal.bounds-values-t
@@ -15,30 +12,11 @@ pub returns-then-values-t-ne2 : goal.returns-then-values-t-ne2
 returns-then-values-t-ne2 c =
     serve_fixed c.requires.placed _ c.requires.k_bound c.requires.t_value _ c.if-values-t-ne2.true
 
-pub move_row-requires : goal.move_row-requires
-move_row-requires c =
-    omega (arith, other_end_below c.requires.placed.shaped _ c.requires.k_bound c.requires.t_value, c.requires.placed.floats_room)
-
-pub overflow_cast-t : goal.overflow_cast-t
-overflow_cast-t c =
-    omega (arith, other_end_below c.requires.placed.shaped _ c.requires.k_bound c.requires.t_value, c.requires.placed.shaped.few_variables)
-
-pub returns-in-Open : goal.returns-in-Open
-returns-in-Open c =
-    serve_unforced c.requires.placed _ c.requires.k_bound c.requires.t_value _ c.if-values-t-ne2.false c.half-coeff.ensures c.move_row.ensures.value
-    c.move_row.ensures.f_value c.conclude-found.ensures (ap is_forced c.in-Open.is)
-
-pub returns-in-Flat : goal.returns-in-Flat
-returns-in-Flat c =
-    serve_unforced c.requires.placed _ c.requires.k_bound c.requires.t_value _ c.if-values-t-ne2.false c.half-coeff.ensures c.move_row.ensures.value
-    c.move_row.ensures.f_value c.conclude-found.ensures (ap is_forced c.in-Flat.is)
-
 pub settle-requires : goal.settle-requires
 settle-requires c = let both = settle_room c.requires.placed (other_end_below c.requires.placed.shaped _ c.requires.k_bound c.requires.t_value) c.if-values-t-ne2.false c.conclude-found.ensures in
     record { variable_in_bounds = both.0; tail_in_bounds = both.1 }
 
 pub returns : goal.returns
 returns c =
-    serve_forced c.requires.placed _ c.requires.k_bound c.requires.t_value _ c.if-values-t-ne2.false c.half-coeff.ensures c.move_row.ensures.value
-    c.move_row.ensures.f_value c.conclude-found.ensures (tag_forces c.conclude-found.result.verdict c.in_default.not-Open c.in_default-verdict.not-Flat)
-    c.settle.ensures
+    serve_acted c.requires.placed _ c.requires.k_bound c.requires.t_value _ c.if-values-t-ne2.false c.half-coeff.ensures c.move_row.ensures.value
+    c.move_row.ensures.f_value c.conclude-found.ensures c.settle.ensures

@@ -1,22 +1,10 @@
 -- `next_place` goes on until a place has the end and a large enough other end. Assumes nothing.
-use Prim.Native.Nat.{◌-◌}
 use native.Mathlib.Omega.{arith}
-use Rattle.scanning.specs.Merge.{near_at, far_at}
-use Rattle.scanning.proofs.Search.{Searching, search_start, search_none, place_hit, place_miss}
-use borrow.Author.Rules.{rules}
+use Rattle.scanning.proofs.Search.{search_start, search_none, place_hit, place_miss}
 use Rattle.scanning.proofs.merging.next_place.Goals as goal
 
 pub loop-p-init : goal.loop-p-init
 loop-p-init c = search_start c.requires.start
-
-pub overflow_add-from : goal.overflow_add-from
-overflow_add-from c = omega (arith, c.requires.room, c.loop-p-test.true)
-
-pub offset_bounds-u-from : goal.offset_bounds-u-from
-offset_bounds-u-from c = omega (arith, c.requires.room, c.loop-p-test.true)
-
-pub bounds-u-from : goal.bounds-u-from
-bounds-u-from c = omega (arith, c.requires.room, c.loop-p-test.true)
 
 pub picks-requires : goal.picks-requires
 picks-requires c =
@@ -37,7 +25,7 @@ pub returns-then-picks : goal.returns-then-picks
 returns-then-picks c =
     let a = c.args in
     place_hit a.near.now a.far.now a.u.now a.from a.i c.loop-p.invariant c.loop-p-test.true _ c.entry_in-k.ensures c.picks.ensures
-    c.if-picks.true c.wide_short.ensures
+    c.if-picks.true c.from.ensures
 
 pub loop-p-preserved : goal.loop-p-preserved
 loop-p-preserved c =

@@ -3,11 +3,11 @@ use mathlib.Core.Path.{sym, ap, ◌∙◌}
 use borrow.Author.Tests.{eq-eqb, ne_eqb}
 use lib.Dec.{leb}
 use Rattle.scratch.proofs.All.{and_yes, and_no}
-use borrow.Author.Rules.{rules}
 use Rattle.scanning.proofs.merging.picks.Goals as goal
 
-pub returns-then-wide_short-i : goal.returns-then-wide_short-i
-returns-then-wide_short-i c = and_no _ (ne_eqb _ _ (λ e. c.if-wide_short-i.true (c.wide_short.ensures ∙ e)))
+pub returns-then-from-i : goal.returns-then-from-i
+returns-then-from-i c = and_yes (eq-eqb _ _ (sym c.from.ensures ∙ c.if-from-i.true)) (ap (leb _) c.from-then-from-i.ensures)
 
-pub returns : goal.returns
-returns c = and_yes (eq-eqb _ _ (sym c.wide_short.ensures ∙ c.if-wide_short-i.false)) (ap (leb _) c.wide_short-2.ensures)
+pub returns-else-from-i : goal.returns-else-from-i
+returns-else-from-i c =
+    ne_eqb _ _ c.if-from-i.false ∙ and_no _ (ne_eqb _ _ (λ e. c.if-from-i.false (c.from.ensures ∙ e)))

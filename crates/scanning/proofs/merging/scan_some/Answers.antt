@@ -1,24 +1,11 @@
 -- `scan_some` merges the candidates and the neighbours, a variable at a turn. Assumes nothing.
-use Prim.Native.Nat.{◌-◌}
 use mathlib.Core.Path.{refl, sym, ◌∙◌}
-use native.Mathlib.Omega.{arith}
-use Rattle.field.specs.Field.{field_of}
-use Rattle.run.specs.Cells.{cells}
-use Rattle.scanning.proofs.Merged.{Merging, merge_start, list_reads, above_reads, beside_reads, merge_done, from_b, merge_stop, merge_turn}
-use borrow.Author.Rules.{rules}
+use Rattle.scanning.proofs.Merged.{merge_start, list_reads, above_reads, beside_reads, merge_done, merge_stop, merge_turn}
 use Rattle.scanning.proofs.merging.scan_some.Goals as goal
-
-pub bounds-u-i : goal.bounds-u-i
-bounds-u-i c =
-    omega (arith, c.requires.placed.words_room, c.requires.here)
-
-pub bounds-u-i-2 : goal.bounds-u-i-2
-bounds-u-i-2 c =
-    omega (arith, c.requires.placed.words_room, c.requires.here)
 
 pub loop-b-init : goal.loop-b-init
 loop-b-init c =
-    merge_start refl c.requires c.wide_word-first.ensures c.wide_word-last.ensures
+    merge_start refl c.requires refl refl
 
 pub next_candidate-listed-requires : goal.next_candidate-listed-requires
 next_candidate-listed-requires c = let both = list_reads c.loop-b.invariant in
@@ -40,24 +27,15 @@ shape_of-u-then-t-n c = c.loop-b.invariant.does.kept.words_long
 pub returns-then-t-n : goal.returns-then-t-n
 returns-then-t-n c =
     merge_stop c.loop-b.invariant c.loop-b-test.true c.next_candidate-listed.ensures c.next_place-above.ensures c.next_place-beside.ensures
-    c.lesser.ensures c.lesser-t.ensures c.if-t-n.true
+    c.min.ensures c.min-t.ensures c.if-t-n.true
 
 pub scan_at-tail-requires : goal.scan_at-tail-requires
 scan_at-tail-requires c = record { placed = c.loop-b.invariant.does.kept.placed; i_bound = c.if-t-n.false }
 
-pub loop-b-smaller : goal.loop-b-smaller
-loop-b-smaller c =
-    omega (
-      arith,
-      c.loop-b-test.true,
-      from_b c.loop-b.invariant c.loop-b-test.true c.next_candidate-listed.ensures c.next_place-above.ensures c.next_place-beside.ensures
-          c.lesser.ensures c.lesser-t.ensures,
-    )
-
 pub loop-b-preserved : goal.loop-b-preserved
 loop-b-preserved c =
     merge_turn c.loop-b.invariant c.loop-b-test.true c.next_candidate-listed.ensures c.next_place-above.ensures c.next_place-beside.ensures
-    c.lesser.ensures c.lesser-t.ensures c.if-t-n.false c.scan_at-tail.ensures
+    c.min.ensures c.min-t.ensures c.if-t-n.false c.scan_at-tail.ensures
 
 pub shape_of-values : goal.shape_of-values
 shape_of-values c =

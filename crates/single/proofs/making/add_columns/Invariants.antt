@@ -1,13 +1,8 @@
 -- `add_columns` makes one turn of the pass at a time, with the row of the column held. Assumes nothing.
-use Prim.Native.Nat.{◌-◌}
-use native.Mathlib.Omega.{arith}
 use lib.ListN.{set}
-use Rattle.field.specs.Field.{field_of}
-use Rattle.rows.proofs.Pass.{pass_start, pass_done}
-use Rattle.rows.proofs.Held.{Holding, hold_start, hold_long, hold_ready, hold_turn, hold_done}
-use Rattle.single.proofs.Set.{fillable_set, fillable_unset}
-use borrow.Author.Rules.{rules}
+use Rattle.field.specs.Field.{lent}
+use Rattle.rows.proofs.Held.{Holding}
 use Rattle.single.proofs.making.add_columns.Given as goal
 
 abbrev pub invariant-loop-k : goal.invariant-loop-k
-invariant-loop-k l = Holding (field_of l.c l.rows l.cols l.q) (set l.start l.i l.v) l.initial.f l.f l.j l.row l.k
+invariant-loop-k l = Holding (lent l.field) (set l.start l.i l.v) l.initial.f l.f l.j l.row l.k

@@ -1,8 +1,4 @@
 -- `add_entries` makes one turn of the pass at a time. Assumes nothing.
-use Prim.Native.Nat.{◌-◌}
-use lib.ListN.{set}
-use Rattle.field.specs.Field.{field_of}
-use Rattle.rows.specs.Stored.{Passed}
 use Rattle.rows.proofs.Pass.{pass_start, pass_turn, pass_done, ready_after}
 use Rattle.single.proofs.Set.{fillable_set, fillable_unset}
 use borrow.Author.Rules.{rules}

@@ -1,26 +1,10 @@
 -- `add_entry` adds one term at each end. Assumes nothing.
 use mathlib.Core.Path.{◌∙◌}
-use native.Mathlib.Omega.{arith}
 use Rattle.rows.specs.Stored.{add_entry}
-use Rattle.rows.proofs.Pass.{ends_in}
-use borrow.Author.Rules.{rules}
 use Rattle.single.proofs.making.add_entry.Goals as goal
-
-pub value_at-requires : goal.value_at-requires
-value_at-requires c = omega (arith, ends_in c.requires.fillable _ c.requires.k_bound, c.wide_short-r.ensures, c.wide_short-t.ensures)
-
-pub add_at-requires : goal.add_at-requires
-add_at-requires c = omega (arith, ends_in c.requires.fillable _ c.requires.k_bound, c.wide_short-r.ensures, c.wide_short-t.ensures)
-
-pub value_at-requires-2 : goal.value_at-requires-2
-value_at-requires-2 c = omega (arith, ends_in c.requires.fillable _ c.requires.k_bound, c.wide_short-r.ensures, c.wide_short-t.ensures)
-
-pub add_at-requires-2 : goal.add_at-requires-2
-add_at-requires-2 c =
-    omega (arith, ends_in c.requires.fillable _ c.requires.k_bound, c.wide_short-r.ensures, c.wide_short-t.ensures, c.add_at.auto)
 
 pub returns : goal.returns
 unfolding add_entry
 returns c =
     c.add_at-2.ensures
-    ∙ rw (c.add_at.ensures, c.value_at.ensures, c.value_at-2.ensures, c.half-coeff.ensures, c.wide_short-r.ensures, c.wide_short-t.ensures)
+    ∙ rw (c.add_at.ensures, c.value_at.ensures, c.value_at-2.ensures, c.half-coeff.ensures, c.from-r.ensures, c.from-t.ensures)

@@ -1,19 +1,9 @@
 -- `begin` stores one row a turn. Assumes nothing.
-use Prim.Native.Nat.{◌-◌}
-use native.Mathlib.Omega.{arith}
-use lib.ListN.{length, get_or}
-use lib.Ieee.{nan}
-use Rattle.rows.specs.Row.{start_row}
-use Rattle.rows.specs.Stored.{Written}
 use Rattle.rows.proofs.Stored.{written_none, written_put, written_fewer}
-use borrow.Author.Rules.{rules}
 use Rattle.single.proofs.making.begin.Goals as goal
 
 pub loop-t-init : goal.loop-t-init
 loop-t-init c = written_none _
-
-pub put_row-requires : goal.put_row-requires
-put_row-requires c = omega (arith, c.loop-t.invariant.long, c.requires)
 
 pub loop-t-preserved : goal.loop-t-preserved
 loop-t-preserved c = written_put c.loop-t.invariant c.loop-t-test.true c.requires c.start.ensures c.put_row.ensures

@@ -1,16 +1,9 @@
 -- `begin` stores one row a turn. Assumes nothing.
-use Prim.Native.Nat.{◌-◌}
-use native.Mathlib.Omega.{arith}
 use lib.ListN.{length, get_or}
 use lib.Ieee.{nan}
 use Rattle.rows.specs.Row.{start_row}
 use Rattle.rows.specs.Stored.{Written}
-use Rattle.rows.proofs.Stored.{written_none, written_put, written_fewer}
-use borrow.Author.Rules.{rules}
 use Rattle.single.proofs.making.begin.Given as goal
 
 abbrev pub invariant-loop-t : goal.invariant-loop-t
 invariant-loop-t l = Written (length l.c) (λ k. start_row (get_or l.c k nan)) l.initial.f l.f l.t
-
-abbrev pub decreases-loop-t : goal.decreases-loop-t
-decreases-loop-t l = length l.c - l.t

@@ -1,6 +1,5 @@
 -- `value_at` tells the variable that is set from the others. Assumes nothing.
 use Rattle.single.proofs.Set.{set_here, set_elsewhere}
-use borrow.Author.Rules.{rules}
 use Rattle.single.proofs.making.value_at.Goals as goal
 
 pub returns-then-j-i : goal.returns-then-j-i

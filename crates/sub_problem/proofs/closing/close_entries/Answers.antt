@@ -1,9 +1,6 @@
 -- `close_entries` closes up one entry a turn. Assumes nothing.
-use Prim.Native.Nat.{◌-◌}
 use native.Mathlib.Omega.{arith}
-use Rattle.field.specs.Field.{field_of}
-use Rattle.sub_problem.proofs.CloseLoops.{Stands, stands_start, stands_ready, stands_turn, stands_done}
-use borrow.Author.Rules.{rules}
+use Rattle.sub_problem.proofs.CloseLoops.{stands_start, stands_ready, stands_turn, stands_done}
 use Rattle.sub_problem.proofs.closing.close_entries.Goals as goal
 
 pub loop-k-init : goal.loop-k-init

@@ -1,8 +1,6 @@
 -- `close_linear` brings one weight to the front a turn. Assumes nothing.
-use Prim.Native.Nat.{◌-◌}
 use native.Mathlib.Omega.{arith}
-use Rattle.sub_problem.proofs.CloseLoops.{ClosesTo, turn_inside, linear_start, linear_turn, linear_done}
-use borrow.Author.Rules.{rules}
+use Rattle.sub_problem.proofs.CloseLoops.{turn_inside, linear_start, linear_turn, linear_done}
 use Rattle.sub_problem.proofs.closing.close_linear.Goals as goal
 
 pub loop-t-init : goal.loop-t-init
@@ -17,19 +15,19 @@ bounds-map-t c = omega (arith, c.requires.rising.room, c.loop-t-test.true)
 
 pub offset_bounds-f-i : goal.offset_bounds-f-i
 offset_bounds-f-i c =
-    omega (arith, c.wide_short-i.ensures, c.requires.rising.below _ c.loop-t-test.true, c.requires.rising.few)
+    omega (arith, c.from-i.ensures, c.requires.rising.below _ c.loop-t-test.true, c.requires.rising.few)
 
 pub bounds-f-i : goal.bounds-f-i
 bounds-f-i c =
-    omega (arith, c.wide_short-i.ensures, c.requires.rising.below _ c.loop-t-test.true, c.requires.c_in_bounds)
+    omega (arith, c.from-i.ensures, c.requires.rising.below _ c.loop-t-test.true, c.requires.c_in_bounds)
 
 pub offset_bounds-c-i : goal.offset_bounds-c-i
 offset_bounds-c-i c =
-    omega (arith, c.wide_short-i.ensures, c.requires.rising.below _ c.loop-t-test.true, c.requires.rising.few)
+    omega (arith, c.from-i.ensures, c.requires.rising.below _ c.loop-t-test.true, c.requires.rising.few)
 
 pub bounds-c-i : goal.bounds-c-i
 bounds-c-i c =
-    omega (arith, c.wide_short-i.ensures, c.requires.rising.below _ c.loop-t-test.true, c.loop-t.invariant.long)
+    omega (arith, c.from-i.ensures, c.requires.rising.below _ c.loop-t-test.true, c.loop-t.invariant.long)
 
 pub offset_bounds-c-t : goal.offset_bounds-c-t
 offset_bounds-c-t c =
@@ -45,7 +43,7 @@ overflow_step-t c =
 
 pub loop-t-preserved : goal.loop-t-preserved
 loop-t-preserved c =
-    linear_turn c.requires.rising c.loop-t.invariant c.loop-t-test.true c.wide_short-i.ensures
+    linear_turn c.requires.rising c.loop-t.invariant c.loop-t-test.true c.from-i.ensures
 
 pub returns : goal.returns
 returns c = linear_done c.requires.rising c.loop-t.invariant (omega arith)

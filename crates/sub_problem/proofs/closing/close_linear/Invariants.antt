@@ -1,8 +1,6 @@
 -- `close_linear` brings one weight to the front a turn. Assumes nothing.
 use Prim.Native.Nat.{◌-◌}
-use native.Mathlib.Omega.{arith}
-use Rattle.sub_problem.proofs.CloseLoops.{ClosesTo, turn_inside, linear_start, linear_turn, linear_done}
-use borrow.Author.Rules.{rules}
+use Rattle.sub_problem.proofs.CloseLoops.{ClosesTo}
 use Rattle.sub_problem.proofs.closing.close_linear.Given as goal
 
 abbrev pub invariant-loop-t : goal.invariant-loop-t

@@ -1,8 +1,6 @@
 -- `add_all_given` adds one variable a turn. Assumes nothing.
-use Prim.Native.Nat.{◌-◌}
 use native.Mathlib.Omega.{arith}
-use Rattle.sub_problem.proofs.GatherLoops.{Adds, adds_start, adds_turn, adds_done}
-use borrow.Author.Rules.{rules}
+use Rattle.sub_problem.proofs.GatherLoops.{adds_start, adds_turn, adds_done}
 use Rattle.sub_problem.proofs.gathering.add_all_given.Goals as goal
 
 pub loop-i-init : goal.loop-i-init

@@ -1,6 +1,5 @@
 -- `add_given` adds c times the value of a given variable. Assumes nothing.
 use Rattle.sub_problem.proofs.NumberLoops.{where_free, where_given}
-use borrow.Author.Rules.{rules}
 use Rattle.sub_problem.proofs.gathering.add_given.Goals as goal
 
 pub returns-then-v-eq2 : goal.returns-then-v-eq2

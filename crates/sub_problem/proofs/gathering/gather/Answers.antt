@@ -1,10 +1,7 @@
 -- `gather` takes one entry a turn. Assumes nothing.
-use Prim.Native.Nat.{◌-◌}
 use mathlib.Core.Path.{refl}
 use native.Mathlib.Omega.{arith}
-use Rattle.field.specs.Field.{field_of}
-use Rattle.sub_problem.proofs.GatherLoops.{Gathering, gathering_turn, gathers_done}
-use borrow.Author.Rules.{rules}
+use Rattle.sub_problem.proofs.GatherLoops.{gathering_turn, gathers_done}
 use Rattle.sub_problem.proofs.gathering.gather.Goals as goal
 
 pub loop-k-init : goal.loop-k-init

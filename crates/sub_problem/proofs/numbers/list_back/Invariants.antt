@@ -1,8 +1,5 @@
 -- `list_back` enters one variable a turn. Assumes nothing.
-use Prim.Native.Nat.{◌-◌}
-use native.Mathlib.Omega.{arith}
-use Rattle.sub_problem.proofs.NumberLoops.{ListsBack, lists_start, lists_turn, lists_done}
-use borrow.Author.Rules.{rules}
+use Rattle.sub_problem.proofs.NumberLoops.{ListsBack}
 use Rattle.sub_problem.proofs.numbers.list_back.Given as goal
 
 abbrev pub invariant-loop-i : goal.invariant-loop-i

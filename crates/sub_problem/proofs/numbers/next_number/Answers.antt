@@ -1,6 +1,5 @@
 -- `next_number` counts a free variable. Assumes nothing.
 use Rattle.sub_problem.proofs.NumberLoops.{where_free, where_given}
-use borrow.Author.Rules.{rules}
 use Rattle.sub_problem.proofs.numbers.next_number.Goals as goal
 
 pub returns-then-start-i-eq2 : goal.returns-then-start-i-eq2

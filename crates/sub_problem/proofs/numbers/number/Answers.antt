@@ -1,9 +1,7 @@
 -- `number` stores one number a turn. Assumes nothing.
-use Prim.Native.Nat.{◌-◌}
 use mathlib.Core.Path.{refl}
 use native.Mathlib.Omega.{arith}
-use Rattle.sub_problem.proofs.NumberLoops.{Numbering, numbers_start, numbering_turn, numbers_done, count_small}
-use borrow.Author.Rules.{rules}
+use Rattle.sub_problem.proofs.NumberLoops.{numbers_start, numbering_turn, numbers_done, count_small}
 use Rattle.sub_problem.proofs.numbers.number.Goals as goal
 
 pub loop-i-init : goal.loop-i-init

@@ -1,40 +1,34 @@
 -- `count` goes over the variables. Assumes nothing.
-use Prim.Native.Nat.{◌-◌}
 use native.Mathlib.Omega.{arith}
-use lib.ListN.{length}
-use Rattle.tally.proofs.Counts.{CountedTo, count_start, count_given, count_zero, count_one, count_free, count_turn, count_done}
+use mathlib.Core.List.{[], ◌∷◌}
+use lib.ListN.{length-append}
+use Rattle.std.proofs.lemmas.Slice.Zip.{zip_turn, zip_end}
+use Rattle.tally.proofs.Counts.{count_start, count_given, count_zero, count_one, count_free, count_turn, count_done, bit_few}
 use borrow.Author.Rules.{rules}
 use Rattle.tally.proofs.counting.count.Goals as goal
 
-pub loop-i-init : goal.loop-i-init
-loop-i-init c = count_start c.args.start.now c.args.values.now
-
-pub bounds-start-i : goal.bounds-start-i
-bounds-start-i c = c.loop-i-test.true
-
-pub bounds-values-i : goal.bounds-values-i
-bounds-values-i c = omega (arith, c.loop-i-test.true, c.requires.values_len)
+pub loop-first-init : goal.loop-first-init
+loop-first-init c = count_start _ _
 
 pub overflow_add-given : goal.overflow_add-given
-overflow_add-given c = omega (arith, count_given c.loop-i.invariant, c.loop-i.invariant.within, c.requires.start_len_bound, c.different-given.ensures.upper_bound)
+overflow_add-given c = omega (arith, count_given c.loop-first.invariant, c.loop-first.invariant.within, c.requires.start_len_bound, bit_few _ c.from-given.ensures)
 
 pub overflow_add-zero : goal.overflow_add-zero
-overflow_add-zero c = omega (arith, count_zero c.loop-i.invariant, c.loop-i.invariant.within, c.requires.start_len_bound, c.forced-zero.ensures.upper_bound)
+overflow_add-zero c = omega (arith, count_zero c.loop-first.invariant, c.loop-first.invariant.within, c.requires.start_len_bound)
 
 pub overflow_add-one : goal.overflow_add-one
-overflow_add-one c = omega (arith, count_one c.loop-i.invariant, c.loop-i.invariant.within, c.requires.start_len_bound, c.forced-one.ensures.upper_bound)
+overflow_add-one c = omega (arith, count_one c.loop-first.invariant, c.loop-first.invariant.within, c.requires.start_len_bound)
 
 pub overflow_add-free : goal.overflow_add-free
-overflow_add-free c = omega (arith, count_free c.loop-i.invariant, c.loop-i.invariant.within, c.requires.start_len_bound, c.equal-free.ensures.upper_bound)
+overflow_add-free c = omega (arith, count_free c.loop-first.invariant, c.loop-first.invariant.within, c.requires.start_len_bound, bit_few _ c.from-free.ensures)
 
-pub overflow_add-i : goal.overflow_add-i
-overflow_add-i c = omega (arith, c.loop-i-test.true, c.requires.start_len_bound)
-
-pub loop-i-smaller : goal.loop-i-smaller
-loop-i-smaller c = omega (arith, c.loop-i-test.true)
-
-pub loop-i-preserved : goal.loop-i-preserved
-loop-i-preserved c = count_turn c.loop-i.invariant c.loop-i-test.true c.different-given.ensures.value c.forced-zero.ensures.value c.forced-one.ensures.value c.equal-free.ensures.value
+pub loop-first-preserved : goal.loop-first-preserved
+loop-first-preserved c =
+    let turn = zip_turn c.args.start.now c.args.values.now c.loop-first.yielded _ _ c.next.new.self _ (search rules) (search rules) c.loop-first.yielded_by _ c.in-Some.is c.next.ensures.steps in
+    rw (length-append c.loop-first.yielded ((c.in-Some.first, c.in-Some.last) ∷ []))
+    (count_turn c.loop-first.invariant turn.0 (turn.2 0) (turn.3 0) c.from-given.ensures c.forced-zero.ensures.value c.forced-one.ensures.value c.from-free.ensures)
 
 pub returns : goal.returns
-returns c = count_done c.loop-i.invariant c.loop-i-test.false
+returns c =
+    let all = zip_end c.args.start.now c.args.values.now c.loop-first.yielded _ _ c.next.new.self _ (search rules) (search rules) c.loop-first.yielded_by c.in-None.is c.next.ensures.steps in
+    count_done c.loop-first.invariant (omega (arith, all))

@@ -3,7 +3,6 @@ use mathlib.Core.Path.{refl}
 use native.Mathlib.Omega.{arith}
 use Rattle.tally.specs.Text.{ending_text}
 use Rattle.tally.proofs.Texts.{ending_none, ending_some, refused_short}
-use borrow.Author.Rules.{rules}
 use Rattle.tally.proofs.writing.put_ending.Goals as goal
 
 pub returns-in-Whole : goal.returns-in-Whole

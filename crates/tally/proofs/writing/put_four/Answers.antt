@@ -1,7 +1,6 @@
 -- `put_four` writes four totals. Assumes nothing.
 use native.Mathlib.Omega.{arith}
 use Rattle.tally.proofs.Texts.{each_four}
-use borrow.Author.Rules.{rules}
 use Rattle.tally.proofs.writing.put_four.Goals as goal
 
 pub returns : goal.returns

@@ -1,23 +1,16 @@
 -- `put_rate` writes a dash, or two numbers. Assumes nothing.
 use native.Mathlib.Omega.{arith}
 use Rattle.tally.proofs.Texts.{rate_none, rate_some, rate_short, rest_short, rate_few, rest_few}
-use borrow.Author.Rules.{rules}
 use Rattle.tally.proofs.writing.put_rate.Goals as goal
 
 pub returns-then-rest-eq0 : goal.returns-then-rest-eq0
 returns-then-rest-eq0 c = record { wrote = rate_none _ _ c.if-rest-eq0.true c.put_bytes.ensures; upper_bound = omega (arith, c.put_bytes.ensures.next) }
-
-pub overflow_mul-forced : goal.overflow_mul-forced
-overflow_mul-forced c = omega (arith, c.requires.forced_bound)
 
 pub put_decimal-first-requires : goal.put_decimal-first-requires
 put_decimal-first-requires c = omega (arith, c.requires.at_in_bounds, rate_short _ (rate_few c.args.forced c.args.rest c.requires.forced_le_rest c.if-rest-eq0.false))
 
 pub put_bytes-second-requires : goal.put_bytes-second-requires
 put_bytes-second-requires c = omega (arith, c.requires.at_in_bounds, c.put_decimal-first.ensures.next, c.put_decimal-first.auto.out, rate_short _ (rate_few c.args.forced c.args.rest c.requires.forced_le_rest c.if-rest-eq0.false))
-
-pub overflow_mul-forced-2 : goal.overflow_mul-forced-2
-overflow_mul-forced-2 c = omega (arith, c.requires.forced_bound)
 
 pub put_decimal-requires : goal.put_decimal-requires
 put_decimal-requires c =

@@ -2,7 +2,6 @@
 use native.Mathlib.Omega.{arith}
 use Rattle.text.proofs.Writes.{wrote_then}
 use Rattle.tally.proofs.Texts.{total_short}
-use borrow.Author.Rules.{rules}
 use Rattle.tally.proofs.writing.put_total.Goals as goal
 
 pub put_decimal-next-requires : goal.put_decimal-next-requires

@@ -1,11 +1,7 @@
 -- `write_in` writes the ending and the line. Assumes nothing.
 use native.Mathlib.Omega.{arith}
 use Rattle.tally.proofs.Texts.{tally_written}
-use borrow.Author.Rules.{rules}
 use Rattle.tally.proofs.writing.write_in.Goals as goal
-
-pub put_line-requires : goal.put_line-requires
-put_line-requires c = record { small = c.requires.small; at_in_bounds = omega (arith, c.requires.in_bounds, c.put_ending-at.ensures.upper_bound, c.put_ending-at.auto.out) }
 
 pub returns : goal.returns
 returns c = tally_written _ _ c.put_ending-at.ensures.wrote c.put_line.ensures.wrote (omega (arith, c.requires.in_bounds, c.put_ending-at.ensures.upper_bound, c.put_line.ensures.upper_bound))

@@ -1,6 +1,5 @@
 -- `back_at` reads the copy, and stores it. Assumes nothing.
 use Rattle.workspace.proofs.Backed.{copy_read}
-use borrow.Author.Rules.{rules}
 use Rattle.workspace.proofs.restoring.back_at.Goals as goal
 
 pub returns : goal.returns

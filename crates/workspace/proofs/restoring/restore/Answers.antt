@@ -2,17 +2,17 @@
 use mathlib.Core.Path.{sym, ap, ◌∙◌}
 use mathlib.Core.Logic.{inl}
 use native.Mathlib.Omega.{arith}
+use lib.Ieee.{nan}
 use lib.ListN.{length}
 use Rattle.workspace.proofs.Restored.{touched_able, touched_rows, touched_filled, touched_copied, touched_values}
-use borrow.Author.Rules.{rules}
 use Rattle.workspace.proofs.restoring.restore.Goals as goal
 
 pub undo-requires : goal.undo-requires
 undo-requires c =
     touched_values c.requires
 
-pub copy_floats-requires : goal.copy_floats-requires
-copy_floats-requires c =
+pub copy_part-requires : goal.copy_part-requires
+copy_part-requires c =
     record { order = inl (omega arith); from_room = omega (arith, c.requires.rowed.room); to_room = omega (arith, c.requires.rowed.room) }
 
 pub shape_of-values-then-n-count : goal.shape_of-values-then-n-count
@@ -20,7 +20,7 @@ shape_of-values-then-n-count c =
     ap length c.undo.ensures ∙ c.requires.start_long ∙ sym c.requires.placed.values_long
 
 pub returns-then-n-count : goal.returns-then-n-count
-returns-then-n-count c = record { values_value = c.undo.ensures; filled = touched_copied c.requires c.copy_floats.ensures }
+returns-then-n-count c = record { values_value = c.undo.ensures; filled = touched_copied c.requires (c.copy_part.ensures nan) }
 
 pub back-requires : goal.back-requires
 back-requires c = record { backable = touched_able c.requires; x_lt_n = c.requires.here }

@@ -1,6 +1,5 @@
 -- `widened` adds to each of the four bounds. Assumes nothing.
 use Rattle.margins.proofs.MergeLaws.{widen_is}
-use borrow.Author.Rules.{rules}
 use Rattle.margins.proofs.bounds.Bounds.widened.Goals as goal
 
 pub returns : goal.returns

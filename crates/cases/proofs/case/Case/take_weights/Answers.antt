@@ -1,0 +1,6 @@
+-- What `take_weights` takes lies over the front of the list. Assumes nothing.
+use Rattle.cases.proofs.Taken.{taken}
+use Rattle.cases.proofs.case.Case.take_weights.Goals as goal
+
+pub returns : goal.returns
+returns c = taken _ c.args.self.head.weights c.args.q.now c.take.new.list c.requires c.take.ensures

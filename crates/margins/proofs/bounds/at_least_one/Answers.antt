@@ -1,8 +1,0 @@
--- `at_least_one` asks whether x is above 1. Assumes nothing.
-use Rattle.margins.proofs.bounds.at_least_one.Goals as goal
-
-pub returns-then-x : goal.returns-then-x
-returns-then-x c = simp c.if-x.true
-
-pub returns-else-x : goal.returns-else-x
-returns-else-x c = simp c.if-x.false

@@ -1,8 +1,0 @@
--- `below_zero` asks whether x is below 0. Assumes nothing.
-use Rattle.margins.proofs.bounds.below_zero.Goals as goal
-
-pub returns-then-x : goal.returns-then-x
-returns-then-x c = simp c.if-x.true
-
-pub returns-else-x : goal.returns-else-x
-returns-else-x c = simp c.if-x.false

@@ -1,6 +1,0 @@
--- `clear_bytes` sets one element a turn. Assumes nothing.
-use Rattle.scratch.specs.Cleared.{ClearedTo}
-use Rattle.scratch.proofs.clear_bytes.Given as goal
-
-abbrev pub invariant-loop-i : goal.invariant-loop-i
-invariant-loop-i l = ClearedTo 0 l.initial.bytes l.bytes l.i

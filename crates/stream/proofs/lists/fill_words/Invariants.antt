@@ -1,6 +1,0 @@
--- `fill_words` sets one element a turn. Assumes nothing.
-use Rattle.scratch.specs.Cleared.{ClearedTo}
-use Rattle.stream.proofs.lists.fill_words.Given as goal
-
-abbrev pub invariant-loop-i : goal.invariant-loop-i
-invariant-loop-i l = ClearedTo l.x l.initial.words l.words l.i

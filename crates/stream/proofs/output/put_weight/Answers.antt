@@ -1,6 +1,0 @@
--- `put_weight` reads the bits of a weight that is no NaN. Assumes nothing.
-use Rattle.stream.proofs.NotNan.{not_nan}
-use Rattle.stream.proofs.output.put_weight.Goals as goal
-
-pub float_to_bits-bits : goal.float_to_bits-bits
-float_to_bits-bits c = not_nan _ c.if-x.false
