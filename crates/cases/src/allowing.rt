@@ -1,5 +1,6 @@
 // A case of the call that asks what constraints allow.
 ghost use Rattle.std.specs.Prelude.{◌≤◌, length};
+ghost use Rattle.stream.specs.Outputs.{Onto};
 
 use crate::case::Case;
 use allow::Allowed;
@@ -34,7 +35,9 @@ fn allow_in(
     w: &mut [u64],
     u: &mut [u32],
     out: &mut Output<'_>,
-) {
+)
+    ensures { Onto out.old.buffer out.new.buffer }
+{
     let answer = failing(allow::allow(variables, constraints, assignment, counts, w, u));
     put_allowed(out, answer, variables, assignment, counts, w, u);
 }
@@ -42,6 +45,7 @@ fn allow_in(
 // With constraints and u32 scratch as long as the head says, and answer lists and u64 scratch of its own.
 fn answer_taken(case: Case<'_>, constraints: &mut [u16], u: &mut [u32], out: &mut Output<'_>)
     requires { length constraints.old ≤ case.head.constraints }
+    ensures { Onto out.old.buffer out.new.buffer }
 {
     take(case.contents, case.head.constraints_at(), constraints);
     u.fill(WORD);
@@ -66,6 +70,7 @@ fn answer_taken(case: Case<'_>, constraints: &mut [u16], u: &mut [u32], out: &mu
 pub fn answer_allow(case: Case<'_>, list: &mut [u16], u: &mut [u32], out: &mut Output<'_>)
     requires constraints_in_bounds { case.head.constraints ≤ length list.old }
     requires words_in_bounds { case.head.words ≤ length u.old }
+    ensures { Onto out.old.buffer out.new.buffer }
 {
     let count = case.head.constraints;
     let words = case.head.words;

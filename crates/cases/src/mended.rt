@@ -1,6 +1,7 @@
 // A case of an entry list to be mended, which is done in the field's own lists.
 ghost use Rattle.std.specs.Prelude.{◌≤◌, length};
 ghost use Rattle.stream.specs.Heads.{standing};
+ghost use Rattle.stream.specs.Outputs.{Onto};
 
 use field::{Answer, FieldRef};
 use lines::outcomes::{Ended, done, refusing};
@@ -35,6 +36,7 @@ pub fn mend_field(
     out: &mut Output<'_>,
 )
     requires { standing (length c.now) (length rows.old) (length cols.old) (length q.old) ≤ length contents.now }
+    ensures { Onto out.old.buffer out.new.buffer }
 {
     let ended = outcome_of(mend::mend(c, rows, cols, q, list, f, u));
     put_mended(

@@ -1,6 +1,7 @@
 // A case of the smaller problem, which closes up in the field's own lists.
 ghost use Rattle.std.specs.Prelude.{◌≤◌, length};
 ghost use Rattle.stream.specs.Heads.{standing};
+ghost use Rattle.stream.specs.Outputs.{Onto};
 
 use field::{Answer, FieldRef};
 use lines::outcomes::{Ended, done, refusing};
@@ -45,6 +46,7 @@ pub fn reduce_field(
     out: &mut Output<'_>,
 )
     requires { standing (length c.old) (length rows.old) (length cols.old) (length q.old) ≤ length contents.now }
+    ensures { Onto out.old.buffer out.new.buffer }
 {
     let answer = sub_problem::sub_problem(c, rows, cols, q, start, list, f, u);
     let ended = reduced(answer);

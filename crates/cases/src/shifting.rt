@@ -1,6 +1,7 @@
 // A case of the shift, which takes no start values, answer list or scratch.
 ghost use Rattle.std.specs.Prelude.{◌≤◌, length};
 ghost use Rattle.stream.specs.Heads.{standing};
+ghost use Rattle.stream.specs.Outputs.{Onto};
 
 use crate::case::Case;
 use field::FieldRef;
@@ -20,6 +21,7 @@ fn shift_field(
     out: &mut Output<'_>,
 )
     requires { standing (length c.old) (length rows.old) (length cols.old) (length q.old) ≤ length contents.now }
+    ensures { Onto out.old.buffer out.new.buffer }
 {
     let ended = counted(shift::shift(c, rows, cols, q));
     put_outcome(out, ended);
@@ -28,7 +30,9 @@ fn shift_field(
 }
 
 // Makes the call `shift` on the field of a case, in lists of its own, and writes the line of its answer.
-pub fn answer_shift(case: Case<'_>, out: &mut Output<'_>) {
+pub fn answer_shift(case: Case<'_>, out: &mut Output<'_>)
+    ensures { Onto out.old.buffer out.new.buffer }
+{
     let mut c = [0.0f64; VARIABLES];
     let mut rows = [0u16; ENTRIES];
     let mut cols = [0u16; ENTRIES];

@@ -2,6 +2,7 @@
 #![tactic(auto)]
 
 ghost use Rattle.std.specs.Prelude.{◌+◌, ◌≤◌, length};
+ghost use Rattle.stream.specs.Outputs.{Onto};
 
 use field::FieldRef;
 use lines::left::{FLOAT, WORD};
@@ -32,7 +33,9 @@ fn operate(
 }
 
 // Between two numbers stands a comma.
-fn put_next(out: &mut Output<'_>, ended: Ended, k: usize) {
+fn put_next(out: &mut Output<'_>, ended: Ended, k: usize)
+    ensures { Onto out.old.buffer out.new.buffer }
+{
     if k > 0 {
         out.put(b',');
     }
@@ -50,7 +53,9 @@ fn put_each(
     bounds: &mut [f64],
     strict: &mut u32,
     script: &[u16],
-) {
+)
+    ensures { Onto out.old.buffer out.new.buffer }
+{
     for (k, step) in script.chunks_exact(3).enumerate() {
         let ended = operate(
             field,
@@ -73,7 +78,9 @@ fn put_operations(
     bounds: &mut [f64],
     strict: &mut u32,
     script: &[u16],
-) {
+)
+    ensures { Onto out.old.buffer out.new.buffer }
+{
     out.put_text(b" operations=");
     if script.len() < 3 {
         out.put(b'-');
@@ -95,6 +102,7 @@ fn keep_in_field(
     out: &mut Output<'_>,
 )
     requires { at + length values.old ≤ length contents.now }
+    ensures { Onto out.old.buffer out.new.buffer }
 {
     let mut strict = WORD;
     let made = answered(kept::make(field, values, bounds, &mut strict, f, u));
@@ -125,6 +133,7 @@ pub fn answer_keep(
     out: &mut Output<'_>,
 )
     requires { at + length values.old ≤ length contents.now }
+    ensures { Onto out.old.buffer out.new.buffer }
 {
     let mut bounds = [FLOAT; BOUNDS];
     let count = room.min(BOUNDS);

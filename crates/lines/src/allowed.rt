@@ -1,5 +1,6 @@
 // The line of the call that asks what constraints allow.
 ghost use Rattle.std.specs.Prelude.{◌≤◌, length};
+ghost use Rattle.stream.specs.Outputs.{Onto};
 
 use crate::left::{put_kept, put_left};
 use crate::outcomes::Undone;
@@ -7,7 +8,9 @@ use crate::{put_items, put_lent};
 use stream::output::Output;
 
 // Yes, or no and the variable.
-fn put_verdict(out: &mut Output<'_>, failing: Option<usize>) {
+fn put_verdict(out: &mut Output<'_>, failing: Option<usize>)
+    ensures { Onto out.old.buffer out.new.buffer }
+{
     match failing {
         None => out.put_text(b" yes"),
         Some(variable) => {
@@ -20,6 +23,7 @@ fn put_verdict(out: &mut Output<'_>, failing: Option<usize>) {
 // The values up to `end`, and what is past them.
 fn put_assigned(out: &mut Output<'_>, assignment: &[u8], end: usize)
     requires { end ≤ length assignment.now }
+    ensures { Onto out.old.buffer out.new.buffer }
 {
     out.put_digits(&assignment[..end]);
     out.put_text(b" past=");
@@ -33,7 +37,9 @@ fn put_found(
     n: usize,
     assignment: &[u8],
     counts: &[u16],
-) {
+)
+    ensures { Onto out.old.buffer out.new.buffer }
+{
     put_verdict(out, failing);
     out.put_text(b" assignment=");
     put_assigned(out, assignment, n.min(assignment.len()));
@@ -43,7 +49,9 @@ fn put_found(
 }
 
 // Both answer lists after a refusal.
-fn put_lists_left(out: &mut Output<'_>, undone: Undone, assignment: &[u8], counts: &[u16]) {
+fn put_lists_left(out: &mut Output<'_>, undone: Undone, assignment: &[u8], counts: &[u16])
+    ensures { Onto out.old.buffer out.new.buffer }
+{
     out.put_text(b" assignment=");
     put_left(out, undone.leaves_all(), assignment);
     out.put_text(b" counts=");
@@ -59,7 +67,9 @@ pub fn put_allowed(
     counts: &[u16],
     w: &[u64],
     u: &[u32],
-) {
+)
+    ensures { Onto out.old.buffer out.new.buffer }
+{
     match answer {
         Ok(failing) => {
             out.put_number(0);

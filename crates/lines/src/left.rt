@@ -1,4 +1,6 @@
 // How a refusal leaves what was lent: as it was before the call, or as zeros.
+ghost use Rattle.stream.specs.Outputs.{Onto};
+
 use stream::lists::all_are;
 use stream::output::Output;
 
@@ -57,17 +59,23 @@ impl Lent for u8 {
 }
 
 // Writes whether a list is as it was before the call.
-pub(crate) fn put_kept<T: Lent>(out: &mut Output<'_>, list: &[T]) {
+pub(crate) fn put_kept<T: Lent>(out: &mut Output<'_>, list: &[T])
+    ensures { Onto out.old.buffer out.new.buffer }
+{
     out.put_promise(b"kept", all_are(list, T::BEFORE));
 }
 
 // Writes whether a list is zeros.
-pub(crate) fn put_zeros<T: Lent>(out: &mut Output<'_>, list: &[T]) {
+pub(crate) fn put_zeros<T: Lent>(out: &mut Output<'_>, list: &[T])
+    ensures { Onto out.old.buffer out.new.buffer }
+{
     out.put_promise(b"zeros", all_are(list, T::ZERO));
 }
 
 // Writes whether a list is as it was, where it is to be left so, or else whether it is zeros.
-pub(crate) fn put_left<T: Lent>(out: &mut Output<'_>, is_left: bool, list: &[T]) {
+pub(crate) fn put_left<T: Lent>(out: &mut Output<'_>, is_left: bool, list: &[T])
+    ensures { Onto out.old.buffer out.new.buffer }
+{
     if is_left {
         put_kept(out, list);
     } else {

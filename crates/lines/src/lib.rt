@@ -10,6 +10,7 @@ pub mod reduced;
 pub mod shifted;
 
 ghost use Rattle.std.specs.Prelude.{◌+◌, ◌≤◌, length};
+ghost use Rattle.stream.specs.Outputs.{Onto};
 
 use crate::call::Call;
 use crate::left::{Lent, put_kept, put_left, put_zeros};
@@ -20,7 +21,9 @@ use stream::lists::is_as_taken;
 use stream::output::Output;
 
 // Writes the position that a refusal names.
-fn put_position(out: &mut Output<'_>, refusal: Refusal) {
+fn put_position(out: &mut Output<'_>, refusal: Refusal)
+    ensures { Onto out.old.buffer out.new.buffer }
+{
     match refusal {
         Refusal::Row(k) | Refusal::Column(k) | Refusal::Repeat(k) | Refusal::Order(k) => {
             out.put_text(b" at=");
@@ -31,7 +34,9 @@ fn put_position(out: &mut Output<'_>, refusal: Refusal) {
 }
 
 // Writes that there is no such call, or the refusal's number and the position that it names.
-fn put_undone(out: &mut Output<'_>, undone: Undone) {
+fn put_undone(out: &mut Output<'_>, undone: Undone)
+    ensures { Onto out.old.buffer out.new.buffer }
+{
     match undone {
         Undone::Absent => out.put_text(b"absent"),
         Undone::Refusing(refusal) => {
@@ -42,7 +47,9 @@ fn put_undone(out: &mut Output<'_>, undone: Undone) {
 }
 
 // Writes 0 and, where there is a field, its grade.
-fn put_done(out: &mut Output<'_>, outcome: Outcome) {
+fn put_done(out: &mut Output<'_>, outcome: Outcome)
+    ensures { Onto out.old.buffer out.new.buffer }
+{
     out.put_number(0);
     match outcome.grade {
         Some(Grade::Exact) => out.put_text(b" exact"),
@@ -52,7 +59,9 @@ fn put_done(out: &mut Output<'_>, outcome: Outcome) {
 }
 
 // The number and, where there is a field, its grade; the position that a refusal names.
-pub fn put_outcome(out: &mut Output<'_>, ended: Ended) {
+pub fn put_outcome(out: &mut Output<'_>, ended: Ended)
+    ensures { Onto out.old.buffer out.new.buffer }
+{
     match ended {
         Ok(outcome) => put_done(out, outcome),
         Err(undone) => put_undone(out, undone),
@@ -62,6 +71,7 @@ pub fn put_outcome(out: &mut Output<'_>, ended: Ended) {
 // The start values, which stood in the contents from `at` on.
 fn put_values(out: &mut Output<'_>, ended: Ended, contents: &[u8], at: usize, start: &[u8])
     requires { at + length start.now ≤ length contents.now }
+    ensures { Onto out.old.buffer out.new.buffer }
 {
     out.put_text(b" values=");
     match ended {
@@ -71,13 +81,17 @@ fn put_values(out: &mut Output<'_>, ended: Ended, contents: &[u8], at: usize, st
 }
 
 // Writes ` count=` and the number of items that a call answered.
-pub fn put_count(out: &mut Output<'_>, count: usize) {
+pub fn put_count(out: &mut Output<'_>, count: usize)
+    ensures { Onto out.old.buffer out.new.buffer }
+{
     out.put_text(b" count=");
     out.put_number(count);
 }
 
 // The flat rows that the closure counts, or the pairs that are examined.
-fn put_counts(out: &mut Output<'_>, call: Call, outcome: Outcome) {
+fn put_counts(out: &mut Output<'_>, call: Call, outcome: Outcome)
+    ensures { Onto out.old.buffer out.new.buffer }
+{
     if call == Call::Closure {
         put_count(out, outcome.count);
     }
@@ -98,6 +112,7 @@ fn end_of(count: usize, in_triples: bool, long: usize) -> usize
 // The items of an answer list up to `end`, and what is past them.
 fn put_items(out: &mut Output<'_>, list: &[u16], end: usize, in_triples: bool)
     requires { end ≤ length list.now }
+    ensures { Onto out.old.buffer out.new.buffer }
 {
     out.put_list(&list[..end], in_triples);
     out.put_text(b" past=");
@@ -111,7 +126,9 @@ pub fn put_answer_list(
     ended: Ended,
     list: &[u16],
     in_triples: bool,
-) {
+)
+    ensures { Onto out.old.buffer out.new.buffer }
+{
     match ended {
         Ok(outcome) => {
             put_count(out, outcome.count);
@@ -127,7 +144,9 @@ pub fn put_answer_list(
 }
 
 // The found values.
-fn put_found(out: &mut Output<'_>, ended: Ended, found: &[u8]) {
+fn put_found(out: &mut Output<'_>, ended: Ended, found: &[u8])
+    ensures { Onto out.old.buffer out.new.buffer }
+{
     out.put_text(b" found=");
     match ended {
         Ok(_) => out.put_digits(found),
@@ -136,7 +155,9 @@ fn put_found(out: &mut Output<'_>, ended: Ended, found: &[u8]) {
 }
 
 // Writes a scratch under its name: as it was after an early refusal, and else zeros.
-fn put_lent<T: Lent>(out: &mut Output<'_>, name: &[u8], undone: Option<Undone>, scratch: &[T]) {
+fn put_lent<T: Lent>(out: &mut Output<'_>, name: &[u8], undone: Option<Undone>, scratch: &[T])
+    ensures { Onto out.old.buffer out.new.buffer }
+{
     out.put_text(name);
     match undone {
         Some(undone) => put_left(out, undone.leaves_all(), scratch),
@@ -145,7 +166,9 @@ fn put_lent<T: Lent>(out: &mut Output<'_>, name: &[u8], undone: Option<Undone>, 
 }
 
 // Writes how both scratches were left, and the end of the line.
-pub fn put_scratch(out: &mut Output<'_>, call: Call, ended: Ended, f: &[f64], u: &[u32]) {
+pub fn put_scratch(out: &mut Output<'_>, call: Call, ended: Ended, f: &[f64], u: &[u32])
+    ensures { Onto out.old.buffer out.new.buffer }
+{
     if call.has_floats() {
         put_lent(out, b" floats=", ended.err(), f);
     }
@@ -154,7 +177,9 @@ pub fn put_scratch(out: &mut Output<'_>, call: Call, ended: Ended, f: &[f64], u:
 }
 
 // The ground, the unit and the bound of a reason; a variable that is given has the bound 0.
-fn put_reason(out: &mut Output<'_>, reason: Reason) {
+fn put_reason(out: &mut Output<'_>, reason: Reason)
+    ensures { Onto out.old.buffer out.new.buffer }
+{
     let (ground, bound) = match reason.ground {
         Ground::Given => (b" ground=given", 0.0),
         Ground::Lower(bound) => (b" ground=lower", bound),
@@ -168,7 +193,9 @@ fn put_reason(out: &mut Output<'_>, reason: Reason) {
 }
 
 // The counts and the answer lists, where the call has them.
-fn put_answers(out: &mut Output<'_>, call: Call, ended: Ended, found: &[u8], list: &[u16]) {
+fn put_answers(out: &mut Output<'_>, call: Call, ended: Ended, found: &[u8], list: &[u16])
+    ensures { Onto out.old.buffer out.new.buffer }
+{
     if let Ok(outcome) = ended {
         put_counts(out, call, outcome);
     }
@@ -206,6 +233,7 @@ pub fn put_line(
     u: &[u32],
 )
     requires { at + length start.now ≤ length contents.now }
+    ensures { Onto out.old.buffer out.new.buffer }
 {
     put_outcome(out, ended);
     if call.has_values() {

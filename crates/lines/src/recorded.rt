@@ -1,5 +1,6 @@
 // The words of a record.
 ghost use Rattle.std.specs.Prelude.{◌+◌, ◌≤◌, length};
+ghost use Rattle.stream.specs.Outputs.{Onto};
 
 use crate::call::Call;
 use crate::left::{WORD, put_kept, put_zeros};
@@ -9,7 +10,9 @@ use stream::lists::is_as_taken;
 use stream::output::Output;
 
 // A record that a refusal left.
-fn put_record_left(out: &mut Output<'_>, bounds: &[f64], strict: u32, found: &[u8]) {
+fn put_record_left(out: &mut Output<'_>, bounds: &[f64], strict: u32, found: &[u8])
+    ensures { Onto out.old.buffer out.new.buffer }
+{
     out.put_text(b" bounds=");
     put_kept(out, bounds);
     out.put_text(b" strict=");
@@ -32,6 +35,7 @@ pub fn put_unmade(
     u: &[u32],
 )
     requires { at + length values.now ≤ length contents.now }
+    ensures { Onto out.old.buffer out.new.buffer }
 {
     put_outcome(out, ended);
     out.put_text(b" values=");
@@ -41,7 +45,9 @@ pub fn put_unmade(
 }
 
 // The record as the operations leave it.
-pub fn put_record(out: &mut Output<'_>, values: &[u8], bounds: &[f64], strict: u32) {
+pub fn put_record(out: &mut Output<'_>, values: &[u8], bounds: &[f64], strict: u32)
+    ensures { Onto out.old.buffer out.new.buffer }
+{
     out.put_text(b" values=");
     out.put_digits(values);
     out.put_text(b" bounds=");
@@ -51,7 +57,9 @@ pub fn put_record(out: &mut Output<'_>, values: &[u8], bounds: &[f64], strict: u
 }
 
 // The closing call's number, its count and its list.
-fn put_closed(out: &mut Output<'_>, ended: Ended, found: &[u8]) {
+fn put_closed(out: &mut Output<'_>, ended: Ended, found: &[u8])
+    ensures { Onto out.old.buffer out.new.buffer }
+{
     out.put_text(b" closing=");
     match ended {
         Ok(outcome) => {
@@ -69,7 +77,9 @@ fn put_closed(out: &mut Output<'_>, ended: Ended, found: &[u8]) {
 }
 
 // Writes the rest of a line of `keep`, behind the record: what closing from it gave, and the line's end.
-pub fn put_closing(out: &mut Output<'_>, ended: Ended, found: &[u8], f: &[f64], u: &[u32]) {
+pub fn put_closing(out: &mut Output<'_>, ended: Ended, found: &[u8], f: &[f64], u: &[u32])
+    ensures { Onto out.old.buffer out.new.buffer }
+{
     put_closed(out, ended, found);
     put_scratch(out, Call::Keep, ended, f, u);
 }

@@ -2,6 +2,7 @@
 ghost use Rattle.std.specs.Prelude.{◌≤◌, length};
 ghost use Rattle.stream.specs.Heads.{standing};
 ghost use Rattle.field.specs.Field.{lent, variables};
+ghost use Rattle.stream.specs.Outputs.{Onto};
 
 use crate::call::Call;
 use crate::outcomes::Ended;
@@ -27,6 +28,7 @@ fn zeros_past(field: FieldRef, n: usize, m: usize) -> bool
 // The first n linear weights.
 fn put_linear(out: &mut Output<'_>, c: &[f64], n: usize)
     requires { n ≤ length c.now }
+    ensures { Onto out.old.buffer out.new.buffer }
 {
     out.put_text(b" linear=");
     out.put_list(&c[..n], false);
@@ -35,6 +37,7 @@ fn put_linear(out: &mut Output<'_>, c: &[f64], n: usize)
 // How many entries there are, the entries, and whether zeros are behind them and behind n linear weights.
 fn put_entries(out: &mut Output<'_>, count: usize, field: FieldRef, n: usize)
     requires { n ≤ variables (lent field) }
+    ensures { Onto out.old.buffer out.new.buffer }
 {
     let m = entries_in(field.rows, field.cols, field.q, count);
     let is_zeros = zeros_past(field, n, m);
@@ -55,6 +58,7 @@ pub fn put_reduced(
     u: &[u32],
 )
     requires { standing (variables (lent field)) (length (lent field).rows) (length (lent field).cols) (length (lent field).quad) ≤ length contents.now }
+    ensures { Onto out.old.buffer out.new.buffer }
 {
     put_outcome(out, ended);
     put_answer_list(out, b" variables=", ended, list, false);
@@ -82,6 +86,7 @@ pub fn put_mended(
     u: &[u32],
 )
     requires { standing (variables (lent field)) (length (lent field).rows) (length (lent field).cols) (length (lent field).quad) ≤ length contents.now }
+    ensures { Onto out.old.buffer out.new.buffer }
 {
     put_outcome(out, ended);
     put_answer_list(out, b" changes=", ended, list, true);

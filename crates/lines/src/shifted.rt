@@ -2,6 +2,7 @@
 ghost use Rattle.std.specs.Prelude.{◌+◌, ◌*◌, ◌≤◌, length};
 ghost use Rattle.stream.specs.Heads.{standing};
 ghost use Rattle.field.specs.Field.{lent, variables};
+ghost use Rattle.stream.specs.Outputs.{Onto};
 
 use crate::outcomes::Ended;
 use field::FieldRef;
@@ -35,6 +36,7 @@ pub fn put_closed(
     requires m_in_bounds { m ≤ length rows.now }
     requires m_in_bounds_2 { m ≤ length cols.now }
     requires m_in_bounds_3 { m ≤ length q.now }
+    ensures { Onto out.old.buffer out.new.buffer }
 {
     out.put_text(b" entries=");
     out.put_entries(&rows[..m], &cols[..m], &q[..m]);
@@ -53,6 +55,7 @@ pub fn entries_in(rows: &[u16], cols: &[u16], q: &[f64], count: usize) -> usize
 
 fn put_shifted(out: &mut Output<'_>, count: usize, contents: &[u8], field: FieldRef)
     requires { standing (variables (lent field)) (length (lent field).rows) (length (lent field).cols) (length (lent field).quad) ≤ length contents.now }
+    ensures { Onto out.old.buffer out.new.buffer }
 {
     out.put_text(b" linear=");
     out.put_list(field.c, false);
@@ -88,6 +91,7 @@ fn field_kept(contents: &[u8], field: FieldRef) -> bool
 // Writes whether a refused call left the field's lists as the case gives them.
 pub fn put_unchanged(out: &mut Output<'_>, contents: &[u8], field: FieldRef)
     requires { standing (variables (lent field)) (length (lent field).rows) (length (lent field).cols) (length (lent field).quad) ≤ length contents.now }
+    ensures { Onto out.old.buffer out.new.buffer }
 {
     let is_kept = field_kept(contents, field);
     out.put_text(b" field=");
@@ -97,6 +101,7 @@ pub fn put_unchanged(out: &mut Output<'_>, contents: &[u8], field: FieldRef)
 // Writes the field that a call leaves in the caller's lists, or, on a refusal, whether the lists are unchanged.
 pub fn put_field(out: &mut Output<'_>, ended: Ended, contents: &[u8], field: FieldRef)
     requires { standing (variables (lent field)) (length (lent field).rows) (length (lent field).cols) (length (lent field).quad) ≤ length contents.now }
+    ensures { Onto out.old.buffer out.new.buffer }
 {
     match ended {
         Ok(outcome) => put_shifted(out, outcome.count, contents, field),

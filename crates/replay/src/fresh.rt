@@ -1,6 +1,7 @@
 // A case is answered in slices as long as its head says: parts of the buffers, and of arrays that each case has anew.
 ghost use Rattle.std.specs.Prelude.{◌≤◌, length};
 ghost use Rattle.stream.specs.Heads.{Buffers, standing};
+ghost use Rattle.stream.specs.Outputs.{Onto};
 
 use crate::making::make;
 use cases::allowing::answer_allow;
@@ -29,6 +30,7 @@ fn answer_kept(
     out: &mut Output<'_>,
 )
     requires { length start.old ≤ case.head.start }
+    ensures { Onto out.old.buffer out.new.buffer }
 {
     let ended = make(call, case.head, field, start, found, list, f, u);
     let at = case.head.start_at();
@@ -63,6 +65,7 @@ fn answer_call(
 )
     requires q_in_bounds { standing (length c.old) (length rows.old) (length cols.old) (length q.old) ≤ length case.contents.now }
     requires start_in_bounds { length start.old ≤ case.head.start }
+    ensures { Onto out.old.buffer out.new.buffer }
 {
     match call {
         Call::SubProblem => reduce_field(case.contents, c, rows, cols, q, start, list, f, u, out),
@@ -105,6 +108,7 @@ fn answer_in_field(
     out: &mut Output<'_>,
 )
     requires { length start.old ≤ case.head.start }
+    ensures { Onto out.old.buffer out.new.buffer }
 {
     let mut c = [0.0f64; VARIABLES];
     let mut rows = [0u16; ENTRIES];
@@ -142,7 +146,9 @@ fn answer_in_parts(
     f: &mut [f64],
     u: &mut [u32],
     out: &mut Output<'_>,
-) {
+)
+    ensures { Onto out.old.buffer out.new.buffer }
+{
     case.fill_lent(list, f, u);
     let mut start = [0u8; VARIABLES];
     case.take_start(&mut start);
@@ -170,6 +176,7 @@ fn answer_in_floats(
     out: &mut Output<'_>,
 )
     requires { Buffers (length list.old) 163900 (length u.old) }
+    ensures { Onto out.old.buffer out.new.buffer }
 {
     let mut f = [0.0f64; FLOATS];
     let listed = case.head.list();
@@ -188,6 +195,7 @@ fn answer_in_floats(
 // Answers a case in the parts of the buffers that its head asks for. The f64 scratch is made in a function of its own, so that it and the u64 scratch of `allow` do not stand on the stack at once.
 pub fn answer(case: Case<'_>, list: &mut [u16], u: &mut [u32], out: &mut Output<'_>)
     requires { Buffers (length list.old) 163900 (length u.old) }
+    ensures { Onto out.old.buffer out.new.buffer }
 {
     let call = Call::from(case.head.code);
     match call {

@@ -1,2 +1,3 @@
 pub mod Heads
 pub mod Lists
+pub mod Outputs

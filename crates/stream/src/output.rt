@@ -1,5 +1,6 @@
 // The output gathers in a lent buffer and is written when that is full. What a failed write leaves out is lost, and the answers go on.
 ghost use Rattle.std.specs.Prelude.{◌≡◌, cond, ◌+◌, ◌≤◌, ltb, length, min};
+ghost use Rattle.stream.specs.Outputs.{Onto};
 
 use std::io::{Stdout, Write as _};
 use text::put_decimal;
@@ -16,7 +17,8 @@ pub struct Output<'a> {
 // A value that stands as one word in a list of a line.
 pub trait Word {
     // Writes the word of this value.
-    fn put(self, out: &mut Output<'_>);
+    fn put(self, out: &mut Output<'_>)
+        ensures { Onto out.old.buffer out.new.buffer };
 }
 
 // A variable or a constraint's element is its decimal digits.
@@ -63,14 +65,17 @@ impl<'a> Output<'a> {
 
     // Writes what is used, after which nothing is.
     pub fn flush(&mut self)
-        ensures { self.new.used ≡ 0 }
+        ensures empty { self.new.used ≡ 0 }
+        ensures onto { Onto self.old.buffer self.new.buffer }
     {
         let _ = self.stdout.write_all(&self.buffer[..self.used]);
         self.used = 0;
     }
 
     // Writes one byte behind those used, after the buffer has been sent to standard output where it is full.
-    pub fn put(&mut self, byte: u8) {
+    pub fn put(&mut self, byte: u8)
+        ensures { Onto self.old.buffer self.new.buffer }
+    {
         if self.used == self.buffer.len() {
             self.flush();
         }
@@ -81,21 +86,27 @@ impl<'a> Output<'a> {
     }
 
     // Writes these bytes behind those used.
-    pub fn put_text(&mut self, text: &[u8]) {
+    pub fn put_text(&mut self, text: &[u8])
+        ensures { Onto self.old.buffer self.new.buffer }
+    {
         for byte in text {
             self.put(*byte);
         }
     }
 
     // Writes a number in decimal digits, by `put_decimal`, which is the one writer of numbers (docs/DECISIONS.md, 88).
-    pub fn put_number(&mut self, n: usize) {
+    pub fn put_number(&mut self, n: usize)
+        ensures { Onto self.old.buffer self.new.buffer }
+    {
         let mut digits = [0u8; 20];
         let k = put_decimal(&mut digits, 0, n as u64);
         self.put_text(&digits[..k]);
     }
 
     // Writes a digit for each value, or a dash where there is none.
-    pub fn put_digits(&mut self, values: &[u8]) {
+    pub fn put_digits(&mut self, values: &[u8])
+        ensures { Onto self.old.buffer self.new.buffer }
+    {
         if values.is_empty() {
             self.put(b'-');
         }
@@ -105,7 +116,9 @@ impl<'a> Output<'a> {
     }
 
     // Writes the mark before the element at i: between two elements stands a comma, between two triples a semicolon.
-    fn put_mark(&mut self, i: usize, in_triples: bool) {
+    fn put_mark(&mut self, i: usize, in_triples: bool)
+        ensures { Onto self.old.buffer self.new.buffer }
+    {
         if i > 0 {
             let is_first = in_triples && i % 3 == 0;
             self.put(if is_first { b';' } else { b',' });
@@ -113,12 +126,16 @@ impl<'a> Output<'a> {
     }
 
     // Writes one value as a word.
-    pub fn put_word<T: Word>(&mut self, x: T) {
+    pub fn put_word<T: Word>(&mut self, x: T)
+        ensures { Onto self.old.buffer self.new.buffer }
+    {
         x.put(self);
     }
 
     // Writes the elements with marks between them, or a dash where there is none.
-    pub fn put_list<T: Word + Copy>(&mut self, list: &[T], in_triples: bool) {
+    pub fn put_list<T: Word + Copy>(&mut self, list: &[T], in_triples: bool)
+        ensures { Onto self.old.buffer self.new.buffer }
+    {
         if list.is_empty() {
             self.put(b'-');
         }
@@ -129,7 +146,9 @@ impl<'a> Output<'a> {
     }
 
     // Writes the entries with semicolons between them, or a dash where there is none.
-    pub fn put_entries(&mut self, rows: &[u16], cols: &[u16], q: &[f64]) {
+    pub fn put_entries(&mut self, rows: &[u16], cols: &[u16], q: &[f64])
+        ensures { Onto self.old.buffer self.new.buffer }
+    {
         if rows.is_empty() {
             self.put(b'-');
         }
@@ -146,7 +165,9 @@ impl<'a> Output<'a> {
     }
 
     // Writes what was promised under its name, if it was found so.
-    pub fn put_promise(&mut self, promise: &[u8], is_kept: bool) {
+    pub fn put_promise(&mut self, promise: &[u8], is_kept: bool)
+        ensures { Onto self.old.buffer self.new.buffer }
+    {
         if is_kept {
             self.put_text(promise);
         } else {
