@@ -11,7 +11,7 @@ pub struct Output<'a> {
     stdout: Stdout,
     buffer: &'a mut [u8],
     used: usize,
-    ghost within: { used ≤ length buffer.now },
+    pub ghost within: { used ≤ length buffer.now },
 }
 
 // A value that stands as one word in a list of a line.
@@ -51,9 +51,10 @@ fn digit(value: u8) -> u8
 }
 
 impl<'a> Output<'a> {
-    // Begins with the bytes that are used already, at most the whole buffer.
+    // Begins on this buffer, with the bytes that are used already, at most the whole buffer.
     pub fn new(stdout: Stdout, buffer: &'a mut [u8], used: usize) -> Output<'a>
-        ensures { result.used ≡ min used (length buffer.old) }
+        ensures used_value { result.used ≡ min used (length buffer.old) }
+        ensures onto { Onto buffer.entry result.buffer }
     {
         let used = used.min(buffer.len());
         Output {
@@ -63,12 +64,19 @@ impl<'a> Output<'a> {
         }
     }
 
-    // Writes what is used, after which nothing is.
+    // Sends what is used to standard output.
+    fn send(&self) {
+        let bytes = &*self.buffer;
+        let _ = self.stdout.write_all(&bytes[..self.used]);
+    }
+
+    // Writes what is used, after which nothing is; the bytes of the buffer stay.
     pub fn flush(&mut self)
         ensures empty { self.new.used ≡ 0 }
         ensures onto { Onto self.old.buffer self.new.buffer }
+        ensures bytes { self.new.buffer.now ≡ self.old.buffer.now }
     {
-        let _ = self.stdout.write_all(&self.buffer[..self.used]);
+        self.send();
         self.used = 0;
     }
 
