@@ -1,12 +1,12 @@
 -- What a call answered, as an outcome. Assumes nothing.
-use Rattle.std.specs.Prelude.{ℕ, Option, Some, None, Result, Ok, Err}
+use Rattle.std.specs.Prelude.{ℕ, ◌≤◌, Option, Some, None, Result, Ok, Err}
 use Rattle.field.specs.declared.Grade.{Grade}
 use Rattle.field.specs.declared.Refusal.{Refusal}
 use Rattle.field.specs.declared.Counted.{Counted}
 use Rattle.field.specs.Answers.{number_of, Answer}
 use Rattle.lines.specs.declared.outcomes.Outcome.{Outcome}
 use Rattle.lines.specs.declared.outcomes.Undone.{Undone}
-use Rattle.lines.specs.declared.outcomes.Undone.TheVariants.{Absent, Refusing}
+use Rattle.lines.specs.declared.outcomes.Undone.TheVariants.{Absent, Refusing, Numbered}
 
 -- What a call did, with a grade where it has one, and two counts; it gives no reason.
 abbrev pub outcome : Option Grade → ℕ → ℕ → Result Outcome Undone
@@ -16,10 +16,16 @@ outcome grade count pairs = Ok (record { grade = grade; count = count; pairs = p
 abbrev pub refusing : Refusal → Result Outcome Undone
 refusing r = Err (Refusing r)
 
--- The number of what was not done: a refusal's in the table, and 11 where no call has the code.
+-- The number of what was not done: a refusal's in the table, 11 where no call has the code, or the number that is told.
 abbrev pub undone_number : Undone → ℕ
 undone_number Absent = 11
 undone_number (Refusing r) = number_of r
+undone_number (Numbered n) = n
+
+-- What was not done, if it was not, has a number of the table or 11: none is above 18.
+abbrev pub Tabled : Result Outcome Undone → Type 0
+Tabled (Ok outcome) = Unit {0}
+Tabled (Err u) = undone_number u ≤ 18
 
 -- The outcome of a call that answers without a grade, or its refusal.
 abbrev pub checked : Answer Unit → Result Outcome Undone

@@ -14,9 +14,8 @@ ghost use Rattle.stream.specs.Outputs.{Onto};
 
 use crate::call::Call;
 use crate::left::{Lent, put_kept, put_left, put_zeros};
-use crate::outcomes::{Ended, Outcome, Reason, Undone};
+use crate::outcomes::{Ended, Outcome, Reason, Side, Undone};
 use field::{Grade, Refusal};
-use reason::Ground;
 use stream::lists::is_as_taken;
 use stream::output::Output;
 
@@ -33,7 +32,7 @@ fn put_position(out: &mut Output<'_>, refusal: Refusal)
     }
 }
 
-// Writes that there is no such call, or the refusal's number and the position that it names.
+// Writes that there is no such call, or the number and the position that a refusal names.
 fn put_undone(out: &mut Output<'_>, undone: Undone)
     ensures { Onto out.old.buffer out.new.buffer }
 {
@@ -43,6 +42,7 @@ fn put_undone(out: &mut Output<'_>, undone: Undone)
             out.put_number(undone.number() as usize);
             put_position(out, refusal);
         }
+        Undone::Numbered(number) => out.put_number(number as usize),
     }
 }
 
@@ -176,20 +176,20 @@ pub fn put_scratch(out: &mut Output<'_>, call: Call, ended: Ended, f: &[f64], u:
     out.put(b'\n');
 }
 
-// The ground, the unit and the bound of a reason; a variable that is given has the bound 0.
+// The side, the unit and the bound of a reason.
 fn put_reason(out: &mut Output<'_>, reason: Reason)
     ensures { Onto out.old.buffer out.new.buffer }
 {
-    let (ground, bound) = match reason.ground {
-        Ground::Given => (b" ground=given", 0.0),
-        Ground::Lower(bound) => (b" ground=lower", bound),
-        Ground::Upper(bound) => (b" ground=upper", bound),
+    let side = match reason.side {
+        Side::Given => b" ground=given",
+        Side::Lower => b" ground=lower",
+        Side::Upper => b" ground=upper",
     };
-    out.put_text(ground);
+    out.put_text(side);
     out.put_text(b" unit=");
     out.put_number(usize::from(reason.unit));
     out.put_text(b" bound=");
-    out.put_word(bound);
+    out.put_word(reason.bound);
 }
 
 // The counts and the answer lists, where the call has them.

@@ -4,13 +4,21 @@ ghost use Rattle.lines.specs.declared.outcomes.Undone.TheVariants.{Refusing};
 ghost use Rattle.lines.specs.Outcomes.{outcome as outcome_of, refusing as refusing_by, undone_number, answered as answered_by, checked as checked_by, counted as counted_by};
 
 use field::{Answer, Counted, Grade, Refusal};
-use reason::Ground;
 
-// The ground of a variable's value in the closure, and the unit of its bound.
+// Whether a variable's value was given, or which of its bounds it rests on.
+#[derive(Clone, Copy)]
+pub enum Side {
+    Given,
+    Lower,
+    Upper,
+}
+
+// Why a variable has its value in the closure: the side, and the bound with its unit.
 #[derive(Clone, Copy)]
 pub struct Reason {
-    pub ground: Ground,
+    pub side: Side,
     pub unit: u8,
+    pub bound: f64,
 }
 
 // What a call did: the field's grade where it has a field, the count of items, the count of pairs, of the smaller problem and of a mended list its entries, and a reason.
@@ -22,21 +30,23 @@ pub struct Outcome {
     pub reason: Option<Reason>,
 }
 
-// Why nothing was done: no call has the code, or the call refused.
+// Why nothing was done: no call has the code, the call refused, or a number that is told as it is.
 #[derive(Clone, Copy)]
 pub enum Undone {
     Absent,
     Refusing(Refusal),
+    Numbered(u32),
 }
 
 impl Undone {
-    // The number of the refusal, and 11 where there is no call.
+    // The number of the refusal or the one that is told, and 11 where there is no call.
     pub fn number(self) -> u32
         ensures { result ≡ undone_number self }
     {
         match self {
             Undone::Absent => 11,
             Undone::Refusing(refusal) => refusal.number(),
+            Undone::Numbered(number) => number,
         }
     }
 
@@ -48,6 +58,7 @@ impl Undone {
                 Refusal::Room | Refusal::Clash | Refusal::Inexact | Refusal::Unforced => false,
                 _ => true,
             },
+            Undone::Numbered(number) => matches!(number, 1..=8 | 14..=18),
         }
     }
 
@@ -59,6 +70,7 @@ impl Undone {
                 Refusal::Room | Refusal::Clash => false,
                 _ => true,
             },
+            Undone::Numbered(number) => matches!(number, 1..=8 | 12..=18),
         }
     }
 }

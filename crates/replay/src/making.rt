@@ -1,12 +1,19 @@
 // The call of a case is made, in lists that are taken, where it keeps the field.
+ghost use Rattle.lines.specs.Outcomes.{Tabled};
+
 use field::{Answer, FieldRef, Grade};
 use lines::call::Call;
-use lines::outcomes::{Ended, Outcome, Reason, Undone, answered, checked, counted, done, refusing};
+use lines::outcomes::{
+    Ended, Outcome, Reason, Side, Undone, answered, checked, counted, done, refusing,
+};
 use pairs::Paired;
-use reason::Reasoned;
+use reason::{Ground, Reasoned};
 use stream::head::Head;
 
-fn paired(answer: Answer<Paired>) -> Ended {
+#[tactic(auto, using(lines::proofs::Few::done_tabled, lines::proofs::Few::refusing_tabled))]
+fn paired(answer: Answer<Paired>) -> Ended
+    ensures { Tabled result }
+{
     match answer {
         Ok(
             Paired {
@@ -19,8 +26,21 @@ fn paired(answer: Answer<Paired>) -> Ended {
     }
 }
 
+// A ground as the line tells it; a variable that is given has the bound 0.
+fn told(ground: Ground, unit: u8) -> Reason {
+    let (side, bound) = match ground {
+        Ground::Given => (Side::Given, 0.0),
+        Ground::Lower(bound) => (Side::Lower, bound),
+        Ground::Upper(bound) => (Side::Upper, bound),
+    };
+    Reason { side, unit, bound }
+}
+
 // The call answers in an exact field alone.
-fn reasoned(answer: Answer<Reasoned>) -> Ended {
+#[tactic(auto, using(lines::proofs::Few::refusing_tabled))]
+fn reasoned(answer: Answer<Reasoned>) -> Ended
+    ensures { Tabled result }
+{
     match answer {
         Ok(
             Reasoned {
@@ -32,16 +52,14 @@ fn reasoned(answer: Answer<Reasoned>) -> Ended {
             grade: Some(Grade::Exact),
             count,
             pairs: 0,
-            reason: Some(Reason {
-                ground: because,
-                unit,
-            }),
+            reason: Some(told(because, unit)),
         }),
         Err(refusal) => refusing(refusal),
     }
 }
 
 // Makes a call that keeps the field; another is absent here.
+#[tactic(auto, using(lines::proofs::Few::answered_tabled, lines::proofs::Few::checked_tabled, lines::proofs::Few::counted_tabled))]
 pub fn make(
     call: Call,
     head: Head,
@@ -51,7 +69,9 @@ pub fn make(
     list: &mut [u16],
     f: &mut [f64],
     u: &mut [u32],
-) -> Ended {
+) -> Ended
+    ensures { Tabled result }
+{
     let variable = head.variable;
     let value = head.value;
     let limit = head.limit;
