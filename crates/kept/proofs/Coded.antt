@@ -4,11 +4,16 @@ use mathlib.Core.Path.{◌≡◌, refl, sym, ap, ◌∙◌}
 use mathlib.Core.Logic.{◌≢◌}
 use mathlib.Core.Bool.{Bool, true, false, cond}
 use mathlib.Core.List.{List}
+use native.Mathlib.Omega.{arith}
 use borrow.Author.Tests.{eq-eqb, ne_eqb}
 use denote.Enum.Bare.{sameb}
 use Rattle.field.specs.contracts.Grade.{the_type}
-use lib.ListN.{length, get_or, set}
-use lib.Ieee.{Float}
+use lib.ListN.{length, get_or, set, take, length-set}
+use lib.Seq.{take-suc, take_all, length-take-le}
+use native.Mathlib.Numerals.{add-one}
+use lib.Ieee.{Float, nan}
+use Rattle.scratch.specs.Over.{over}
+use Rattle.scratch.proofs.Over.{over_push}
 use Rattle.field.specs.declared.Grade.{Grade}
 use Rattle.field.specs.declared.Grade.TheVariants.{Exact, Inexact}
 use Rattle.field.specs.Field.{Field, variables, entries}
@@ -67,3 +72,27 @@ begin_is F {s} {f₀} {f} {b₀} {b} {r} long room filled written e =
     let w : Written (variables F) (λ t. stored_row (get_or s t 0) (row_on f (variables F) t)) b₀ b (variables F) = rw long at written in
     let is : b ≡ bounds_of (afresh F s) (variables F) = bounds_are (afresh F s) (variables F) room (written_as w (λ t l. ap (stored_row (get_or s t 0)) (filled.rows t l))) in
     rw (e, is) refl
+
+-- ---- bounds copied to the front of the scratch: i of them are there
+
+pub record Copied (bounds f₀ f : List Float) (i : ℕ) : Type 0 where
+  pub within : i ≤ length bounds
+  pub long : length f ≡ length f₀
+  pub front : f ≡ over (take i bounds) f₀
+
+pub copy_start : (bounds f : List Float) → Copied bounds f f 0
+unfolding over
+copy_start bounds f = record { within = omega arith; long = refl; front = refl }
+
+module _ {bounds f₀ f : List Float} {i : ℕ} (C : Copied bounds f₀ f i) where
+  pub copy_turn : {x : Float} → length bounds ≤ length f₀ → i < length bounds → x ≡ get_or bounds i nan → Copied bounds f₀ (set f i x) (i + 1)
+  copy_turn {x} room l e = record {
+    within = omega arith;
+    long = length-set f i x ∙ C.long;
+    front = ap (λ (z : List Float). set z i x) C.front
+        ∙ over_push (take i bounds) f₀ i x (length-take-le i bounds (omega (arith, C.within))) (omega arith)
+        ∙ ap (λ (z : List Float). over z f₀) (rw (e, add-one) (sym (take-suc bounds i nan l)));
+  }
+
+  pub copy_done : length bounds ≤ i → f ≡ over bounds f₀
+  copy_done l = C.front ∙ ap (λ (z : List Float). over z f₀) (take_all i bounds l)

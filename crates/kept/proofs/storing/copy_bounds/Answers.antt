@@ -1,11 +1,20 @@
--- `copy_bounds` copies to the front. Assumes nothing.
-use mathlib.Core.Path.{ap}
-use mathlib.Core.List.{List, ◌++◌}
-use lib.Ieee.{Float}
-use lib.ListN.{length, drop}
-use Rattle.scratch.specs.Over.{over}
+-- `copy_bounds` copies one bound a turn. Assumes nothing.
+use mathlib.Core.Path.{refl}
+use native.Mathlib.Omega.{arith}
+use Rattle.kept.proofs.Coded.{copy_start, copy_turn, copy_done}
 use Rattle.kept.proofs.storing.copy_bounds.Goals as goal
 
+pub loop-i-init : goal.loop-i-init
+loop-i-init c = copy_start _ _
+
+pub bounds-f-i : goal.bounds-f-i
+bounds-f-i c = omega (arith, c.loop-i.invariant.long, c.requires)
+
+pub loop-i-preserved : goal.loop-i-preserved
+loop-i-preserved c = copy_turn c.loop-i.invariant c.requires c.loop-i-test.true refl
+
+pub shape_of-f : goal.shape_of-f
+shape_of-f c = c.loop-i.invariant.long
+
 pub returns : goal.returns
-unfolding over
-returns c = ap (λ (l : List Float). l ++ drop (length c.args.bounds.now) c.args.f.now) c.copy_from_slice.ensures.after
+returns c = copy_done c.loop-i.invariant c.loop-i-test.false
