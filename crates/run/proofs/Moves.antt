@@ -8,6 +8,7 @@ use native.Mathlib.Nat.{le_refl}
 use native.Mathlib.Decide.{ℕ_discrete}
 use native.Mathlib.Omega.{arith}
 use borrow.Author.Tests.{eq-eqb, ne_eqb}
+use mir.Val.{bool_byte}
 use lib.Ieee.{Float}
 use lib.ListN.{length, get_or, set, take, length-set}
 use lib.Seq.{take-set-le, drop-set-lt, get_or-set_same, get_or-set_other}
@@ -26,27 +27,24 @@ use Rattle.places.specs.Places.{other_end}
 use Rattle.places.proofs.Shape.{other_end_below}
 use Rattle.places.proofs.Walk.{adjacent_front}
 use Rattle.run.specs.Run.{Run, no_row, with_row, force, settle, judged, scan_at, moved, move_row, serve_at}
-use Rattle.std.specs.Prelude.{Some}
-use Rattle.run.specs.Cells.{Cells, cells, base, run_in, Placed, Does, Settled, Acted, forced_by}
+use Rattle.run.specs.Cells.{Cells, cells, base, run_in, Placed, Does, Settled, Acted}
 use Rattle.meaning.proofs.Free.{frees_set}
 use Rattle.run.proofs.Cells.{does_same, does_as, does_then}
 use Rattle.run.proofs.Keeps.{unforced_stays}
 
 -- ---- a verdict that forces a value, or none
 
--- what forces a value forces its own
-forced_value : (v : Verdict) {x : ℕ} → forced_by v ≡ Some x → (is_forced v ≡ true) × (value_of v ≡ x)
+-- the byte of whether a verdict is one is the value of a verdict that forces one
+pub one_valued : {v : Verdict} {r : ℕ} {b : Bool} {x : Float} → r ≡ bool_byte b → b ≡ true → v ≡ One x → r ≡ value_of v
 unfolding value_of
-forced_value (Zero b) e = (refl, cc e)
-forced_value (One b) e = (refl, cc e)
-forced_value Flat e = cc e
-forced_value Open e = cc e
+one_valued e m o = e ∙ ap bool_byte m ∙ sym (ap (λ (w : Verdict). value_of w) o)
 
-pub acted_some : {found : Conclusion} {base tail x i j : ℕ} {vs u : List ℕ} → forced_by found.verdict ≡ Some x → i ≡ found.variable → j ≡ found.variable
-    → Acted found base tail vs u (set vs i x) (set u (base + tail) j) (tail + 1)
-acted_some {found} e i j =
-    let told = forced_value found.verdict e in
-    record { forced = λ k. record { values = rw (i, told.1); words = rw j; end = refl }; unforced = λ k. absurd (true≢false (sym told.0 ∙ k)) }
+pub zero_valued : (v : Verdict) {r : ℕ} {b : Bool} → is_forced v ≡ true → ((x : Float) → v ≡ One x → ⊥) → r ≡ bool_byte b → b ≡ false → r ≡ value_of v
+unfolding value_of
+zero_valued (Zero z) f n e m = e ∙ ap bool_byte m
+zero_valued (One o) f n e m = absurd (n o refl)
+zero_valued Flat f n e m = absurd (true≢false (sym f))
+zero_valued Open f n e m = absurd (true≢false (sym f))
 
 -- a verdict that forces a value forces 0 or 1, and settles as that value
 forced_small : (v : Verdict) → is_forced v ≡ true → value_of v < 2

@@ -1,8 +1,8 @@
 // The steps of the run: each moves the lent slices as a step of the model moves its run.
-ghost use Rattle.std.specs.Prelude.{◌≡◌, not, ◌&&◌, ◌+◌, ◌<◌, length};
+ghost use Rattle.std.specs.Prelude.{◌≡◌, true, not, ◌&&◌, ◌+◌, ◌<◌, length};
 ghost use Rattle.field.specs.Field.{given, lent, variables, entries};
 ghost use Rattle.meaning.specs.Free.{is_free};
-ghost use Rattle.rows.specs.Row.{is_strict};
+ghost use Rattle.rows.specs.Row.{is_strict, is_forced, value_of};
 ghost use Rattle.rows.specs.Stored.{row_on, put_row as put_row_of};
 ghost use Rattle.places.specs.Places.{other_end};
 ghost use Rattle.run.specs.Run as model;
@@ -23,16 +23,32 @@ fn forced(verdict: Verdict) -> Option<u8>
     }
 }
 
+// Whether a verdict forces a value.
+fn forces(verdict: Verdict) -> bool
+    ensures { result ≡ is_forced verdict }
+{
+    matches!(verdict, Verdict::Zero(_) | Verdict::One(_))
+}
+
+// The value of a verdict that forces one.
+fn value_in(verdict: Verdict) -> u8
+    requires { is_forced verdict ≡ true }
+    ensures { result ≡ value_of verdict }
+{
+    u8::from(matches!(verdict, Verdict::One(_)))
+}
+
 // Acts on a conclusion: a forced value goes to its variable, and the variable to the end of the queue; the queue's new end.
+// Whether a value is forced is asked apart from which, so that a run does not branch on the value.
 fn settle(found: Conclusion, values: &mut [u8], u: &mut [u32], base: usize, tail: usize) -> usize
     requires variable_in_bounds { found.variable < length values.old }
     requires tail_in_bounds { base + tail < length u.old }
     ensures { Acted found base tail values.old u.old values.new u.new result }
 {
-    let Some(value) = forced(found.verdict) else {
+    if !forces(found.verdict) {
         return tail;
-    };
-    values[usize::from(found.variable)] = value;
+    }
+    values[usize::from(found.variable)] = value_in(found.verdict);
     u[base + tail] = u32::from(found.variable);
     tail + 1
 }
