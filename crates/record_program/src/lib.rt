@@ -74,13 +74,20 @@ fn is_tally(rt: &impl Env) -> bool {
     }
 }
 
+// Tallies many fields in a buffer of its own, so that it stands on the stack for a tally alone.
+fn tally_fields(stdin: Stdin, stdout: Stdout) -> usize
+    ensures { Handed result }
+{
+    let mut buffer = [0u8; 65536];
+    tally_all(stdin, stdout, &mut buffer)
+}
+
 // What both programs do; how many bytes they hand over.
 pub fn run(rt: &HostRuntime) -> usize
     ensures { Handed result }
 {
     if is_tally(rt) {
-        let mut buffer = [0u8; 65536];
-        return tally_all(rt.stdin(), rt.stdout(), &mut buffer);
+        return tally_fields(rt.stdin(), rt.stdout());
     }
     answer(rt.stdin(), rt.stdout())
 }
