@@ -1,5 +1,5 @@
 -- What a call answered, as an outcome. Assumes nothing.
-use Rattle.std.specs.Prelude.{ℕ, ◌≤◌, Option, Some, None, Result, Ok, Err}
+use Rattle.std.specs.Prelude.{ℕ, Option, Some, None, Result, Ok, Err}
 use Rattle.field.specs.declared.Grade.{Grade}
 use Rattle.field.specs.declared.Refusal.{Refusal}
 use Rattle.field.specs.declared.Counted.{Counted}
@@ -22,10 +22,12 @@ undone_number Absent = 11
 undone_number (Refusing r) = number_of r
 undone_number (Numbered n) = n
 
--- What was not done, if it was not, has a number of the table or 11: none is above 18.
+-- What was not done, if it was not, is that no call has the code, or a refusal of the table.
 abbrev pub Tabled : Result Outcome Undone → Type 0
 Tabled (Ok outcome) = Unit {0}
-Tabled (Err u) = undone_number u ≤ 18
+Tabled (Err Absent) = Unit {0}
+Tabled (Err (Refusing r)) = Unit {0}
+Tabled (Err (Numbered n)) = ⊥
 
 -- The outcome of a call that answers without a grade, or its refusal.
 abbrev pub checked : Answer Unit → Result Outcome Undone
